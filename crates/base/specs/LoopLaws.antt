@@ -1,0 +1,70 @@
+-- Laws of counting loops: the turns that are left, done on the state as it is, give the loop's result w. Assumes nothing.
+use mathlib.Core.Path.{_≡_, refl, sym, ap, _∙_, subst⁻¹}
+use Prim.Native.Nat.{ℕ, zero, suc, _+_, _-_, _≤_, _<_}
+use native.Mathlib.Numerals.{add-one}
+use mathlib.Core.List.{List}
+use lib.ListN.{set}
+use native.Mathlib.Omega.{arith}
+use native.Mathlib.Nat.{sub-zero}
+use Rattle.base.specs.Loops.{times, down}
+
+-- ---- counting up: at i, of n, with the state s
+pub record Left {S : Type 0} (f : ℕ → S → S) (n i : ℕ) (s w : S) : Type 0 where
+  pub within : i ≤ n
+  pub same : times f (n - i) i s ≡ w
+
+module _ {S : Type 0} {f : ℕ → S → S} {n i : ℕ} {s : S} where
+  pub start : i ≤ n → Left f n i s (times f (n - i) i s)
+  start h = record { within = h; same = refl }
+
+  pub begins : {w : S} → i ≤ n → times f (n - i) i s ≡ w → Left f n i s w
+  begins h e = record { within = h; same = e }
+
+module _ {S : Type 0} {f : ℕ → S → S} {n i : ℕ} {s w : S} where
+  pub turn : Left f n i s w → i < n → Left f n (i + 1) (f i s) w
+  unfolding times
+  turn l h =
+      let k : n - i ≡ suc (n - suc i) = omega arith in
+      record { within = omega arith; same = rw (add-one i) (rw k at (l .same)) }
+
+  pub ended : Left f n i s w → n ≤ i → s ≡ w
+  unfolding times
+  ended l h =
+      let k : n - i ≡ 0 = omega arith in
+      rw k at (l .same)
+
+module _ {S : Type 0} {f : ℕ → S → S} {n i : ℕ} {s s' w : S} where
+  -- the same where the state after the turn is given by an equation, for `search` to find
+  pub goes : Left f n i s w → i < n → s' ≡ f i s → Left f n (i + 1) s' w
+  goes l h e = subst⁻¹ (λ (x : S). Left f n (i + 1) x w) e (turn l h)
+
+module _ {S : Type 0} {f : ℕ → S → S} {n : ℕ} {s w : S} where
+  -- a loop from 0
+  pub from-zero : times f n 0 s ≡ w → Left f n 0 s w
+  from-zero e = record { within = omega arith; same = rw sub-zero e }
+
+-- ---- counting down: k turns are left
+pub record Lower {S : Type 0} (f : ℕ → S → S) (k : ℕ) (s w : S) : Type 0 where
+  pub same : down f k s ≡ w
+
+module _ {S : Type 0} {f : ℕ → S → S} {k : ℕ} {s : S} where
+  pub from-top : {w : S} → down f k s ≡ w → Lower f k s w
+  from-top e = record { same = e }
+
+module _ {S : Type 0} {f : ℕ → S → S} {k : ℕ} {s s' w : S} where
+  pub lowers : Lower f k s w → 0 < k → s' ≡ f (k - 1) s → Lower f (k - 1) s' w
+  unfolding down
+  lowers l h e =
+      let j : k ≡ suc (k - 1) = omega arith in
+      record { same = rw e (rw j at (l .same)) }
+
+module _ {S : Type 0} {f : ℕ → S → S} {k : ℕ} {s w : S} where
+  pub at-bottom : Lower f k s w → k ≤ 0 → s ≡ w
+  unfolding down
+  at-bottom l h =
+      let j : k ≡ 0 = omega arith in
+      rw j at (l .same)
+
+-- ---- the same place of a list, set to equal values
+pub set-to : {A : Type 0} {x y : A} (l : List A) (i : ℕ) → x ≡ y → set l i x ≡ set l i y
+set-to l i e = ap (set l i) e

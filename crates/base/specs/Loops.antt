@@ -1,0 +1,12 @@
+-- What a counting loop computes. Definitions only.
+use Prim.Native.Nat.{ℕ, zero, suc}
+
+-- `f` at i, then at i + 1, and so on, k times in all
+unfoldable pub times : {S : Type 0} → (ℕ → S → S) → ℕ → ℕ → S → S
+times f zero i s = s
+times f (suc k) i s = times f k (suc i) (f i s)
+
+-- `f` at k - 1, then at k - 2, and so on down to 0
+unfoldable pub down : {S : Type 0} → (ℕ → S → S) → ℕ → S → S
+down f zero s = s
+down f (suc k) s = down f k (f k s)

@@ -1,0 +1,32 @@
+-- The numbers of 01's table of refusals, "The store". Definitions only.
+use Prim.Native.Nat.{ℕ}
+use Rattle.base.specs.declared.refusal.Refusal.{Refusal}
+use Rattle.base.specs.declared.refusal.Refusal.the-variants.{Ragged, Oversize, LooseCorner, ShortStore, Unsound, NoPlace, Vacant, Unfinished, ShortList, BadMatrix, FlatPivot, Exponent, BadLine}
+
+abbrev pub number : Refusal → ℕ
+-- coordinate or index count not a multiple of 3
+number Ragged = 1
+-- V or F above limit
+number Oversize = 2
+-- index ≥ V
+number LooseCorner = 3
+-- below 1,761+3V floats or 98+3F words
+number ShortStore = 4
+-- store not sound
+number Unsound = 5
+-- place ≥ 32
+number NoPlace = 6
+-- clear or reweigh of an empty place
+number Vacant = 7
+-- left > 0, for report, or density and list by mass with target > 0
+number Unfinished = 8
+-- run to be written under 6 floats per piece (or kernel) written, or a kernel list given whose length isn't a multiple of 6
+number ShortList = 9
+-- n > 16, length not n(n+1), or answer shorter than n
+number BadMatrix = 10
+-- solve fails
+number FlatPivot = 11
+-- `normalize_kernels`: some abs(alpha - 1) > 1e-9
+number Exponent = 12
+-- program only
+number BadLine = 13

@@ -1,0 +1,2 @@
+// What every crate above uses: the refusals, a float's sign, bits and split.
+pub mod refusal;

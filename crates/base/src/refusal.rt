@@ -1,0 +1,54 @@
+// The refusals of document 01's table, whose numbers every call answers.
+ghost use mathlib.Core.Path.{_≡_};
+ghost use Rattle.base.specs.Refusals.{number};
+
+// A refusal, by 01's trade word.
+pub enum Refusal {
+    // 1: a coordinate or index count is not a multiple of 3
+    Ragged,
+    // 2: there are more vertices or faces than the limit
+    Oversize,
+    // 3: a face names a vertex that is not there
+    LooseCorner,
+    // 4: a run is too short for the store
+    ShortStore,
+    // 5: the store is not sound
+    Unsound,
+    // 6: the place is 32 or more
+    NoPlace,
+    // 7: the place to clear or reweigh is empty
+    Vacant,
+    // 8: work is left that this reading needs
+    Unfinished,
+    // 9: the run to be written is too short, or a kernel list is not of sixes
+    ShortList,
+    // 10: n is above 16, or a run of a length that does not go with n
+    BadMatrix,
+    // 11: the system of equations has a flat pivot
+    FlatPivot,
+    // 12: an exponent is not 1, where only 1 is taken
+    Exponent,
+    // 13: a line that is none of the program's forms
+    BadLine,
+}
+
+// 01's number of a refusal.
+pub fn refusal_number(refusal: Refusal) -> u32
+    ensures { λ r. ⌜ r ≡ number refusal ⌝ }
+{
+    match refusal {
+        Refusal::Ragged => 1,
+        Refusal::Oversize => 2,
+        Refusal::LooseCorner => 3,
+        Refusal::ShortStore => 4,
+        Refusal::Unsound => 5,
+        Refusal::NoPlace => 6,
+        Refusal::Vacant => 7,
+        Refusal::Unfinished => 8,
+        Refusal::ShortList => 9,
+        Refusal::BadMatrix => 10,
+        Refusal::FlatPivot => 11,
+        Refusal::Exponent => 12,
+        Refusal::BadLine => 13,
+    }
+}
