@@ -7,7 +7,6 @@ use lib.Ieee.{Float, nan, inf, fin, Format, low, up, down, binary64, add, sub, m
 
 infixl 65 _⊕_ _⊖_
 infixl 70 _⊗_ _⊘_
-
 abbrev pub _⊕_ : Float → Float → Float
 _⊕_ x y = add binary64 x y
 

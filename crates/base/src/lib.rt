@@ -1,4 +1,4 @@
 // What every crate above uses: the refusals, a float's sign, bits and split.
-pub mod refusal;
 pub mod floats;
+pub mod refusal;
 pub mod split;

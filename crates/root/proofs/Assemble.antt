@@ -1,0 +1,65 @@
+-- The last line of `root`, on plain values: the pattern that it makes is that of the square root. Assumes nothing.
+use mathlib.Core.Path.{_≡_, refl, sym, ap, _∙_, subst}
+use Prim.Native.Nat.{ℕ, suc, _+_, _-_, _*_, _/_, _%_, _^_, _≤_, _<_}
+use native.Mathlib.Nat.{le-trans, le-of-eq, lt-of-lt-of-le, le-of-lt, le-of-suc-le-suc, mod-eq-of-lt, mul-one, mul-le-mul-left, mul-lt-mul-of-pos-right}
+use native.Mathlib.Omega.{arith}
+use mathlib.Core.Bool.{Bool, true, false, not}
+use lib.Dec.{T, lit<}
+use lib.Bits.{bitAnd, and-mask}
+use lib.Pow.{pow-mono, pow-pos}
+use lib.Ieee.{Float, nan, inf, fin, binary64, ofBits, toBits, nanBits, isNan}
+use lib.Ieee.Bits.{ofBits-toBits, nanBits-is}
+use lib.Ieee.Exact.{HasValue}
+use Rattle.base.specs.Split.{Scaled}
+use Rattle.base.specs.UnitLaws.{value-bits}
+use Rattle.root.specs.Root.{rootUnits, floorRoot, Rounded}
+use Rattle.root.specs.Floors.{IsRoot, floorRoot-is}
+use Rattle.root.proofs.Confirms.{rounded-is}
+use Rattle.root.specs.Rounds.{root-value, root-fits, root-of-value, radicand, doubled-least, doubled-most, digits-least, digits-most, half-least, half-most}
+
+pub low-bit : (n : ℕ) → bitAnd n 1 ≡ n % 2
+low-bit n = and-mask n 1
+
+-- `sig << odd`
+pub shifted : (sig odd : ℕ) → 2 ^ 52 ≤ sig → sig < 2 ^ 53 → odd < 2 → (2 ^ 52 ≤ sig * 2 ^ odd) × (sig * 2 ^ odd < 2 ^ 54) × (sig * 2 ^ odd % 2 ^ 64 ≡ sig * 2 ^ odd)
+shifted sig odd l m o =
+    let u : sig * 2 ^ odd < 2 ^ 54 = lt-of-lt-of-le (mul-lt-mul-of-pos-right m (pow-pos odd)) (mul-le-mul-left (2 ^ 53) (pow-mono {i = odd} {j = 1} (le-of-suc-le-suc o))) in
+    (le-trans l (le-trans (le-of-eq (sym (mul-one sig))) (mul-le-mul-left sig (pow-pos odd))), u, mod-eq-of-lt (lt-of-lt-of-le u (pow-mono {i = 54} {j = 64} (le-of-lt (lit< tt)))))
+
+module _ (n sig ex a : ℕ) (s : Scaled n sig ex) (r : Rounded (sig * 2 ^ (ex % 2)) a) where
+  q : ℕ
+  q = floorRoot (sig * 2 ^ (ex % 2) * 2 ^ 54)
+
+  whole : IsRoot (sig * 2 ^ (ex % 2) * 2 ^ 54) q
+  unfolding q
+  whole = floorRoot-is (sig * 2 ^ (ex % 2) * 2 ^ 54)
+
+  root-least : 2 ^ 53 ≤ q
+  root-least = digits-least (sig * 2 ^ (ex % 2)) q (doubled-least n sig ex s) whole
+
+  root-most : q < 2 ^ 54
+  root-most = digits-most (sig * 2 ^ (ex % 2)) q (doubled-most n sig ex s) whole
+
+  halved : a ≡ q / 2 + q % 2
+  halved = rounded-is (sig * 2 ^ (ex % 2)) a q r whole
+
+  pub least : 2 ^ 52 ≤ a
+  least = subst (λ (x : ℕ). 2 ^ 52 ≤ x) (sym halved) (half-least q root-least)
+
+  pub most : a ≤ 2 ^ 53
+  most = subst (λ (x : ℕ). x ≤ 2 ^ 53) (sym halved) (half-most q root-most)
+
+  has-value : HasValue (rootUnits binary64 n) false (a * 2 ^ suc (ex / 2 + 484)) (2 ^ 1074)
+  has-value = subst (λ (x : ℕ). HasValue (rootUnits binary64 n) false (x * 2 ^ suc (ex / 2 + 484)) (2 ^ 1074)) (sym halved) (root-value n (sig * 2 ^ (ex % 2)) q (ex / 2 + 484) (radicand n sig ex s) whole root-least root-most (few (s .top)))
+    where
+      few : ex ≤ 2097 → ex / 2 + 484 ≤ 1533
+      few h = omega arith
+
+  pub made : ofBits binary64 ((ex / 2 + 485) * 2 ^ 52 % 2 ^ 64 + a) ≡ rootUnits binary64 n
+  made =
+      ap (λ (x : ℕ). ofBits binary64 (x + a)) (place (s .top))
+      ∙ ap (ofBits binary64) (sym (value-bits (rootUnits binary64 n) a (suc (ex / 2 + 484)) has-value least most))
+      ∙ ofBits-toBits binary64 (rootUnits binary64 n) (root-fits n)
+    where
+      place : ex ≤ 2097 → (ex / 2 + 485) * 2 ^ 52 % 2 ^ 64 ≡ suc (ex / 2 + 484) * 2 ^ 52
+      place h = omega arith

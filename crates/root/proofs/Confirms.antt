@@ -1,0 +1,126 @@
+-- The check of a guess, on plain numbers, and the root rounded from its whole part. Assumes nothing.
+use mathlib.Core.Path.{_≡_, refl, sym, ap, _∙_, subst}
+use Prim.Native.Nat.{ℕ, zero, suc, _+_, _-_, _*_, _/_, _%_, _^_, _≤_, _<_}
+use native.Mathlib.Nat.{le-trans, le-of-lt, lt-of-le-of-lt, lt-of-lt-of-le, le-of-eq, not-le-of-lt, mul-comm, mul-assoc, mul-left-comm, mul-add, add-mul, add-assoc, add-comm, add-left-comm, mul-one, one-mul, mul-le-mul, mod-lt, mod-le}
+use native.Mathlib.Omega.{arith}
+use mathlib.Core.Bool.{Bool, not}
+use lib.Dec.{T, ltb}
+use lib.Arith.{le→nltb}
+use lib.Bits.{bitAnd, bitOr, and-mask, or-shifted-r}
+use lib.Pow.{pow-pos}
+use lib.Ieee.{binary64, nanBits}
+use lib.Ieee.Bits.{nanBits-above}
+use Rattle.root.specs.Root.{Floor, Rounded}
+use Rattle.root.specs.Floors.{IsRoot, of-floor, sq-suc, sq-twice, sq-back}
+
+-- ---- the square of a number that is cut in two
+cut : (h l k : ℕ) → (h * k + l) * (h * k + l) ≡ h * h * (k * k) + 2 * (h * l) * k + l * l
+cut h l k =
+    let a : (h * k + l) * (h * k + l) ≡ (h * k + l) * (h * k) + (h * k + l) * l = mul-add (h * k + l) (h * k) l in
+    let b : (h * k + l) * (h * k) ≡ h * k * (h * k) + l * (h * k) = add-mul (h * k) l (h * k) in
+    let c : (h * k + l) * l ≡ h * k * l + l * l = add-mul (h * k) l l in
+    let d : h * k * (h * k) ≡ h * h * (k * k) = simp (mul-assoc, mul-left-comm) in
+    let e : l * (h * k) ≡ h * l * k = simp (mul-assoc, mul-left-comm) in
+    let f : h * k * l ≡ h * l * k = simp (mul-assoc, mul-comm) in
+    let g : 2 * (h * l) * k ≡ 2 * (h * l * k) = mul-assoc 2 (h * l) k in
+    omega arith
+
+pub low-half : (g : ℕ) → bitAnd g 67108863 ≡ g % 67108864
+low-half g = and-mask g 26
+
+pub square-cut : (g : ℕ) → g * g ≡ g / 67108864 * (g / 67108864) * 4503599627370496 + 2 * (g / 67108864 * bitAnd g 67108863) * 67108864 + bitAnd g 67108863 * bitAnd g 67108863
+square-cut g =
+    let l = bitAnd g 67108863 in
+    let e : g ≡ g / 67108864 * 67108864 + l = omega (arith, low-half g) in
+    ap (λ (x : ℕ). x * x) e ∙ cut (g / 67108864) l 67108864
+
+pub parts-small : (g : ℕ) → g < 2 ^ 53 → (g / 67108864 ≤ 2 ^ 27) × (bitAnd g 67108863 ≤ 2 ^ 26)
+parts-small g h = (omega arith, omega (arith, low-half g))
+
+pub sq-two : (g : ℕ) → (g + 2) * (g + 2) ≡ g * g + (4 * g + 4)
+sq-two g =
+    let a : (g + 2) * (g + 2) ≡ (g + 1 + 1) * (g + 1 + 1) = ap (λ (x : ℕ). x * x) e in
+    let b = sq-suc (g + 1) in
+    let c = sq-suc g in
+    omega arith
+  where
+    e : g + 2 ≡ g + 1 + 1
+    e = omega arith
+
+-- ---- patterns
+pub guessed : (n : ℕ) → bitOr (bitAnd n 4503599627370495) 4503599627370496 ≡ 4503599627370496 + n % 4503599627370496
+guessed n = ap (λ (x : ℕ). bitOr x 4503599627370496) (and-mask n 52) ∙ or-shifted-r 1 52 (n % 4503599627370496) (mod-lt n (pow-pos 52))
+
+-- ---- from the whole root of d * 2 ^ 54 to the root of d * 2 ^ 52, rounded
+pub rounded-of : (d q : ℕ) → 2 ^ 52 ≤ d → IsRoot (d * 2 ^ 54) q → Rounded d (q / 2 + q % 2)
+rounded-of d q D h = go (q % 2) refl
+  where
+    two : (r : ℕ) → q % 2 ≡ suc (suc r) → ⊥
+    two r e = omega arith
+
+    go : (r : ℕ) → q % 2 ≡ r → Rounded d (q / 2 + q % 2)
+    go zero e =
+        let a = q / 2 in
+        let x : q * q ≡ 2 * a * (2 * a) = ap (λ (z : ℕ). z * z) (omega arith) in
+        let y : (q + 1) * (q + 1) ≡ q * q + (2 * q + 1) = sq-suc q in
+        let z = sq-twice a in
+        let l = h .least in
+        let m = h .most in
+        let k : a ≡ q / 2 + q % 2 = omega arith in
+        subst (Rounded d) k (record { above = positive a x z l m y; below = omega arith })
+      where
+        positive : (a : ℕ) → q * q ≡ 2 * a * (2 * a) → 2 * a * (2 * a) ≡ 4 * (a * a) → q * q ≤ d * 2 ^ 54 → d * 2 ^ 54 < (q + 1) * (q + 1) → (q + 1) * (q + 1) ≡ q * q + (2 * q + 1) → a * a < d * 2 ^ 52 + a
+        positive zero x z l m y = omega arith
+        positive (suc a) x z l m y = omega arith
+    go (suc zero) e =
+        let a = q / 2 in
+        let x : q * q ≡ (2 * a + 1) * (2 * a + 1) = ap (λ (z : ℕ). z * z) (omega arith) in
+        let y : (q + 1) * (q + 1) ≡ q * q + (2 * q + 1) = sq-suc q in
+        let z = sq-twice a in
+        let w = sq-suc (2 * a) in
+        let v = sq-suc a in
+        let l = h .least in
+        let m = h .most in
+        let k : a + 1 ≡ q / 2 + q % 2 = omega arith in
+        subst (Rounded d) k (record { above = omega arith; below = omega arith })
+    go (suc (suc r)) e = absurd (two r e)
+
+-- and back: there is one such number
+pub rounded-is : (d a q : ℕ) → Rounded d a → IsRoot (d * 2 ^ 54) q → a ≡ q / 2 + q % 2
+rounded-is d a q r h =
+    let x = r .above in
+    let y = r .below in
+    let up : q < 2 * a + 1 = sq-back (lt-of-le-of-lt (h .least) (upper y)) in
+    let dn : 2 * a ≤ q + 1 = below-by a x in
+    last up dn
+  where
+    upper : d * 2 ^ 52 ≤ a * a + a → d * 2 ^ 54 < (2 * a + 1) * (2 * a + 1)
+    upper y = let e = sq-suc (2 * a) in let f = sq-twice a in omega arith
+
+    below-by : (b : ℕ) → b * b < d * 2 ^ 52 + b → 2 * b ≤ q + 1
+    below-by zero x = omega arith
+    below-by (suc b) x =
+        let k = 2 * b + 1 in
+        let e : (k + 1) * (k + 1) ≡ 2 * suc b * (2 * suc b) = ap (λ (z : ℕ). z * z) (omega arith) in
+        let f = sq-suc k in
+        let g = sq-twice (suc b) in
+        let s : k * k < (q + 1) * (q + 1) = lt-of-le-of-lt (omega arith) (h .most) in
+        let t : k < q + 1 = sq-back s in
+        omega arith
+
+    last : q < 2 * a + 1 → 2 * a ≤ q + 1 → a ≡ q / 2 + q % 2
+    last u v = omega arith
+
+-- ---- the check: with u left over, as the code works it out
+module _ (d g hh x ll : ℕ) (sq : g * g ≡ hh * 4503599627370496 + 2 * x * 67108864 + ll) (G : 0 < g) (A : hh ≤ d) (B : 2 * x ≤ (d - hh) * 67108864) (C : ll ≤ ((d - hh) * 67108864 - 2 * x) * 67108864 + (g - 1)) where
+  residue : ((d - hh) * 67108864 - 2 * x) * 67108864 + (g - 1) - ll + g * g + 1 ≡ d * 4503599627370496 + g
+  residue = omega arith
+
+  pub at-g : ((d - hh) * 67108864 - 2 * x) * 67108864 + (g - 1) - ll < 2 * g → Rounded d g
+  at-g h = let r = residue in record { above = omega arith; below = omega arith }
+
+  pub at-next : 2 * g ≤ ((d - hh) * 67108864 - 2 * x) * 67108864 + (g - 1) - ll → ((d - hh) * 67108864 - 2 * x) * 67108864 + (g - 1) - ll - 2 * g < 2 * g + 2 → Rounded d (g + 1)
+  at-next k h = let r = residue in let e = sq-suc g in record { above = omega arith; below = omega arith }
+
+  pub at-third : 2 * g ≤ ((d - hh) * 67108864 - 2 * x) * 67108864 + (g - 1) - ll → 2 * g + 2 ≤ ((d - hh) * 67108864 - 2 * x) * 67108864 + (g - 1) - ll - 2 * g → ((d - hh) * 67108864 - 2 * x) * 67108864 + (g - 1) - ll - 2 * g < 2 * (2 * g) + 6 → Rounded d (g + 2)
+  at-third k m h = let r = residue in let e = sq-two g in record { above = omega arith; below = omega arith }

@@ -1,0 +1,6 @@
+pub mod Root
+pub mod Floors
+pub mod Rounds
+pub mod Cases
+pub mod Nearest
+pub mod Rows

@@ -1,0 +1,158 @@
+// The IEEE 754 square root of an f64. Its digits are found by a guess in floats, which nothing is
+// proved about, and a proved check in whole numbers; where the check fails, digit by digit.
+ghost use mathlib.Core.Path.{_≡_};
+ghost use mathlib.Core.Logic.{_⊎_};
+ghost use Prim.Native.Nat.{ℕ, _+_, _*_, _^_, _≤_, _<_};
+ghost use lib.Ieee.{binary64};
+ghost use Rattle.root.specs.Root.{squareRoot, Floor, Rounded};
+use base::split::split;
+
+// A whole root and what is left.
+struct Whole {
+    root: u64,
+    rest: u64,
+}
+
+// The whole root of d * 2^54, a binary digit at a time, and the rest.
+fn whole_root(d: u64) -> Whole
+    requires { ⌜ d < 2 ^ 54 ⌝ }
+    ensures { λ r. ⌜ Floor (d * 2 ^ 54) (r .root) (r .rest) ⌝ }
+{
+    let mut left = d << 10;
+    let mut root = 0u64;
+    let mut rest = 0u64;
+    let mut i = 0u64;
+    while i < 54 {
+        let brought = rest * 4 + (left >> 62);
+        left = left << 2;
+        let trial = root * 4 + 1;
+        if trial <= brought {
+            rest = brought - trial;
+            root = root * 2 + 1;
+        } else {
+            rest = brought;
+            root = root * 2;
+        }
+        i += 1;
+    }
+    Whole { root, rest }
+}
+
+// The root of d * 2^52, rounded, from its digits.
+fn by_digits(d: u64) -> u64
+    requires { ⌜ (2 ^ 52 ≤ d) × (d < 2 ^ 54) ⌝ }
+    ensures { λ r. ⌜ Rounded d r ⌝ }
+{
+    let w = whole_root(d);
+    let q = w.root;
+    (q >> 1) + (q & 1)
+}
+
+// A step of Newton's towards 1 / √(2h), from y. Nothing is promised of a guess.
+fn refine(h: f64, y: f64) -> f64 {
+    y * (1.5 - h * y * y)
+}
+
+// A float near √f, of the pattern `bits`, for an f from 1 up to 4.
+fn near_root(bits: u64) -> f64
+    requires { ⌜ bits < 5000000000000000000 ⌝ }
+{
+    let f = f64::from_bits(bits);
+    let h = f * 0.5;
+    let y0 = f64::from_bits(0x5FE6_EB50_C7B5_37A9 - (bits >> 1));
+    let y = refine(h, refine(h, refine(h, y0)));
+    let s = f * y;
+    s + (0.5 * y) * (f - s * s)
+}
+
+// A number near the root of sig * 2^(52 + odd), mostly one below it rounded.
+fn guess(sig: u64, odd: u64) -> u64
+    requires { ⌜ (sig < 2 ^ 53) × (odd < 2) ⌝ }
+    ensures { λ r. ⌜ (0 < r) × (r < 2 ^ 53) ⌝ }
+{
+    let s = near_root(sig + ((1022 + odd) << 52));
+    if s != s {
+        return 1;
+    }
+    ((f64::to_bits(s) & 0xF_FFFF_FFFF_FFFF) | 0x10_0000_0000_0000) - 1
+}
+
+// Which of g, g + 1 and g + 2 is the root of d * 2^52, rounded; 0 if none.
+fn confirm(d: u64, g: u64) -> u64
+    requires { ⌜ (d < 2 ^ 54) × (0 < g) × (g < 2 ^ 53) ⌝ }
+    ensures { λ r. ⌜ (r ≡ 0) ⊎ Rounded d r ⌝ }
+{
+    let h = g >> 26;
+    let l = g & 0x3FF_FFFF;
+    let hh = h * h;
+    if d < hh {
+        return 0;
+    }
+    let a = d - hh;
+    if a >= 0x20_0000_0000 {
+        return 0;
+    }
+    let raised = a * 0x400_0000;
+    let cross = 2 * (h * l);
+    if raised < cross {
+        return 0;
+    }
+    let b = raised - cross;
+    if b >= 0x20_0000_0000 {
+        return 0;
+    }
+    let last = b * 0x400_0000 + (g - 1);
+    let ll = l * l;
+    if last < ll {
+        return 0;
+    }
+    let u = last - ll;
+    let step = 2 * g;
+    if u < step {
+        return g;
+    }
+    let v = u - step;
+    if v < step + 2 {
+        return g + 1;
+    }
+    if v < 2 * step + 6 {
+        return g + 2;
+    }
+    0
+}
+
+// The root of d * 2^52, rounded, where d is sig * 2^odd.
+fn nearest(sig: u64, odd: u64) -> u64
+    requires { ⌜ (2 ^ 52 ≤ sig) × (sig < 2 ^ 53) × (odd < 2) ⌝ }
+    ensures { λ r. ⌜ Rounded (sig * 2 ^ odd) r ⌝ }
+{
+    let d = sig << odd;
+    let a = confirm(d, guess(sig, odd));
+    if a == 0 {
+        return by_digits(d);
+    }
+    a
+}
+
+// The square root: IEEE 754's, to nearest even.
+pub fn root(x: f64) -> f64
+    ensures { λ r. ⌜ r ≡ squareRoot binary64 x ⌝ }
+{
+    if x != x {
+        return x;
+    }
+    if x == 0.0 {
+        return x;
+    }
+    if x < 0.0 {
+        return 0.0 / 0.0;
+    }
+    let b = f64::to_bits(x);
+    if b >= 0x7FF0_0000_0000_0000 {
+        return x;
+    }
+    let p = split(b);
+    let ex = p.ex;
+    let a = nearest(p.sig, ex & 1);
+    f64::from_bits((((ex >> 1) + 485) << 52) + a)
+}
