@@ -1,14 +1,14 @@
 -- A pattern's significand and exponent, on plain numbers. Assumes nothing.
-use mathlib.Core.Path.{_≡_, refl, sym, ap, _∙_, subst}
+use mathlib.Core.Path.{_≡_, sym, ap, _∙_}
 use Prim.Native.Nat.{ℕ, suc, _+_, _-_, _*_, _/_, _%_, _^_, _≤_, _<_}
-use native.Mathlib.Nat.{le-trans, le-of-lt, le-of-eq, lt-of-lt-of-le, lt-of-le-of-lt, lt-of-not-le, not-le-of-lt, lt-irrefl, le-of-suc-le-suc, mul-assoc, mul-comm, mul-le-mul-right, mul-lt-mul-of-pos-right, mod-eq-of-lt, pow-suc, mod-lt}
+use native.Mathlib.Nat.{le-trans, le-of-lt, le-of-eq, lt-of-lt-of-le, lt-of-le-of-lt, lt-of-not-le, lt-irrefl, mul-assoc, mul-le-mul-right, mul-lt-mul-of-pos-right, mod-eq-of-lt, mod-lt}
 use native.Mathlib.Omega.{arith}
-use mathlib.Core.Bool.{Bool, true, false, not, cond}
-use lib.Dec.{T, eqb, eqb→eq, eqb-refl, not-T, lit<}
-use lib.Pow.{pow-add, pow-pos, pow-mono, pow-lt}
-use lib.Bits.{bitAnd, bitOr, and-mask, or-shifted-r}
+use mathlib.Core.Bool.{Bool, cond}
+use lib.Dec.{eqb, eqb→eq, not-T, lit<}
+use lib.Pow.{pow-add, pow-pos, pow-mono}
+use lib.Bits.{bitOr, or-shifted-r}
 use lib.Count.{leadingZeros, leading-top}
-use lib.Ieee.Bits.{is-true, is-false}
+use lib.Ieee.Bits.{is-false}
 use Rattle.base.specs.Split.{Scaled, unitsAt}
 
 pub pow-back : (i p : ℕ) → 2 ^ i < 2 ^ p → i < p

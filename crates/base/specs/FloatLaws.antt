@@ -8,8 +8,8 @@ use native.Mathlib.Omega.{arith}
 use borrow.Author.Tests.{lt-ltb}
 use lib.Dec.{T, leb, ltb, eqb, eqb→eq, ltb→lt, lt→ltb, nltb→le, lit<}
 use lib.Arith.{le→nltb}
-use lib.IntN.{ℤ, pos}
-use lib.Ieee.{Float, nan, inf, fin, Format, binary64, prec, low, hid, top, ones, up, down, units, odd, round, ofFields, ofBits, toBits, nanBits, fits, isNan, eq, ne, lt, le, neg, div, level}
+use lib.IntN.{ℤ}
+use lib.Ieee.{Float, nan, inf, fin, binary64, prec, low, hid, top, ones, up, down, units, odd, round, ofFields, ofBits, toBits, nanBits, fits, isNan, eq, ne, lt, neg, div, level}
 use lib.Ieee.Compare.{differs-from-itself}
 use lib.Ieee.Bits.{ofBits-toBits, nanBits-is, nanBits-above}
 use lib.Ieee.Fits.{round-is, up-pos}

@@ -1,8 +1,8 @@
 -- Rust's operators on f64 as IEEE 754 has them, literals by their bits, and the sign. 01: "results match bit for bit, every NaN counting as one"
 -- is `≡` on `lib.Ieee`'s `Float`, which has one NaN. Definitions only.
-use Prim.Native.Nat.{ℕ, zero, suc, _*_, _/_, _^_}
-use lib.IntN.{ℤ, pos}
-use mathlib.Core.Bool.{Bool, true, false, cond}
+use Prim.Native.Nat.{ℕ, _*_, _/_, _^_}
+use lib.IntN.{pos}
+use mathlib.Core.Bool.{Bool, false, cond}
 use lib.Ieee.{Float, nan, inf, fin, Format, low, up, down, binary64, add, sub, mul, div, neg, ofBits, ofInt, round}
 
 infixl 65 _⊕_ _⊖_

@@ -1,21 +1,21 @@
 -- The last line of `root`, on plain values: the pattern that it makes is that of the square root. Assumes nothing.
-use mathlib.Core.Path.{_≡_, refl, sym, ap, _∙_, subst}
+use mathlib.Core.Path.{_≡_, sym, ap, _∙_, subst}
 use Prim.Native.Nat.{ℕ, suc, _+_, _-_, _*_, _/_, _%_, _^_, _≤_, _<_}
 use native.Mathlib.Nat.{le-trans, le-of-eq, lt-of-lt-of-le, le-of-lt, le-of-suc-le-suc, mod-eq-of-lt, mul-one, mul-le-mul-left, mul-lt-mul-of-pos-right}
 use native.Mathlib.Omega.{arith}
-use mathlib.Core.Bool.{Bool, true, false, not}
-use lib.Dec.{T, lit<}
+use mathlib.Core.Bool.{false}
+use lib.Dec.{lit<}
 use lib.Bits.{bitAnd, and-mask}
 use lib.Pow.{pow-mono, pow-pos}
-use lib.Ieee.{Float, nan, inf, fin, binary64, ofBits, toBits, nanBits, isNan}
-use lib.Ieee.Bits.{ofBits-toBits, nanBits-is}
+use lib.Ieee.{binary64, ofBits}
+use lib.Ieee.Bits.{ofBits-toBits}
 use lib.Ieee.Exact.{HasValue}
 use Rattle.base.specs.Split.{Scaled}
 use Rattle.base.specs.UnitLaws.{value-bits}
 use Rattle.root.specs.Root.{rootUnits, floorRoot, Rounded}
 use Rattle.root.specs.Floors.{IsRoot, floorRoot-is}
 use Rattle.root.proofs.Confirms.{rounded-is}
-use Rattle.root.specs.Rounds.{root-value, root-fits, root-of-value, radicand, doubled-least, doubled-most, digits-least, digits-most, half-least, half-most}
+use Rattle.root.specs.Rounds.{root-value, root-fits, radicand, doubled-least, doubled-most, digits-least, digits-most, half-least, half-most}
 
 pub low-bit : (n : ℕ) → bitAnd n 1 ≡ n % 2
 low-bit n = and-mask n 1

@@ -1,17 +1,12 @@
 -- The check of a guess, on plain numbers, and the root rounded from its whole part. Assumes nothing.
-use mathlib.Core.Path.{_≡_, refl, sym, ap, _∙_, subst}
+use mathlib.Core.Path.{_≡_, refl, ap, _∙_, subst}
 use Prim.Native.Nat.{ℕ, zero, suc, _+_, _-_, _*_, _/_, _%_, _^_, _≤_, _<_}
-use native.Mathlib.Nat.{le-trans, le-of-lt, lt-of-le-of-lt, lt-of-lt-of-le, le-of-eq, not-le-of-lt, mul-comm, mul-assoc, mul-left-comm, mul-add, add-mul, add-assoc, add-comm, add-left-comm, mul-one, one-mul, mul-le-mul, mod-lt, mod-le}
+use native.Mathlib.Nat.{lt-of-le-of-lt, mul-comm, mul-assoc, mul-left-comm, mul-add, add-mul, mod-lt}
 use native.Mathlib.Omega.{arith}
-use mathlib.Core.Bool.{Bool, not}
-use lib.Dec.{T, ltb}
-use lib.Arith.{le→nltb}
 use lib.Bits.{bitAnd, bitOr, and-mask, or-shifted-r}
 use lib.Pow.{pow-pos}
-use lib.Ieee.{binary64, nanBits}
-use lib.Ieee.Bits.{nanBits-above}
-use Rattle.root.specs.Root.{Floor, Rounded}
-use Rattle.root.specs.Floors.{IsRoot, of-floor, sq-suc, sq-twice, sq-back}
+use Rattle.root.specs.Root.{Rounded}
+use Rattle.root.specs.Floors.{IsRoot, sq-suc, sq-twice, sq-back}
 
 -- ---- the square of a number that is cut in two
 cut : (h l k : ℕ) → (h * k + l) * (h * k + l) ≡ h * h * (k * k) + 2 * (h * l) * k + l * l

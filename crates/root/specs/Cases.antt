@@ -1,9 +1,9 @@
 -- The square root at NaN, zeros, the infinity and below zero. Assumes nothing.
 use mathlib.Core.Path.{_≡_, refl, sym, ap, _∙_}
 use mathlib.Core.Bool.{true, false}
-use lib.Ieee.{Float, nan, inf, fin, binary64, eq, ne, lt}
+use lib.Ieee.{Float, nan, inf, binary64, eq, ne, lt}
 use Rattle.base.specs.Floats.{bits}
-use Rattle.base.specs.FloatLaws.{is-nan, Zero, is-zero, Below, lower-inf, finite, is-below}
+use Rattle.base.specs.FloatLaws.{is-nan, is-zero, Below, lower-inf, finite, is-below}
 use Rattle.root.specs.Root.{squareRoot}
 
 pub of-nan : (x : Float) → ne x x ≡ true → x ≡ squareRoot binary64 x

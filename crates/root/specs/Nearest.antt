@@ -1,24 +1,23 @@
 -- IEEE 754's words for squareRoot: of an x above zero the result is the value of the format that is nearest to the real number √x.
 -- `root-nearest` proves them of `squareRoot`. Every other value is strictly farther, so no tie arises, and "to even" is never asked. Assumes nothing.
 use mathlib.Core.Path.{_≡_, refl, sym, ap, _∙_, subst}
-use Prim.Native.Nat.{ℕ, zero, suc, _+_, _-_, _*_, _/_, _%_, _^_, _≤_, _<_, zero-le}
-use native.Mathlib.Nat.{le-refl, le-trans, le-of-eq, le-of-lt, le-of-suc-le-suc, lt-of-lt-of-le, lt-of-le-of-lt, lt-of-not-le, not-le-of-lt, lt-irrefl, eq-or-lt-of-le, mul-comm, mul-assoc, mul-left-comm, mul-one, one-mul, zero-mul, add-mul, mul-le-mul, mul-le-mul-left, mul-le-mul-right, mul-lt-mul-of-pos-left, mul-lt-mul-of-pos-right, lt-of-mul-lt-mul-right, mul-pos, mul-div-cancel, pow-succ', zero-lt-suc}
+use Prim.Native.Nat.{ℕ, zero, suc, _+_, _-_, _*_, _/_, _%_, _^_, _≤_, _<_}
+use native.Mathlib.Nat.{le-trans, le-of-eq, le-of-lt, lt-of-lt-of-le, lt-of-le-of-lt, lt-of-not-le, not-le-of-lt, lt-irrefl, eq-or-lt-of-le, mul-comm, mul-assoc, mul-left-comm, one-mul, zero-mul, add-mul, mul-le-mul, mul-le-mul-left, mul-le-mul-right, mul-lt-mul-of-pos-left, mul-lt-mul-of-pos-right, lt-of-mul-lt-mul-right, mul-pos, pow-succ', zero-lt-suc}
 use native.Mathlib.Decide.{decLe}
 use native.Mathlib.Omega.{arith}
 use mathlib.Core.Logic.{_⊎_, inl, inr}
-use mathlib.Core.Bool.{Bool, true, false, not, true≢false}
-use lib.IntN.{ℤ, pos, negsuc}
+use mathlib.Core.Bool.{Bool, true, false, not}
+use lib.IntN.{pos}
 use lib.Dec.{T, lit<, lit≤}
-use lib.Pow.{pow-add, pow-pos, pow-mono, pow-lt}
+use lib.Pow.{pow-add, pow-pos, pow-mono}
 use lib.Ieee.{Float, nan, inf, fin, Format, binary64, low, up, down, size, ofBits, toBits, fits}
 use lib.Ieee.Digits.{size-lt, size-le, size-reaches}
-use lib.Ieee.Fits.{down-pos}
 use lib.Ieee.Bits.{ofBits-toBits}
 use lib.Ieee.Exact.{HasValue}
 use lib.Ieee.Positive.{positive, positive-of-value}
 use Rattle.base.specs.Floats.{unitsIn}
 use Rattle.base.specs.Split.{Scaled}
-use Rattle.base.specs.UnitLaws.{bits-of, Units, units-of, shift-of, units-is}
+use Rattle.base.specs.UnitLaws.{bits-of, units-of, shift-of, units-is}
 use Rattle.root.specs.Root.{floorRoot, rootUnits, squareRoot}
 use Rattle.root.specs.Floors.{IsRoot, floorRoot-is, sq-mul, sq-twice, sq-lt}
 use Rattle.root.specs.Rounds.{root-value, root-fits, root-of-value, radicand, doubled-least, doubled-most, digits-least, digits-most, half-least, no-tie}

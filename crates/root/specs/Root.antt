@@ -1,8 +1,8 @@
 -- 01, "Roots and powers": root. IEEE 754's squareRoot under roundTiesToEven, in the manner of `lib.Ieee`: the root is worked out exactly, as far as rounding looks, and handed to `round`.
 -- `Nearest.antt` proves that the result is the one value of the format that is nearest to the real root. Definitions only.
-use Prim.Native.Nat.{ℕ, zero, suc, _+_, _-_, _*_, _/_, _%_, _^_, _≤_, _<_}
+use Prim.Native.Nat.{ℕ, zero, suc, _+_, _*_, _/_, _^_, _≤_, _<_}
 use mathlib.Core.Path.{_≡_}
-use mathlib.Core.Bool.{Bool, true, false, cond}
+use mathlib.Core.Bool.{true, false, cond}
 use lib.Dec.{leb, eqb}
 use lib.Ieee.{Float, nan, inf, fin, Format, low, up, down, size, round}
 

@@ -1,15 +1,13 @@
 -- What `rootUnits` rounds to. Assumes nothing.
 use mathlib.Core.Path.{_≡_, refl, sym, ap, _∙_, subst}
 use Prim.Native.Nat.{ℕ, zero, suc, _+_, _-_, _*_, _/_, _%_, _^_, _≤_, _<_, zero-le, compare, Ordering, Ordering·lt, Ordering·eq, Ordering·gt}
-use native.Mathlib.Nat.{le-refl, le-trans, le-of-eq, le-of-lt, le-antisymm, le-of-suc-le-suc, lt-of-lt-of-le, lt-of-le-of-lt, lt-of-not-le, not-le-of-lt, lt-irrefl, mul-comm, mul-assoc, mul-left-comm, mul-right-comm, mul-add, add-mul, mul-one, one-mul, mul-le-mul, mul-le-mul-left, mul-le-mul-right, mul-lt-mul-of-pos-right, mul-pos, pow-suc, pow-succ', mul-div-cancel, eq-zero-or-pos}
+use native.Mathlib.Nat.{le-refl, le-trans, le-of-eq, le-of-lt, le-of-suc-le-suc, lt-of-lt-of-le, lt-of-le-of-lt, lt-irrefl, mul-comm, mul-assoc, mul-left-comm, add-mul, mul-one, one-mul, mul-le-mul-left, mul-le-mul-right, mul-lt-mul-of-pos-right, mul-pos, pow-succ', mul-div-cancel}
 use native.Mathlib.Omega.{arith}
-use mathlib.Core.Logic.{inl, inr}
 use mathlib.Core.Bool.{Bool, true, false, not, cond}
-use lib.Dec.{T, leb, ltb, eqb, isLe, isEq, le→leb, lt→ltb, leb→le, eqb→eq, not-T, lit<, lit≤}
+use lib.Dec.{T, eqb, isLe, isEq, le→leb, eqb→eq, lit<}
 use lib.Arith.{digits-div, digits-mod, lt→nleb}
-use lib.Pow.{pow-add, pow-pos, pow-mono, pow-lt, shl-shr}
-use lib.Ieee.{Float, nan, inf, fin, Format, binary64, prec, low, up, down, size, nearest, round, toBits, fits}
-use lib.Ieee.Digits.{size-lt, size-le, size-reaches}
+use lib.Pow.{pow-add, pow-pos, pow-mono, pow-lt}
+use lib.Ieee.{Float, nan, inf, fin, binary64, up, down, size, nearest, round, fits}
 use lib.Ieee.Fits.{down-pos, round-fits}
 use lib.Ieee.Exact.{HasValue}
 use lib.Ieee.Nearest.{closest, closest-same, div-same}
@@ -17,8 +15,8 @@ use lib.Ieee.Order.{kept, drop}
 use lib.Ieee.Scale.{grid, overflow, round-val}
 use Rattle.base.specs.Split.{Scaled}
 use Rattle.base.specs.UnitLaws.{size-is}
-use Rattle.root.specs.Root.{floorRoot, rootUnits, squareRoot, Floor}
-use Rattle.root.specs.Floors.{IsRoot, of-floor, floorRoot-is, from, upto, sq-mul, sq-back, sq-lt, sq-suc, sq-twice}
+use Rattle.root.specs.Root.{floorRoot, rootUnits, squareRoot}
+use Rattle.root.specs.Floors.{IsRoot, floorRoot-is, from, upto, sq-mul, sq-back, sq-suc, sq-twice}
 
 -- ---- a number and a part, to the nearest whole number
 below-half : (a b : ℕ) → a < b → compare a b ≡ Ordering·lt

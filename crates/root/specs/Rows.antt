@@ -1,31 +1,31 @@
--- Rows of the bench table, by computation. Assumes nothing.
+-- Rows of 01's bench table on root, by computation, on patterns, and the ends of the range. The values come from correctly rounded roots worked out with whole numbers apart from these definitions.
+-- Assumes nothing.
 use mathlib.Core.Path.{_≡_, refl}
-use mathlib.Core.Bool.{true, false}
-use lib.IntN.{ℤ, pos, negsuc}
-use lib.Ieee.{Float, fin, inf, nan, binary64, ofBits}
+use lib.Ieee.{binary64, ofBits}
+use Rattle.base.specs.Floats.{bits}
 use Rattle.root.specs.Root.{squareRoot}
 
-pub root-four : squareRoot binary64 (fin false 1 (pos 2)) ≡ fin false 1 (pos 1)
-unfolding squareRoot
+-- P: root 4 = 2
+pub root-four : squareRoot binary64 (bits 0x4010_0000_0000_0000) ≡ bits 0x4000_0000_0000_0000
+unfolding squareRoot ofBits
 root-four = refl
 
-pub root-minus-zero : squareRoot binary64 (fin true 0 (pos 0)) ≡ fin true 0 (pos 0)
-unfolding squareRoot
+-- P: root -0 = -0
+pub root-minus-zero : squareRoot binary64 (bits 0x8000_0000_0000_0000) ≡ bits 0x8000_0000_0000_0000
+unfolding squareRoot ofBits
 root-minus-zero = refl
 
--- by patterns: 4.0, -0.0, 2.0, the smallest and the largest
-pub root-four-bits : squareRoot binary64 (ofBits binary64 0x4010_0000_0000_0000) ≡ ofBits binary64 0x4000_0000_0000_0000
+-- root 2
+pub root-two : squareRoot binary64 (bits 0x4000_0000_0000_0000) ≡ bits 0x3FF6_A09E_667F_3BCD
 unfolding squareRoot ofBits
-root-four-bits = refl
+root-two = refl
 
-pub root-two-bits : squareRoot binary64 (ofBits binary64 0x4000_0000_0000_0000) ≡ ofBits binary64 0x3FF6_A09E_667F_3BCD
+-- the smallest subnormal
+pub root-least : squareRoot binary64 (bits 1) ≡ bits 0x1E60_0000_0000_0000
 unfolding squareRoot ofBits
-root-two-bits = refl
+root-least = refl
 
-pub root-least-bits : squareRoot binary64 (ofBits binary64 1) ≡ ofBits binary64 0x1E60_0000_0000_0000
+-- the largest finite value
+pub root-most : squareRoot binary64 (bits 0x7FEF_FFFF_FFFF_FFFF) ≡ bits 0x5FEF_FFFF_FFFF_FFFF
 unfolding squareRoot ofBits
-root-least-bits = refl
-
-pub root-most-bits : squareRoot binary64 (ofBits binary64 0x7FEF_FFFF_FFFF_FFFF) ≡ ofBits binary64 0x5FEF_FFFF_FFFF_FFFF
-unfolding squareRoot ofBits
-root-most-bits = refl
+root-most = refl

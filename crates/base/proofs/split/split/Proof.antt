@@ -1,10 +1,9 @@
 use borrow.Author.Needs.{needs}
-use mathlib.Core.Path.{_≡_, sym, subst}
-use Prim.Native.Nat.{ℕ, _+_, _-_, _*_, _/_, _%_, _^_, _≤_, _<_}
+use mathlib.Core.Path.{_≡_}
+use Prim.Native.Nat.{ℕ, _-_, _%_, _^_, _≤_}
 use native.Mathlib.Omega.{arith}
-use lib.Bits.{bitAnd, bitOr, and-mask}
+use lib.Bits.{bitAnd, and-mask}
 use lib.Count.{leadingZeros}
-use Rattle.base.specs.Split.{Scaled}
 use Rattle.base.proofs.Splits.{zeros-from, low-digits, split-low, split-high}
 use Rattle.base.proofs.split.split.Statement.{statement}
 use Rattle.base.proofs.split.split.Tie as tie
