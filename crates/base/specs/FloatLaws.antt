@@ -11,7 +11,7 @@ use lib.Arith.{le→nltb}
 use lib.IntN.{ℤ}
 use lib.Ieee.{Float, nan, inf, fin, binary64, prec, low, hid, top, ones, up, down, units, odd, round, ofFields, ofBits, toBits, nanBits, fits, isNan, eq, ne, lt, neg, div, level}
 use lib.Ieee.Compare.{differs-from-itself}
-use lib.Ieee.Bits.{ofBits-toBits, nanBits-is, nanBits-above}
+use lib.Ieee.Bits.{is-false, ofBits-toBits, nanBits-is, nanBits-above}
 use lib.Ieee.Fits.{round-is, up-pos}
 use lib.Ieee.Positive.{positive}
 use Rattle.base.specs.Floats.{bits, sign, signed, abs}
@@ -25,6 +25,15 @@ unfolding ne isNan
 no-nan nan h = absurd (true≢false h)
 no-nan (inf s) h = tt
 no-nan (fin s m e) h = tt
+
+-- the test by which code finds a NaN
+pub nan-test : (x : Float) → ne x x ≡ isNan x
+unfolding isNan
+nan-test x = by (ne x x) refl
+  where
+    by : (b : Bool) → ne x x ≡ b → b ≡ isNan x
+    by true h = sym (ap isNan (is-nan x h))
+    by false h = sym (is-false (isNan x) (no-nan x h))
 
 pub positive-no-nan : (x : Float) → T (positive x) → T (not (isNan x))
 unfolding isNan
@@ -176,3 +185,18 @@ the-rest (inf false) a b c = inl refl
 the-rest (fin s zero e) a b c = absurd (zero-equal s e b)
 the-rest (fin true (suc m) e) a b c = absurd (negative-below m e c)
 the-rest (fin false (suc m) e) a b c = inr (lt→ltb 0 (suc m) (zero-lt-suc m))
+
+-- what equals the infinity is it, so what does not is finite
+pub is-inf : (x : Float) → eq x (inf false) ≡ true → x ≡ inf false
+unfolding eq
+is-inf nan h = absurd (false≢true h)
+is-inf (inf true) h = absurd (false≢true h)
+is-inf (inf false) h = refl
+is-inf (fin s m e) h = absurd (false≢true h)
+
+pub is-positive : (x : Float) → ne x x ≡ false → eq x (bits 0) ≡ false → lt x (bits 0) ≡ false → eq x (inf false) ≡ false → T (positive x)
+unfolding eq
+is-positive x a b c d = elim (the-rest x a b c) [
+  | inl e ↦ absurd (true≢false (sym (ap (λ (y : Float). eq y (inf false)) e) ∙ d))
+  | inr p ↦ p
+]

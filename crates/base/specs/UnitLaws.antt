@@ -72,7 +72,7 @@ pub record Units (m i : ℕ) (e : ℤ) : Type 0 where
   pub value : m * up e * 2 ^ 1074 ≡ m * 2 ^ i * down e
   pub under : m * 2 ^ i < 2 ^ 2098
 
-pow-le-back : (a l : ℕ) → 2 ^ a ≤ 2 ^ l → a ≤ l
+pub pow-le-back : (a l : ℕ) → 2 ^ a ≤ 2 ^ l → a ≤ l
 pow-le-back a l h = le-of-suc-le-suc (lt-of-not-le (λ (g : suc l ≤ a). lt-irrefl (2 ^ l) (lt-of-lt-of-le (pow-lt g) h)))
 
 pub shift-of : ℤ → ℕ
@@ -124,7 +124,7 @@ ofBits-is : (b : ℕ) → ofBits binary64 b ≡ ofFields binary64 (leb 922337203
 unfolding ofBits
 ofBits-is b = refl
 
-clear : (b : ℕ) → b < 9218868437227405312 → ofBits binary64 b ≡ ofFields binary64 false (b / 2 ^ 52) (b % 2 ^ 52)
+pub clear : (b : ℕ) → b < 9218868437227405312 → ofBits binary64 b ≡ ofFields binary64 false (b / 2 ^ 52) (b % 2 ^ 52)
 clear b h =
     let l : b < 9223372036854775808 = omega arith in
     ofBits-is b

@@ -1,0 +1,2 @@
+// The C interface: every function that libcauchy.a exports. None has a `requires`.
+pub mod numbers;

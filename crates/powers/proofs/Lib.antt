@@ -1,0 +1,5 @@
+pub mod Patterns
+pub mod Scalings
+pub mod Wholes
+pub mod Bounds
+pub mod Binaries

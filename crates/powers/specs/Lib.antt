@@ -1,0 +1,5 @@
+pub mod Arc
+pub mod Log
+pub mod Exp
+pub mod Power
+pub mod Rows
