@@ -223,3 +223,11 @@ meshRadius = bits 0x4080_8400_0000_0000
 pub meshRadius-is : meshRadius ≡ decimal 5285 1
 unfolding ofBits round
 meshRadius-is = refl
+
+-- a volume of this absolute value or less has no centroid: 1e-30
+abbrev pub volumeLimit : Float
+volumeLimit = skipLimit
+
+-- a raw mass, or a density at the origin, of this absolute value or less gives no scale: 1e-30
+abbrev pub scaleLimit : Float
+scaleLimit = skipLimit

@@ -2,7 +2,9 @@ pub mod Loops
 pub mod LoopLaws
 pub mod Floats
 pub mod FloatLaws
+pub mod OrderLaws
 pub mod Constants
 pub mod Split
 pub mod UnitLaws
 pub mod Refusals
+pub mod Answers

@@ -1,11 +1,11 @@
 -- Laws of counting loops: the turns that are left, done on the state as it is, give the loop's result w. Assumes nothing.
 use mathlib.Core.Path.{_≡_, refl, ap, subst⁻¹}
-use Prim.Native.Nat.{ℕ, suc, _+_, _-_, _≤_, _<_}
+use Prim.Native.Nat.{ℕ, zero, suc, _+_, _-_, _≤_, _<_}
 use native.Mathlib.Numerals.{add-one}
 use mathlib.Core.List.{List}
 use lib.ListN.{set}
 use native.Mathlib.Omega.{arith}
-use native.Mathlib.Nat.{sub-zero}
+use native.Mathlib.Nat.{sub-zero, zero-add, add-zero, suc-add, add-suc}
 use Rattle.base.specs.Loops.{times, down}
 
 -- ---- counting up: at i, of n, with the state s
@@ -42,6 +42,27 @@ module _ {S : Type 0} {f : ℕ → S → S} {n : ℕ} {s w : S} where
   -- a loop from 0
   pub from-zero : times f n 0 s ≡ w → Left f n 0 s w
   from-zero e = record { within = omega arith; same = rw sub-zero e }
+
+-- ---- turns that do the same, done from i on, below n
+module _ {S : Type 0} {f g : ℕ → S → S} {n : ℕ} (same : (i : ℕ) (s : S) → i < n → f i s ≡ g i s) where
+  pub same-from : (k i : ℕ) (s : S) → i + k ≤ n → times f k i s ≡ times g k i s
+  unfolding times
+  same-from zero i s h = refl
+  same-from (suc k) i s h = rw (same i s (omega arith)) (same-from k (suc i) (g i s) (omega arith))
+
+  pub times-same : (s : S) → times f n 0 s ≡ times g n 0 s
+  times-same s = same-from n 0 s (omega arith)
+
+-- ---- k turns, then j turns more
+module _ {S : Type 0} (f : ℕ → S → S) where
+  pub times-more : (k j i : ℕ) (s : S) → times f (k + j) i s ≡ times f j (i + k) (times f k i s)
+  unfolding times
+  times-more zero j i s = rw (zero-add, add-zero) refl
+  times-more (suc k) j i s = rw (suc-add k j, add-suc i k, ← suc-add i k) (times-more k j (suc i) (f i s))
+
+  pub times-suc : (k i : ℕ) (s : S) → times f (suc k) i s ≡ f (i + k) (times f k i s)
+  unfolding times
+  times-suc k i s = rw add-one at (times-more k 1 i s)
 
 -- ---- counting down: k turns are left
 pub record Lower {S : Type 0} (f : ℕ → S → S) (k : ℕ) (s w : S) : Type 0 where

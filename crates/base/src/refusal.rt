@@ -32,6 +32,12 @@ pub enum Refusal {
     BadLine,
 }
 
+// What a check of a call's arguments finds: nothing, or the one refusal that is answered.
+pub enum Checked {
+    Passed,
+    Failed(Refusal),
+}
+
 // 01's number of a refusal.
 pub fn refusal_number(refusal: Refusal) -> u32
     ensures { λ r. ⌜ r ≡ number refusal ⌝ }
