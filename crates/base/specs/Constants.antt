@@ -156,13 +156,20 @@ pub stayLimit-is : stayLimit ≡ decimal 1 9
 unfolding ofBits round
 stayLimit-is = refl
 
--- added to the diagonal of the normal equations; a coefficient is kept above it
+-- added to the diagonal of the normal equations
 abbrev pub ridge : Float
 ridge = bits 0x3d71_9799_812d_ea11
 
 pub ridge-is : ridge ≡ decimal 1 12
 unfolding ofBits round
 ridge-is = refl
+
+-- a coefficient is kept where its absolute value exceeds it
+abbrev pub keepLimit : Float
+keepLimit = ridge
+
+pub keepLimit-is : keepLimit ≡ decimal 1 12
+keepLimit-is = ridge-is
 
 -- ---- 01, "Volume, mass, weights"
 
@@ -224,10 +231,16 @@ pub meshRadius-is : meshRadius ≡ decimal 5285 1
 unfolding ofBits round
 meshRadius-is = refl
 
--- a volume of this absolute value or less has no centroid: 1e-30
+-- volume_centroid is zeros unless the volume's absolute value is above it
 abbrev pub volumeLimit : Float
 volumeLimit = skipLimit
 
--- a raw mass, or a density at the origin, of this absolute value or less gives no scale: 1e-30
+pub volumeLimit-is : volumeLimit ≡ decimal 1 30
+volumeLimit-is = skipLimit-is
+
+-- a raw mass, or a density at the origin, of this absolute value or less gives no scale
 abbrev pub scaleLimit : Float
 scaleLimit = skipLimit
+
+pub scaleLimit-is : scaleLimit ≡ decimal 1 30
+scaleLimit-is = skipLimit-is

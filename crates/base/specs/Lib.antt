@@ -2,6 +2,7 @@ pub mod Loops
 pub mod LoopLaws
 pub mod Floats
 pub mod FloatLaws
+pub mod ChoiceLaws
 pub mod OrderLaws
 pub mod Constants
 pub mod Split

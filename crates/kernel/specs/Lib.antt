@@ -1,1 +1,3 @@
 pub mod Kernels
+pub mod KernelLaws
+pub mod File

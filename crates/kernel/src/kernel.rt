@@ -2,7 +2,9 @@
 ghost use mathlib.Core.Path.{_≡_};
 ghost use Prim.Native.Nat.{_+_, _*_, _≤_};
 ghost use lib.ListN.{length};
-ghost use Rattle.kernel.specs.Kernels.{kernelAt};
+ghost use Rattle.kernel.specs.Kernels.{kernelAt, listCheck, kernelSet};
+use base::refusal::Checked;
+use base::refusal::Refusal;
 
 // Centre, inverse width, weight and exponent.
 #[repr(C)]
@@ -25,4 +27,28 @@ pub fn kernel_at(kernels: &[f64], i: usize) -> Kernel
         w: kernels[o + 4],
         alpha: kernels[o + 5],
     }
+}
+
+// Refusal 9 of a list whose length is not a multiple of 6.
+pub fn check_list(kernels: &[f64]) -> Checked
+    ensures { λ r. ⌜ r ≡ listCheck (now (kernels .entry)) ⌝ }
+{
+    if kernels.len() % 6 == 0 {
+        return Checked::Passed;
+    }
+    Checked::Failed(Refusal::ShortList)
+}
+
+// Writes a kernel to place i of a list.
+pub fn write_kernel(kernels: &mut [f64], i: usize, k: Kernel)
+    requires { ⌜ 6 * i + 6 ≤ length (now kernels) ⌝ }
+    ensures { λ _. ⌜ now (kernels .exit) ≡ kernelSet (now (kernels .entry)) i k ⌝ }
+{
+    let o = 6 * i;
+    kernels[o] = k.c[0];
+    kernels[o + 1] = k.c[1];
+    kernels[o + 2] = k.c[2];
+    kernels[o + 3] = k.sigma;
+    kernels[o + 4] = k.w;
+    kernels[o + 5] = k.alpha;
 }

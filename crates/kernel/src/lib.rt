@@ -1,2 +1,4 @@
-// A density kernel, and lists of kernels as six floats each: c, sigma, w, alpha.
+// A density kernel, lists of kernels as six floats each (c, sigma, w, alpha), and a kernel as it
+// arrives from a file. What users call, `kernel_from_file`, has no `requires`.
+pub mod file;
 pub mod kernel;

@@ -1,0 +1,5 @@
+pub mod Densitize
+pub mod Conventions
+pub mod Reports
+pub mod Laws
+pub mod Rows

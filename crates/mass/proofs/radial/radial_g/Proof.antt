@@ -1,0 +1,17 @@
+-- `mass::radial::radial_g` meets its contract: its test decides between series and quotient. Assumes nothing.
+use borrow.Author.Needs.{needs}
+use Rattle.mass.specs.Radial.{radialG}
+use Rattle.mass.proofs.radial.radial_g.Statement.{statement}
+use Rattle.mass.proofs.radial.radial_g.Tie as tie
+
+returns : tie.Need-returns
+unfolding radialG
+returns c = rw (← c .before .before .abs .ensures, c .before .if1 .taken) (c .radial-g-series .ensures)
+
+returns-2 : tie.Need-returns-2
+unfolding radialG
+returns-2 c = rw (← c .before .before .abs .ensures, c .before .if1 .left, c .arc .ensures)
+
+pub radial-g-spec : {M : Type 1} → statement M
+radial-g-spec =
+    tie.close (tie.spec (λ c κs. search needs) (λ c κs. search needs) (λ c κs. search needs) returns returns-2)

@@ -1,0 +1,8 @@
+pub mod Dunavant
+pub mod Radial
+pub mod Volume
+pub mod Centroid
+pub mod Total
+pub mod Calls
+pub mod Laws
+pub mod Rows

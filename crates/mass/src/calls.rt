@@ -1,0 +1,81 @@
+// The calls on a mesh that is given beside them: volumes, centroid, mass. None has a `requires`;
+// a mesh or a list that will not do is refused by its number.
+ghost use mathlib.Core.Path.{_≡_};
+ghost use lib.ListN.{length};
+ghost use Rattle.mass.specs.Calls.{measuredAs, locatedAs, kernelVolumeCall, bodyVolumeCall, volumeCentroidCall, fieldCheck, fieldMassCall};
+use crate::centroid::body_volume_of;
+use crate::centroid::centroid_of;
+use crate::total::field_mass_of;
+use crate::volume::volume_of;
+use base::refusal::Checked;
+use base::refusal::Refusal;
+use kernel::kernel::check_list;
+use mesh::check::check_mesh;
+use mesh::vectors::V3;
+
+// A float, or the refusal.
+pub enum Measured {
+    Value(f64),
+    Refused(Refusal),
+}
+
+// A point, or the refusal.
+pub enum Located {
+    At(V3),
+    Refused(Refusal),
+}
+
+// The volume of (1 + sigma² |x - c|²)^-1 over the body.
+pub fn kernel_volume(xyz: &[f64], faces: &[u32], c: V3, sigma: f64) -> Measured
+    ensures { λ r. ⌜ measuredAs r ≡ kernelVolumeCall (now (xyz .entry)) (now (faces .entry)) c sigma ⌝ }
+{
+    let checked = check_mesh(xyz, faces);
+    match checked {
+        Checked::Passed => Measured::Value(volume_of(xyz, faces, c, sigma)),
+        Checked::Failed(refusal) => Measured::Refused(refusal),
+    }
+}
+
+// The enclosed volume, signed.
+pub fn body_volume(xyz: &[f64], faces: &[u32]) -> Measured
+    ensures { λ r. ⌜ measuredAs r ≡ bodyVolumeCall (now (xyz .entry)) (now (faces .entry)) ⌝ }
+{
+    let checked = check_mesh(xyz, faces);
+    match checked {
+        Checked::Passed => Measured::Value(body_volume_of(xyz, faces)),
+        Checked::Failed(refusal) => Measured::Refused(refusal),
+    }
+}
+
+// The centroid of the enclosed volume, zeros where that is tiny or no number.
+pub fn volume_centroid(xyz: &[f64], faces: &[u32]) -> Located
+    ensures { λ r. ⌜ locatedAs r ≡ volumeCentroidCall (now (xyz .entry)) (now (faces .entry)) ⌝ }
+{
+    let checked = check_mesh(xyz, faces);
+    match checked {
+        Checked::Passed => Located::At(centroid_of(xyz, faces)),
+        Checked::Failed(refusal) => Located::Refused(refusal),
+    }
+}
+
+// Refusals 1, 2, 3 of a mesh, then 9 of a list of kernels.
+fn check_field(xyz: &[f64], faces: &[u32], kernels: &[f64]) -> Checked
+    ensures { λ r. ⌜ r ≡ fieldCheck (length (now (xyz .entry))) (now (faces .entry)) (now (kernels .entry)) ⌝ }
+{
+    let checked = check_mesh(xyz, faces);
+    match checked {
+        Checked::Passed => check_list(kernels),
+        Checked::Failed(refusal) => Checked::Failed(refusal),
+    }
+}
+
+// The mass of a list of kernels over the body: weight times volume, added up.
+pub fn kernel_field_mass(xyz: &[f64], faces: &[u32], kernels: &[f64]) -> Measured
+    ensures { λ r. ⌜ measuredAs r ≡ fieldMassCall (now (xyz .entry)) (now (faces .entry)) (now (kernels .entry)) ⌝ }
+{
+    let checked = check_field(xyz, faces, kernels);
+    match checked {
+        Checked::Passed => Measured::Value(field_mass_of(xyz, faces, kernels)),
+        Checked::Failed(refusal) => Measured::Refused(refusal),
+    }
+}

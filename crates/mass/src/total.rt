@@ -1,0 +1,36 @@
+// The mass of a list of kernels inside a mesh that is sound.
+ghost use mathlib.Core.Path.{_≡_};
+ghost use lib.ListN.{length};
+ghost use Rattle.mesh.specs.Triangles.{triangleAt, faceCount, Sound};
+ghost use Rattle.mass.specs.Total.{centreOf, fieldMass};
+use crate::volume::volume_of;
+use kernel::kernel::Kernel;
+use kernel::kernel::kernel_at;
+use mesh::vectors::V3;
+
+// A kernel's centre.
+fn centre_of(k: Kernel) -> V3
+    ensures { λ r. ⌜ r ≡ centreOf k ⌝ }
+{
+    V3 {
+        x: k.c[0],
+        y: k.c[1],
+        z: k.c[2],
+    }
+}
+
+// Weight times volume of each kernel, added up.
+pub fn field_mass_of(xyz: &[f64], faces: &[u32], kernels: &[f64]) -> f64
+    requires { ⌜ Sound (length (now xyz)) (now faces) ⌝ }
+    ensures { λ r. ⌜ r ≡ fieldMass (triangleAt (now (xyz .entry)) (now (faces .entry))) (faceCount (now (faces .entry))) (now (kernels .entry)) ⌝ }
+{
+    let mut total = 0.0;
+    let mut i: usize = 0;
+    let count = kernels.len() / 6;
+    while i < count {
+        let k = kernel_at(kernels, i);
+        total += k.w * volume_of(xyz, faces, centre_of(k), k.sigma);
+        i += 1;
+    }
+    total
+}

@@ -1,0 +1,4 @@
+pub mod Vectors
+pub mod Triangles
+pub mod Checks
+pub mod CheckLaws

@@ -1,0 +1,36 @@
+-- `cross` meets its contract: the cells that are left, added to, give `crossed`. Assumes nothing.
+use borrow.Author.Needs.{needs}
+use Prim.Native.Nat.{_-_}
+use mathlib.Core.Path.{refl}
+use Rattle.base.specs.LoopLaws.{Left, from-zero, goes, ended}
+use Rattle.pieces.specs.Fit.{crossed, crossAt}
+use Rattle.pieces.proofs.normal.cross.Statement.{statement}
+use Rattle.pieces.proofs.normal.cross.Tie as tie
+
+abbrev Inv-loop : tie.InvT-loop
+Inv-loop row₀ terms basis wa b₀ row b = Left (crossAt basis wa) terms b row (crossed terms basis wa row₀)
+
+abbrev μ-loop : tie.MeasureT-loop
+μ-loop row₀ terms basis wa b₀ row b = terms - b
+
+loop-holds : tie.Need-loop-holds Inv-loop μ-loop
+unfolding crossed
+loop-holds c = from-zero refl
+
+pub cross-spec : {M : Type 1} → statement M
+cross-spec =
+    tie.close
+    (tie.spec
+    Inv-loop
+    μ-loop
+    loop-holds
+    (λ c. search needs)
+    (λ c. search needs)
+    (λ c. search needs)
+    (λ c. search needs)
+    (λ c. search needs)
+    (λ c. search needs)
+    (λ c. search needs)
+    (λ c. search needs)
+    (λ c. search (goes, needs))
+    (λ c. search (ended, needs)))

@@ -1,0 +1,5 @@
+pub mod Fit
+pub mod Pieces
+pub mod Kernels
+pub mod PieceLaws
+pub mod Rows

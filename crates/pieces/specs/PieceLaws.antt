@@ -1,0 +1,218 @@
+-- Theorems of a kernel's pieces: how many there are, that the rest of their arrays is +0, where the fallback stands, that the peak error is at least +0, what they do not depend on, and what a NaN exponent gives. Assumes nothing.
+use mathlib.Core.Path.{_≡_, refl, ap, _∙_}
+use mathlib.Core.Logic.{⊎-elim}
+use mathlib.Core.Bool.{Bool, true, false, cond, _||_}
+use mathlib.Core.List.{List}
+use Prim.Native.Nat.{ℕ, zero, suc, _+_, _≤_, _<_}
+use native.Mathlib.Nat.{le-trans}
+use native.Mathlib.Omega.{arith}
+use lib.ListN.{getD, set, replicate}
+use lib.Seq.{getD-set-other}
+use lib.Ieee.{Float, nan, ofBits, lt, le, eq, add, sub, mul, neg, isNan}
+use Rattle.base.specs.Floats.{_⊖_, _⊗_, bits, +0, abs}
+use Rattle.base.specs.Constants.{one, ridge}
+use Rattle.base.specs.Loops.{times}
+use Rattle.base.specs.ChoiceLaws.{cond-of}
+use Rattle.base.specs.OrderLaws.{lt-nan, abs-least}
+use Rattle.powers.specs.Exp.{exp}
+use Rattle.powers.specs.Log.{log}
+use Rattle.powers.specs.Power.{power, log10}
+use Rattle.solve.specs.Elimination.{flat, eliminated}
+use Rattle.solve.specs.Solve.{answers}
+use Rattle.pieces.specs.Fit.{zeros, scalesOf, sampleOf, targetOf, coefficientsOf, approx, greater, errorAt, peakError}
+use Rattle.pieces.specs.Pieces.{delta, stays, sizeOf, curveOf, none, itself, keep, keepAt, kept, fitted, decomposed}
+use Rattle.kernel.specs.declared.kernel.Kernel.{Kernel}
+use Rattle.pieces.specs.declared.points.Curve.{Curve}
+use Rattle.pieces.specs.declared.pieces.Size.{Size}
+use Rattle.pieces.specs.declared.pieces.Pieces.{Pieces}
+
+-- ---- how many
+
+-- what a fit's size is within
+pub record Sized (z : Size) : Type 0 where
+  pub few : z .terms ≤ 16
+  pub not-one : z .terms ≡ 1 → ⊥
+  pub several : 1 < z .samples
+  pub bounded : z .samples ≤ 48
+
+pub sized : (d : Float) → Sized (sizeOf d)
+unfolding sizeOf
+sized d =
+    cond-of Sized (le d one)
+    (record { few = omega arith; not-one = λ e. omega arith; several = omega arith; bounded = omega arith })
+    (cond-of Sized (lt one d)
+    (record { few = omega arith; not-one = λ e. omega arith; several = omega arith; bounded = omega arith })
+    (record { few = omega arith; not-one = λ e. omega arith; several = omega arith; bounded = omega arith }))
+
+-- a piece more, or as many as before
+pub keep-count : (p : Pieces) (s k : Float) {i : ℕ} → p .count ≤ i → keep p s k .count ≤ i + 1
+unfolding keep
+keep-count p s k {i} h = cond-of (λ (q : Pieces). q .count ≤ i + 1) (lt ridge (abs k)) (omega arith) (omega arith)
+
+kept-count : (terms : ℕ) (sigma : Float) (scales coefs : List Float) (p : Pieces) → p .count ≡ 0 → kept terms sigma scales coefs p .count ≤ terms
+unfolding kept times
+kept-count terms sigma scales coefs p h = omega (arith, go terms 0 0 p (omega arith))
+  where
+    go : (k i j : ℕ) (q : Pieces) → q .count ≤ j → times (keepAt sigma scales coefs) k i q .count ≤ j + k
+    go zero i j q l = omega arith
+    go (suc k) i j q l = omega (arith, go k (suc i) (j + 1) (keepAt sigma scales coefs i q) (keep-count q (sigma ⊗ getD scales i nan) (getD coefs i nan) l))
+
+-- the most pieces that a kernel of this exponent can have, whatever its width and the radius
+abbrev pub mostPieces : Float → ℕ
+mostPieces alpha = cond (stays alpha) 1 (sizeOf (delta alpha) .terms)
+
+pub pieces-within : (k : Kernel) (radius : Float) → decomposed k radius .count ≤ mostPieces (k .alpha)
+unfolding decomposed fitted
+pieces-within k radius = go (stays (k .alpha))
+  where
+    terms : ℕ
+    terms = sizeOf (delta (k .alpha)) .terms
+
+    go : (b : Bool) → cond b (itself k) (fitted terms (curveOf k radius) (k .sigma)) .count ≤ cond b 1 terms
+    go true = omega arith
+    go false = kept-count _ _ _ _ _ refl
+
+-- "So a kernel has at most 16 pieces"
+pub at-most-16 : (k : Kernel) (radius : Float) → decomposed k radius .count ≤ 16
+at-most-16 k radius =
+    le-trans (pieces-within k radius) (cond-of (λ (n : ℕ). n ≤ 16) (stays (k .alpha)) (omega arith) (sized (delta (k .alpha)) .few))
+
+-- ---- what is not a piece is +0
+
+pub record Clean (p : Pieces) : Type 0 where
+  pub no-sigma : (i : ℕ) → p .count ≤ i → getD (p .sigma) i +0 ≡ +0
+  pub no-coefficient : (i : ℕ) → p .count ≤ i → getD (p .coefficient) i +0 ≡ +0
+
+all-zero : (n i : ℕ) → getD (replicate n +0) i +0 ≡ +0
+all-zero zero i = refl
+all-zero (suc n) zero = refl
+all-zero (suc n) (suc i) = all-zero n i
+
+set-below : (xs : List Float) (j i : ℕ) (x : Float) → j < i → getD (set xs j x) i +0 ≡ getD xs i +0
+set-below xs j i x h = getD-set-other xs j i x +0 (λ e. omega arith)
+
+keep-clean : (p : Pieces) (s k : Float) → Clean p → Clean (keep p s k)
+unfolding keep
+keep-clean p s k h =
+    cond-of Clean (lt ridge (abs k))
+    (record {
+      no-sigma = λ i l. set-below (p .sigma) (p .count) i s (omega arith) ∙ h .no-sigma i (omega arith);
+      no-coefficient = λ i l. set-below (p .coefficient) (p .count) i k (omega arith) ∙ h .no-coefficient i (omega arith);
+    })
+    h
+
+kept-clean : (terms : ℕ) (sigma : Float) (scales coefs : List Float) (p : Pieces) → Clean p → Clean (kept terms sigma scales coefs p)
+unfolding kept times
+kept-clean terms sigma scales coefs p h = go terms 0 p h
+  where
+    go : (k i : ℕ) (q : Pieces) → Clean q → Clean (times (keepAt sigma scales coefs) k i q)
+    go zero i q c = c
+    go (suc k) i q c = go k (suc i) (keepAt sigma scales coefs i q) (keep-clean q _ _ c)
+
+pub clean : (k : Kernel) (radius : Float) → Clean (decomposed k radius)
+unfolding decomposed fitted
+clean k radius =
+    cond-of Clean (stays (k .alpha))
+    (record {
+      no-sigma = λ i l. set-below zeros 0 i (k .sigma) l ∙ all-zero 16 i;
+      no-coefficient = λ i l. set-below zeros 0 i one l ∙ all-zero 16 i;
+    })
+    (kept-clean _ _ _ _ _ (record { no-sigma = λ i l. all-zero 16 i; no-coefficient = λ i l. all-zero 16 i }))
+
+-- ---- the fallback
+
+-- "coefficient 1 at terms/2"
+pub fallback-13 : (c : ℕ) → coefficientsOf 13 zeros (flat c) ≡ set zeros 6 one
+unfolding coefficientsOf
+fallback-13 c = refl
+
+pub fallback-16 : (c : ℕ) → coefficientsOf 16 zeros (flat c) ≡ set zeros 8 one
+unfolding coefficientsOf
+fallback-16 c = refl
+
+-- ---- the peak error
+
+greater-least : (a x : Float) → le +0 a ≡ true → le +0 (greater a (abs x)) ≡ true
+unfolding greater
+greater-least a x h =
+    ⊎-elim (λ n. rw n (rw (lt-nan a) h)) (λ g. cond-of (λ (y : Float). le +0 y ≡ true) (lt a (abs x)) g h) (abs-least x)
+
+zero-least : le +0 +0 ≡ true
+unfolding le ofBits
+zero-least = refl
+
+error-least : (terms : ℕ) (scales coefs : List Float) (curve : Curve) → le +0 (peakError terms scales coefs curve) ≡ true
+unfolding peakError times errorAt
+error-least terms scales coefs curve = go (curve .samples) 0 +0 zero-least
+  where
+    go : (k i : ℕ) (e : Float) → le +0 e ≡ true → le +0 (times (errorAt terms scales coefs curve) k i e) ≡ true
+    go zero i e h = h
+    go (suc k) i e h = go k (suc i) _ (greater-least e _ h)
+
+keep-error : (p : Pieces) (s k : Float) → keep p s k .error ≡ p .error
+unfolding keep
+keep-error p s k = cond-of (λ (q : Pieces). q .error ≡ p .error) (lt ridge (abs k)) refl refl
+
+kept-error : (terms : ℕ) (sigma : Float) (scales coefs : List Float) (p : Pieces) → kept terms sigma scales coefs p .error ≡ p .error
+unfolding kept times
+kept-error terms sigma scales coefs p = go terms 0 p
+  where
+    go : (k i : ℕ) (q : Pieces) → times (keepAt sigma scales coefs) k i q .error ≡ q .error
+    go zero i q = refl
+    go (suc k) i q = go k (suc i) (keepAt sigma scales coefs i q) ∙ keep-error q _ _
+
+-- "Peak error is never NaN nor below 0"
+pub error-at-least-zero : (k : Kernel) (radius : Float) → le +0 (decomposed k radius .error) ≡ true
+unfolding decomposed fitted
+error-at-least-zero k radius =
+    cond-of (λ (p : Pieces). le +0 (p .error) ≡ true) (stays (k .alpha)) zero-least (rw kept-error (error-least _ _ _ _))
+
+-- ---- what they do not depend on
+
+-- a kernel of another centre and weight has the same pieces
+pub same-pieces : (c c' : List Float) (sigma w w' alpha radius : Float)
+    → decomposed (record { c = c; sigma = sigma; w = w; alpha = alpha }) radius ≡ decomposed (record { c = c'; sigma = sigma; w = w'; alpha = alpha }) radius
+unfolding decomposed
+same-pieces c c' sigma w w' alpha radius = refl
+
+-- ---- a NaN exponent
+
+power-nan : (b : Float) → power b nan ≡ cond (eq b one) one nan
+unfolding power exp eq mul isNan
+power-nan b = go (eq b one)
+  where
+    go : (t : Bool) → cond (t || eq nan (bits 0)) one (exp (nan ⊗ log b)) ≡ cond t one nan
+    go true = refl
+    go false = refl
+
+one-stays : (b : Float) → greater one (abs (+0 ⊖ power b nan)) ≡ one
+unfolding greater abs sub lt ofBits
+one-stays b = rw (power-nan b) (go (eq b one))
+  where
+    go : (t : Bool) → greater one (abs (+0 ⊖ cond t one nan)) ≡ one
+    go true = refl
+    go false = refl
+
+module _ (scales coefs : List Float) (l : Float) where
+  abbrev curve : Curve
+  curve = record { alpha = nan; samples = 24; reach = l }
+
+  -- at the peak the deviation is 1
+  first : errorAt 0 scales coefs curve 0 +0 ≡ one
+  unfolding times errorAt approx sampleOf targetOf power greater abs add sub mul neg eq lt ofBits
+  first = refl
+
+  -- after it every deviation is 1 or a NaN
+  later : (k i : ℕ) → times (errorAt 0 scales coefs curve) k i one ≡ one
+  unfolding times errorAt approx targetOf neg
+  later zero i = refl
+  later (suc k) i = rw one-stays (later k (suc i))
+
+  error-one : peakError 0 scales coefs curve ≡ one
+  unfolding peakError times
+  error-one = rw first (later 23 1)
+
+-- "NaN alpha gives no piece and error 1"
+pub nan-alpha : (c : List Float) (sigma w radius : Float) → decomposed (record { c = c; sigma = sigma; w = w; alpha = nan }) radius ≡ none one
+unfolding decomposed fitted kept scalesOf coefficientsOf eliminated answers times abs sub le sizeOf lt ofBits
+nan-alpha c sigma w radius = ap none (error-one zeros zeros (log10 (greater one (sigma ⊗ greater one radius))))

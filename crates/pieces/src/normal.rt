@@ -1,0 +1,98 @@
+// The normal equations of the fit, summed sample by sample in a 16 by 17 matrix.
+ghost use mathlib.Core.Path.{_≡_};
+ghost use Prim.Native.Nat.{_<_, _≤_};
+ghost use Rattle.pieces.specs.Fit.{termOf, basisOf, crossed, rowAt, sampled, sampleAt, equations, ridged};
+use crate::points::Curve;
+use crate::points::sample_of;
+use crate::points::target_of;
+
+// The value at u of the term of a scale.
+fn term_of(scale: f64, u: f64) -> f64
+    ensures { λ r. ⌜ r ≡ termOf scale u ⌝ }
+{
+    1.0 / (1.0 + (scale * u) * (scale * u))
+}
+
+// Writes every term's value at u.
+fn fill_basis(basis: &mut [f64; 16], terms: usize, scales: &[f64; 16], u: f64)
+    requires { ⌜ terms ≤ 16 ⌝ }
+    ensures { λ _. ⌜ now (basis .exit) ≡ basisOf terms (now (scales .entry)) u (now (basis .entry)) ⌝ }
+{
+    let mut i = 0;
+    while i < terms {
+        basis[i] = term_of(scales[i], u);
+        i += 1;
+    }
+}
+
+// Adds wa times each term's value to the left side of a row.
+fn cross(row: &mut [f64; 17], terms: usize, basis: &[f64; 16], wa: f64)
+    requires { ⌜ terms ≤ 16 ⌝ }
+    ensures { λ _. ⌜ now (row .exit) ≡ crossed terms (now (basis .entry)) wa (now (row .entry)) ⌝ }
+{
+    let mut b = 0;
+    while b < terms {
+        row[b] = row[b] + wa * basis[b];
+        b += 1;
+    }
+}
+
+// Adds one sample to row a, left and right side.
+fn add_row(m: &mut [[f64; 17]; 16], terms: usize, basis: &[f64; 16], target: f64, a: usize)
+    requires { ⌜ (terms ≤ 16) × (a < terms) ⌝ }
+    ensures { λ _. ⌜ now (m .exit) ≡ rowAt terms (now (basis .entry)) target a (now (m .entry)) ⌝ }
+{
+    let wa = basis[a];
+    let mut row = m[a];
+    cross(&mut row, terms, basis, wa);
+    row[terms] = row[terms] + wa * target;
+    m[a] = row;
+}
+
+// Adds one sample to every row.
+fn add_sample(m: &mut [[f64; 17]; 16], terms: usize, basis: &[f64; 16], target: f64)
+    requires { ⌜ terms ≤ 16 ⌝ }
+    ensures { λ _. ⌜ now (m .exit) ≡ sampled terms (now (basis .entry)) target (now (m .entry)) ⌝ }
+{
+    let mut a = 0;
+    while a < terms {
+        add_row(m, terms, basis, target, a);
+        a += 1;
+    }
+}
+
+// Adds sample j of the curve.
+fn add_sample_at(m: &mut [[f64; 17]; 16], terms: usize, scales: &[f64; 16], curve: Curve, j: usize)
+    requires { ⌜ (terms ≤ 16) × (1 < curve .samples) × (curve .samples ≤ 48) × (j < curve .samples) ⌝ }
+    ensures { λ _. ⌜ now (m .exit) ≡ sampleAt terms (now (scales .entry)) curve j (now (m .entry)) ⌝ }
+{
+    let u = sample_of(curve, j);
+    let target = target_of(curve.alpha, u);
+    let mut basis = [0.0; 16];
+    fill_basis(&mut basis, terms, scales, u);
+    add_sample(m, terms, &basis, target);
+}
+
+// Adds all samples of the curve.
+pub fn add_samples(m: &mut [[f64; 17]; 16], terms: usize, scales: &[f64; 16], curve: Curve)
+    requires { ⌜ (terms ≤ 16) × (1 < curve .samples) × (curve .samples ≤ 48) ⌝ }
+    ensures { λ _. ⌜ now (m .exit) ≡ equations terms (now (scales .entry)) curve (now (m .entry)) ⌝ }
+{
+    let mut j = 0;
+    while j < curve.samples {
+        add_sample_at(m, terms, scales, curve, j);
+        j += 1;
+    }
+}
+
+// Raises the diagonal, which keeps the equations solvable.
+pub fn add_ridge(m: &mut [[f64; 17]; 16], terms: usize)
+    requires { ⌜ terms ≤ 16 ⌝ }
+    ensures { λ _. ⌜ now (m .exit) ≡ ridged terms (now (m .entry)) ⌝ }
+{
+    let mut i = 0;
+    while i < terms {
+        m[i][i] = m[i][i] + 1e-12;
+        i += 1;
+    }
+}

@@ -1,0 +1,165 @@
+// The pieces of a kernel: itself where its exponent is near 1, else a fit by kernels of exponent 1.
+ghost use mathlib.Core.Path.{_≡_};
+ghost use Prim.Native.Nat.{_<_, _≤_};
+ghost use Rattle.solve.specs.Elimination.{eliminated};
+ghost use Rattle.pieces.specs.Fit.{coefficientsOf};
+ghost use Rattle.pieces.specs.Pieces.{sizeOf, keep, kept, fitted, decomposed, pieceAlpha};
+use crate::error::greater_of;
+use crate::error::peak_error;
+use kernel::kernel::Kernel;
+use crate::normal::add_ridge;
+use crate::normal::add_samples;
+use crate::points::Curve;
+use crate::points::fill_scales;
+use base::floats::abs;
+use powers::power::log10;
+use solve::eliminate::Elimination;
+use solve::eliminate::eliminate;
+use solve::runs::copy_out;
+
+// The size of a fit: how many terms and samples.
+pub struct Size {
+    pub terms: usize,
+    pub samples: usize,
+}
+
+// The pieces of a kernel: the first `count` of each array, the rest +0, and the fit's peak error.
+// A piece's centre is the kernel's, its weight the kernel's times the coefficient.
+pub struct Pieces {
+    pub count: usize,
+    pub sigma: [f64; 16],
+    pub coefficient: [f64; 16],
+    pub error: f64,
+}
+
+// The size of the fit of an exponent that is delta away from 1.
+fn size_of(delta: f64) -> Size
+    ensures { λ r. ⌜ r ≡ sizeOf delta ⌝ }
+{
+    if delta <= 1.0 {
+        return Size {
+            terms: 13,
+            samples: 39,
+        };
+    }
+    if delta > 1.0 {
+        return Size {
+            terms: 16,
+            samples: 48,
+        };
+    }
+    Size {
+        terms: 0,
+        samples: 24,
+    }
+}
+
+// Solves the normal equations for the coefficients; where that fails, one term stands for all.
+fn solve_for(coefficients: &mut [f64; 16], m: &mut [[f64; 17]; 16], terms: usize)
+    requires { ⌜ terms ≤ 16 ⌝ }
+    ensures { λ _. ⌜ now (coefficients .exit) ≡ coefficientsOf terms (now (coefficients .entry)) (eliminated terms (now (m .entry))) ⌝ }
+{
+    let end = eliminate(m, terms);
+    match end {
+        Elimination::Reduced => {
+            copy_out(m, terms, coefficients);
+        }
+        Elimination::Flat(_) => {
+            coefficients[terms / 2] = 1.0;
+        }
+    }
+}
+
+// The pieces with one more, if its coefficient is not negligible; a NaN is dropped.
+fn keep_piece(p: Pieces, sigma: f64, coefficient: f64) -> Pieces
+    requires { ⌜ p .count < 16 ⌝ }
+    ensures { λ r. ⌜ r ≡ keep p sigma coefficient ⌝ }
+{
+    if abs(coefficient) > 1e-12 {
+        let mut out = p;
+        let at = out.count;
+        out.sigma[at] = sigma;
+        out.coefficient[at] = coefficient;
+        out.count = at + 1;
+        return out;
+    }
+    p
+}
+
+// The pieces of all terms, in the order of the scales.
+fn keep_pieces(
+    p: Pieces,
+    terms: usize,
+    sigma: f64,
+    scales: &[f64; 16],
+    coefficients: &[f64; 16],
+) -> Pieces
+    requires { ⌜ (terms ≤ 16) × (p .count ≡ 0) ⌝ }
+    ensures { λ r. ⌜ r ≡ kept terms sigma (now (scales .entry)) (now (coefficients .entry)) p ⌝ }
+{
+    let mut out = p;
+    let mut i = 0;
+    while i < terms {
+        out = keep_piece(out, sigma * scales[i], coefficients[i]);
+        i += 1;
+    }
+    out
+}
+
+// Fits the curve and keeps the pieces.
+fn fit(terms: usize, curve: Curve, sigma: f64) -> Pieces
+    requires { ⌜ (terms ≤ 16) × (terms ≡ 1 → ⊥) × (1 < curve .samples) × (curve .samples ≤ 48) ⌝ }
+    ensures { λ r. ⌜ r ≡ fitted terms curve sigma ⌝ }
+{
+    let mut scales = [0.0; 16];
+    fill_scales(&mut scales, terms);
+    let zeros = [0.0; 17];
+    let mut m = [zeros; 16];
+    add_samples(&mut m, terms, &scales, curve);
+    add_ridge(&mut m, terms);
+    let mut coefficients = [0.0; 16];
+    solve_for(&mut coefficients, &mut m, terms);
+    let none = Pieces {
+        count: 0,
+        sigma: [0.0; 16],
+        coefficient: [0.0; 16],
+        error: peak_error(terms, &scales, &coefficients, curve),
+    };
+    keep_pieces(none, terms, sigma, &scales, &coefficients)
+}
+
+// The pieces of a kernel on a body of this radius.
+pub fn decompose(k: Kernel, radius: f64) -> Pieces
+    ensures { λ r. ⌜ r ≡ decomposed k radius ⌝ }
+{
+    let delta = abs(k.alpha - 1.0);
+    if delta <= 1e-9 {
+        let mut out = Pieces {
+            count: 1,
+            sigma: [0.0; 16],
+            coefficient: [0.0; 16],
+            error: 0.0,
+        };
+        out.sigma[0] = k.sigma;
+        out.coefficient[0] = 1.0;
+        return out;
+    }
+    let size = size_of(delta);
+    let reach = log10(greater_of(1.0, k.sigma * greater_of(1.0, radius)));
+    let curve = Curve {
+        alpha: k.alpha,
+        samples: size.samples,
+        reach,
+    };
+    fit(size.terms, curve, k.sigma)
+}
+
+// The exponent of every piece of a kernel of exponent alpha.
+pub fn piece_alpha(alpha: f64) -> f64
+    ensures { λ r. ⌜ r ≡ pieceAlpha alpha ⌝ }
+{
+    if abs(alpha - 1.0) <= 1e-9 {
+        return alpha;
+    }
+    1.0
+}

@@ -1,0 +1,38 @@
+-- The solver's answer where the matrix is not refused, and rows within a run. Assumes nothing.
+use mathlib.Core.Path.{_≡_}
+use mathlib.Core.List.{List}
+use Prim.Native.Nat.{ℕ, suc, _+_, _*_, _≤_, _<_}
+use native.Mathlib.Nat.{mul-le-mul-right, suc-mul, le-trans}
+use native.Mathlib.Omega.{arith}
+use borrow.Author.Tests.{eq-eqb, le-ltb}
+use lib.ListN.{length}
+use lib.Ieee.{Float}
+use Rattle.base.specs.declared.refusal.Refusal.the-variants.{FlatPivot}
+use Rattle.solve.specs.Elimination.{Matrix, eliminated, endedAs}
+use Rattle.solve.specs.Solve.{loaded, answers, blank, solved, refused, concluded, solution}
+use Rattle.solve.specs.declared.eliminate.Elimination.{Elimination}
+use Rattle.solve.specs.declared.eliminate.Elimination.the-variants.{Reduced, Flat}
+
+-- a row of n + 1 lies within n of them
+pub row-within : (n row : ℕ) → row < n → row * (n + 1) + n + 1 ≤ n * (n + 1)
+row-within n row h =
+    let k : suc row * (n + 1) ≤ n * (n + 1) = mul-le-mul-right (n + 1) h in
+    let e : suc row * (n + 1) ≡ row * (n + 1) + (n + 1) = suc-mul row (n + 1) in
+    omega arith
+
+pub square-within : (n : ℕ) → n ≤ 16 → n * (n + 1) ≤ 272
+square-within n h = le-trans (mul-le-mul-right (n + 1) h) (omega arith)
+
+module _ (n : ℕ) (cells xs : List Float) (m₁ m₂ : Matrix) (r : Elimination) (small : n ≤ 16) (whole : length cells ≡ n * (n + 1)) (room : n ≤ length xs)
+    (read : m₁ ≡ loaded n cells blank) (done : endedAs r m₂ ≡ eliminated n m₁) where
+  concludes : solution n cells xs ≡ concluded n xs (endedAs r m₂)
+  unfolding solution
+  concludes = simp (le-ltb 16 n small, eq-eqb (length cells) (n * (n + 1)) whole, le-ltb (length xs) n room, done, read)
+
+  pub solves : {ys : List Float} → r ≡ Reduced → ys ≡ answers n m₂ xs → solved ys ≡ solution n cells xs
+  unfolding concluded
+  solves e h = simp (h, concludes, e)
+
+  pub refuses : {k : ℕ} → r ≡ Flat k → refused FlatPivot xs ≡ solution n cells xs
+  unfolding concluded
+  refuses e = simp (concludes, e)

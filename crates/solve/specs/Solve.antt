@@ -1,0 +1,73 @@
+-- 01, "Solve (`solve_linear_system`)": the runs, the refusals and the answer. Definitions only.
+use Prim.Native.Nat.{ℕ, _+_, _*_}
+use mathlib.Core.Bool.{Bool, cond, not, _||_}
+use mathlib.Core.List.{List, []}
+use lib.Dec.{eqb, ltb}
+use lib.ListN.{getD, set, length, replicate}
+use lib.Ieee.{Float, nan}
+use Rattle.base.specs.Floats.{+0}
+use Rattle.base.specs.Loops.{times}
+use Rattle.base.specs.Refusals.{number}
+use Rattle.base.specs.declared.refusal.Refusal.{Refusal}
+use Rattle.base.specs.declared.refusal.Refusal.the-variants.{BadMatrix, FlatPivot}
+use Rattle.solve.specs.Elimination.{Matrix, cell, Ended, reduced, flat, eliminated}
+use Rattle.solve.specs.declared.Solve.{Solve}
+use Rattle.solve.specs.declared.Solve.the-variants.{Solved, Refused}
+
+-- ---- the runs
+
+-- n + 1 floats of a run, from a place on, laid over the start of a row
+abbrev pub rowAt : List Float → ℕ → ℕ → List Float → List Float
+rowAt xs from j row = set row j (getD xs (from + j) nan)
+
+unfoldable pub rowOf : ℕ → List Float → ℕ → List Float → List Float
+rowOf n xs from row = times (rowAt xs from) (n + 1) 0 row
+
+-- "n rows of n+1 floats", laid over the start of a matrix
+abbrev pub loadedAt : ℕ → List Float → ℕ → Matrix → Matrix
+loadedAt n xs row m = set m row (rowOf n xs (row * (n + 1)) (getD m row []))
+
+unfoldable pub loaded : ℕ → List Float → Matrix → Matrix
+loaded n xs m = times (loadedAt n xs) n 0 m
+
+-- "the matrix a 16 by 17 array", of zeros
+abbrev pub blank : Matrix
+blank = replicate 16 (replicate 17 +0)
+
+-- column n of a matrix, laid over the first n words of the answer: "Words of the answer past n are untouched"
+abbrev pub answerAt : ℕ → Matrix → ℕ → List Float → List Float
+answerAt n m row xs = set xs row (cell m row n)
+
+unfoldable pub answers : ℕ → Matrix → List Float → List Float
+answers n m xs = times (answerAt n m) n 0 xs
+
+-- ---- the answer
+
+-- 0, or the refusal's number in 01's table, and the words of the answer afterwards
+pub record Solution : Type 0 where
+  pub refusal : ℕ
+  pub words : List Float
+
+abbrev pub solved : List Float → Solution
+solved xs = record { refusal = 0; words = xs }
+
+abbrev pub refused : Refusal → List Float → Solution
+refused r xs = record { refusal = number r; words = xs }
+
+-- row 10: "n > 16, length not n(n+1), or answer shorter than n"
+abbrev pub badMatrix : ℕ → List Float → List Float → Bool
+badMatrix n cells xs = ltb 16 n || not (eqb (length cells) (n * (n + 1))) || ltb (length xs) n
+
+-- row 11: "solve fails"
+unfoldable pub concluded : ℕ → List Float → Ended → Solution
+concluded n xs (reduced m) = solved (answers n m xs)
+concluded n xs (flat c) = refused FlatPivot xs
+
+-- n rows in a run, and the words of the answer before
+unfoldable pub solution : ℕ → List Float → List Float → Solution
+solution n cells xs = cond (badMatrix n cells xs) (refused BadMatrix xs) (concluded n xs (eliminated n (loaded n cells blank)))
+
+-- 01's number for each case of the code's answer, with the words beside it
+abbrev pub solvedAs : Solve → List Float → Solution
+solvedAs Solved xs = solved xs
+solvedAs (Refused r) xs = refused r xs

@@ -1,0 +1,67 @@
+// The choice of pivot and the elimination.
+ghost use mathlib.Core.Path.{_≡_};
+ghost use Prim.Native.Nat.{_≤_};
+ghost use Rattle.solve.specs.Elimination.{better, endedAs, eliminated};
+use crate::matrix::exchange;
+use crate::matrix::scale;
+use crate::matrix::sweep;
+use base::floats::abs;
+
+// How an elimination ended: with a reduced matrix, or at the column of a flat pivot.
+pub enum Elimination {
+    Reduced,
+    Flat(usize),
+}
+
+// A pivot candidate: its row, and its absolute value.
+pub struct Pivot {
+    pub row: usize,
+    pub value: f64,
+}
+
+// The candidate so far, or the new one, which a tie and a NaN take.
+fn better(best: Pivot, row: usize, value: f64) -> Pivot
+    ensures { λ r. ⌜ r ≡ better best row value ⌝ }
+{
+    if best.value > value {
+        return best;
+    }
+    Pivot { row, value }
+}
+
+// Reduces the matrix of n rows, column by column. A flat pivot leaves both loops.
+pub fn eliminate(m: &mut [[f64; 17]; 16], n: usize) -> Elimination
+    requires { ⌜ n ≤ 16 ⌝ }
+    ensures { λ r. ⌜ endedAs r (now (m .exit)) ≡ eliminated n (now (m .entry)) ⌝ }
+{
+    let mut stop = n;
+    let mut col = 0;
+    'columns: while col < n {
+        let mut best = Pivot {
+            row: col,
+            value: abs(m[col][col]),
+        };
+        let mut row = col + 1;
+        'pivots: loop {
+            if row == n {
+                if best.value <= 1e-18 {
+                    stop = col;
+                    break 'columns;
+                }
+                break 'pivots;
+            }
+            best = better(best, row, abs(m[row][col]));
+            row += 1;
+        }
+        let pivot = best.row;
+        exchange(m, col, pivot);
+        scale(m, n, col);
+        sweep(m, n, col);
+        col += 1;
+    }
+    if stop == n {
+        Elimination::Reduced
+    } else {
+        Elimination::Flat(stop)
+    }
+}
