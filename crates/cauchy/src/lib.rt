@@ -1,2 +1,3 @@
 // The C interface: every function that libcauchy.a exports. None has a `requires`.
+pub mod kernels;
 pub mod numbers;

@@ -30,16 +30,16 @@ laid k p xs = times (layAt k p) (p .count) 0 xs
 
 -- 0 or the refusal's number in 01's table, the count of pieces and the peak error, and the words of the run afterwards
 pub record Decomposition : Type 0 where
-  pub outcome : ℕ
+  pub refusal : ℕ
   pub pieces : ℕ
   pub error : Float
   pub words : List Float
 
 abbrev pub written : ℕ → Float → List Float → Decomposition
-written n e xs = record { outcome = 0; pieces = n; error = e; words = xs }
+written n e xs = record { refusal = 0; pieces = n; error = e; words = xs }
 
 abbrev pub refused : Refusal → List Float → Decomposition
-refused r xs = record { outcome = number r; pieces = 0; error = +0; words = xs }
+refused r xs = record { refusal = number r; pieces = 0; error = +0; words = xs }
 
 -- row 9: "run to be written under 6 floats per piece"
 unfoldable pub decomposition : Kernel → Float → List Float → Decomposition

@@ -15,5 +15,5 @@ decompose-into-spec =
     (λ c κs. omega (arith, few _ _ _ (c .before .before .before .decompose .ensures)))
     (λ c. search needs)
     (λ c.
-        let d = c .before .before .before .before in
-        writes _ _ _ (d .before .before .decompose .ensures) _ _ (search needs) (c .before .before .lay-pieces .ensures)))
+    let d = c .before .before .before .before in
+    writes _ _ _ (d .before .before .decompose .ensures) _ _ (search needs) (c .before .before .lay-pieces .ensures)))

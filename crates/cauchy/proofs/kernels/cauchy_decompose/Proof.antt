@@ -1,0 +1,15 @@
+-- `cauchy::kernels::cauchy_decompose` meets its contract. Assumes nothing.
+use borrow.Author.Needs.{needs}
+use mathlib.Core.Path.{_∙_}
+use Rattle.cauchy.proofs.Crossings.{decomposes}
+use Rattle.cauchy.proofs.kernels.cauchy_decompose.Statement.{statement}
+use Rattle.cauchy.proofs.kernels.cauchy_decompose.Tie as tie
+
+returns : tie.Need-returns
+returns c =
+    let d = c .before .before .before .decompose-into in
+    rw (c .pieces-of .ensures) (decomposes (d .result) _ ∙ d .ensures)
+
+pub cauchy-decompose-spec : {M : Type 1} → statement M
+cauchy-decompose-spec =
+    tie.close (tie.spec (λ c κs. search needs) (λ c κs. search needs) (λ c. search needs) returns)

@@ -1,0 +1,100 @@
+// The solver, one file kernel and a kernel's pieces for C callers. A run crosses as a pointer and a
+// count of words.
+ghost use mathlib.Core.Path.{_≡_};
+ghost use Rattle.solve.specs.Solve.{solution};
+ghost use Rattle.pieces.specs.Kernels.{decomposition};
+ghost use Rattle.cauchy.specs.Crossing.{solveNumber, solutionOf, exponentOf, crossedKernel, piecesOf, decompositionOf};
+use base::refusal::refusal_number;
+use kernel::file::Exponent;
+use kernel::file::Kilometres;
+use kernel::file::kernel_from_file;
+use kernel::kernel::Kernel;
+use pieces::kernels::Decomposed;
+use pieces::kernels::decompose_into;
+use solve::Solve;
+use solve::solve_linear_system;
+
+// A kernel as its file has it, lengths in kilometres. The exponent is missing where `given` is 0.
+#[repr(C)]
+pub struct CauchyFileKernel {
+    pub c: [f64; 3],
+    pub sigma: f64,
+    pub w: f64,
+    pub alpha: f64,
+    pub given: u32,
+}
+
+// What a decomposition answers: 01's number, 0 where it is not refused, the count of pieces and the
+// fit's peak error.
+#[repr(C)]
+pub struct CauchyPieces {
+    pub no: u32,
+    pub pieces: u64,
+    pub error: f64,
+}
+
+fn solve_number(s: Solve) -> u32
+    ensures { λ r. ⌜ r ≡ solveNumber s ⌝ }
+{
+    match s {
+        Solve::Solved => 0,
+        Solve::Refused(r) => refusal_number(r),
+    }
+}
+
+// Solves n rows of n + 1 floats; answers 0, 10 or 11.
+#[no_mangle]
+pub extern "C" fn cauchy_solve(n: usize, cells: &[f64], answer: &mut [f64]) -> u32
+    ensures { λ r. ⌜ solutionOf r (now (answer .exit)) ≡ solution n (now (cells .entry)) (now (answer .entry)) ⌝ }
+{
+    solve_number(solve_linear_system(n, cells, answer))
+}
+
+fn exponent_of(given: u32, alpha: f64) -> Exponent
+    ensures { λ r. ⌜ r ≡ exponentOf given alpha ⌝ }
+{
+    if given == 0 {
+        return Exponent::Missing;
+    }
+    Exponent::Given(alpha)
+}
+
+// Carries one file kernel across, with the file's default exponent.
+#[no_mangle]
+pub extern "C" fn cauchy_kernel_from_file(k: CauchyFileKernel, default: f64) -> Kernel
+    ensures { λ r. ⌜ r ≡ crossedKernel k default ⌝ }
+{
+    let c = k.c;
+    kernel_from_file(
+        Kilometres(c, k.sigma),
+        k.w,
+        exponent_of(k.given, k.alpha),
+        default,
+    )
+}
+
+fn pieces_of(d: Decomposed) -> CauchyPieces
+    ensures { λ r. ⌜ r ≡ piecesOf d ⌝ }
+{
+    match d {
+        Decomposed::Written(n, e) => CauchyPieces {
+            no: 0,
+            pieces: n as u64,
+            error: e,
+        },
+        Decomposed::Refused(r) => CauchyPieces {
+            no: refusal_number(r),
+            pieces: 0,
+            error: 0.0,
+        },
+    }
+}
+
+// Writes a kernel's pieces, on a body of this radius, as kernels of six floats each; 9 where the run
+// is too short for them.
+#[no_mangle]
+pub extern "C" fn cauchy_decompose(k: Kernel, radius: f64, out: &mut [f64]) -> CauchyPieces
+    ensures { λ r. ⌜ decompositionOf r (now (out .exit)) ≡ decomposition k radius (now (out .entry)) ⌝ }
+{
+    pieces_of(decompose_into(k, radius, out))
+}
