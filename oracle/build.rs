@@ -1,6 +1,9 @@
 // Finds the proved archive, in CAUCHY_LIB_DIR or the repository's target/staticlib, and notes the compiler's version.
 use std::{env, path::PathBuf, process::Command};
 
+#[path = "build/text.rs"]
+mod text;
+
 fn main() {
     let here = PathBuf::from(env::var("CARGO_MANIFEST_DIR").unwrap());
     let dir = env::var("CAUCHY_LIB_DIR").map_or_else(|_| here.join("../target/staticlib"), PathBuf::from);
@@ -14,6 +17,9 @@ fn main() {
     println!("cargo::rustc-link-search=native={}", dir.display());
     println!("cargo::rustc-link-lib=static=cauchy");
     println!("cargo::rustc-env=RUSTC_VERSION={}", rustc_version());
+    if let Err(told) = text::write(&here) {
+        println!("cargo::error={told}");
+    }
 }
 
 fn rustc_version() -> String {

@@ -1,7 +1,17 @@
 //! The proved functions of 01's "Roots and powers", as libcauchy.a exports them, and what a comparison needs: one NaN, distances in
 //! ulp, inputs that can be repeated. [`steps`] works 01's steps a second time, sharing nothing with the proved code.
+pub mod cases;
 pub mod inputs;
+#[cfg(original)]
+pub mod original;
+pub mod pieces;
 pub mod steps;
+pub mod tally;
+
+/// What a comparison with the original's text says where its files are not there.
+#[cfg(not(original))]
+pub const SKIPPED: &str =
+    concat!("comparison with the original's text skipped: ", env!("CAUCHY_RUST_SRC_USED"), " is not there (CAUCHY_RUST_SRC names it)");
 
 // What the archive exports. Plain numbers in, plain numbers out, any bits allowed: safe to call.
 unsafe extern "C" {

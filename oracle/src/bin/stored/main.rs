@@ -1,0 +1,39 @@
+//! Answers of the original's text, stored for Rattle programs that replay them without Rust. The text works with 01's roots and powers by
+//! the second transcription, so nothing of the proved code is asked.
+//!   stored pieces               the expected output of the program `pieces_rows` (crates/pieces_rows)
+//!   stored pieces --table       its table of arguments
+//!   stored pieces --held FILE   whether FILE is that output: the exit status is 1 if it is not
+#[cfg(original)]
+mod pieces;
+
+#[cfg(original)]
+fn main() {
+    let words: Vec<String> = std::env::args().skip(1).collect();
+    match words.iter().map(String::as_str).collect::<Vec<_>>()[..] {
+        ["pieces"] => print!("{}", pieces::answers()),
+        ["pieces", "--table"] => print!("{}", pieces::table()),
+        ["pieces", "--held", file] => held(file, &pieces::answers()),
+        _ => {
+            eprintln!("usage: stored pieces [--table | --held FILE]");
+            std::process::exit(2);
+        }
+    }
+}
+
+#[cfg(original)]
+fn held(file: &str, answers: &str) {
+    let same = std::fs::read_to_string(file).is_ok_and(|text| text == answers);
+    println!(
+        "{file}: {} lines, {}",
+        answers.lines().count(),
+        if same { "as the original's text answers" } else { "not what the original's text answers" }
+    );
+    if !same {
+        std::process::exit(1);
+    }
+}
+
+#[cfg(not(original))]
+fn main() {
+    println!("{}", oracle::SKIPPED);
+}

@@ -1,0 +1,52 @@
+//! The archive's solve, file kernel and pieces.
+
+/// A kernel: centre, sigma, w, alpha, in metres.
+#[repr(C)]
+#[derive(Clone, Copy, Debug)]
+pub struct Kernel {
+    pub c: [f64; 3],
+    pub sigma: f64,
+    pub w: f64,
+    pub alpha: f64,
+}
+
+/// A kernel of a file, in kilometres; with `given` 0 its exponent is missing.
+#[repr(C)]
+#[derive(Clone, Copy, Debug)]
+pub struct FileKernel {
+    pub c: [f64; 3],
+    pub sigma: f64,
+    pub w: f64,
+    pub alpha: f64,
+    pub given: u32,
+}
+
+/// What a decomposition answers: 01's number of a refusal or 0, the pieces written, the peak error.
+#[repr(C)]
+#[derive(Clone, Copy, Debug)]
+pub struct Pieces {
+    pub no: u32,
+    pub pieces: u64,
+    pub error: f64,
+}
+
+unsafe extern "C" {
+    fn cauchy_solve(n: usize, cells: *const f64, cells_len: usize, answer: *mut f64, answer_len: usize) -> u32;
+    fn cauchy_decompose(k: Kernel, radius: f64, out: *mut f64, out_len: usize) -> Pieces;
+    /// One file kernel in metres.
+    pub safe fn cauchy_kernel_from_file(k: FileKernel, default_alpha: f64) -> Kernel;
+}
+
+/// Solves n rows of n + 1 floats: 0, 10 or 11.
+#[inline]
+pub fn solve(n: usize, cells: &[f64], answer: &mut [f64]) -> u32 {
+    // SAFETY: two runs of these lengths, and no other holds the second.
+    unsafe { cauchy_solve(n, cells.as_ptr(), cells.len(), answer.as_mut_ptr(), answer.len()) }
+}
+
+/// The pieces of a kernel, six floats each.
+#[inline]
+pub fn decompose(k: Kernel, radius: f64, out: &mut [f64]) -> Pieces {
+    // SAFETY: a run of this length, which no other holds.
+    unsafe { cauchy_decompose(k, radius, out.as_mut_ptr(), out.len()) }
+}
