@@ -167,6 +167,11 @@ unfolding decomposed fitted
 error-at-least-zero k radius =
     cond-of (λ (p : Pieces). le +0 (p .error) ≡ true) (stays (k .alpha)) zero-least (rw kept-error (error-least _ _ _ _))
 
+-- ---- a kernel that stays has one piece, of its own width
+pub stays-itself : (k : Kernel) (radius : Float) → stays (k .alpha) ≡ true → decomposed k radius ≡ itself k
+unfolding decomposed
+stays-itself k radius h = rw h refl
+
 -- ---- what they do not depend on
 
 -- a kernel of another centre and weight has the same pieces
