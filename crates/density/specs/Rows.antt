@@ -3,7 +3,7 @@ use mathlib.Core.Path.{_≡_, refl}
 use mathlib.Core.Bool.{Bool, true, and-false}
 use mathlib.Core.List.{List, [], _∷_}
 use Prim.Native.Nat.{ℕ}
-use lib.Ieee.{Float, nan, inf, fin, add, sub, mul, div, ofBits, lt}
+use lib.Ieee.{Float, nan, inf, add, sub, mul, div, ofBits, lt}
 use Rattle.base.specs.Floats.{bits, +0, abs}
 use Rattle.base.specs.FloatLaws.{Below, lower-inf, finite, is-below}
 use Rattle.base.specs.Constants.{one, two}

@@ -59,7 +59,7 @@ pub fn volume_centroid(xyz: &[f64], faces: &[u32]) -> Located
 }
 
 // Refusals 1, 2, 3 of a mesh, then 9 of a list of kernels.
-fn check_field(xyz: &[f64], faces: &[u32], kernels: &[f64]) -> Checked
+pub fn check_field(xyz: &[f64], faces: &[u32], kernels: &[f64]) -> Checked
     ensures { λ r. ⌜ r ≡ fieldCheck (length (now (xyz .entry))) (now (faces .entry)) (now (kernels .entry)) ⌝ }
 {
     let checked = check_mesh(xyz, faces);

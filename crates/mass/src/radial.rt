@@ -5,7 +5,7 @@ use base::floats::abs;
 use powers::arc::arc;
 
 // 1/3 - t²/5 + t⁴/7 - .., to the term of k = 9: no cancellation near 0.
-fn radial_g_series(t: f64) -> f64
+pub fn radial_g_series(t: f64) -> f64
     ensures { λ r. ⌜ r ≡ radialGSeries t ⌝ }
 {
     let t2 = t * t;

@@ -9,7 +9,7 @@ use kernel::kernel::kernel_at;
 use mesh::vectors::V3;
 
 // A kernel's centre.
-fn centre_of(k: Kernel) -> V3
+pub fn centre_of(k: Kernel) -> V3
     ensures { λ r. ⌜ r ≡ centreOf k ⌝ }
 {
     V3 {

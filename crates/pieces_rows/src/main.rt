@@ -7,9 +7,9 @@
 use base::floats::from_pattern;
 use base::floats::to_pattern;
 use kernel::kernel::Kernel;
+use libc::STDOUT_FILENO;
 use pieces::pieces::Pieces;
 use pieces::pieces::decompose;
-use libc::STDOUT_FILENO;
 
 const FITS: [u64; 159] = [
     0x3f70_624d_d2f1_a9fc,

@@ -1,0 +1,6 @@
+pub mod Outcomes
+pub mod Density
+pub mod Volumes
+pub mod Weights
+pub mod Calibration
+pub mod Rows

@@ -1,0 +1,151 @@
+// The volume of a kernel inside a mesh, and of the mesh. The exported `kernel_volume` and
+// `mesh_enclosed_volume` have no `requires`.
+ghost use mathlib.Core.Path.{_≡_};
+ghost use lib.ListN.{length};
+ghost use Rattle.mass.specs.Calls.{measuredAs};
+ghost use Rattle.mesh.specs.Triangles.{triangleAt, faceCount, Sound};
+ghost use Rattle.source.specs.Volumes.{radialG, flux, threeFluxes, faceSum, kernelVolume, centroidOf, pyramid, signedVolume, volumeAnswer, enclosedAnswer};
+use base::floats::abs;
+use base::refusal::Checked;
+use mass::calls::Measured;
+use mass::dunavant::INNER_ONE;
+use mass::dunavant::INNER_TWO;
+use mass::dunavant::INNER_WEIGHT;
+use mass::dunavant::MIDDLE_WEIGHT;
+use mass::dunavant::Node;
+use mass::dunavant::OUTER_ONE;
+use mass::dunavant::OUTER_TWO;
+use mass::dunavant::OUTER_WEIGHT;
+use mass::dunavant::THIRD;
+use mass::dunavant::point_of;
+use mass::radial::radial_g_series;
+use mass::volume::normal_of;
+use mesh::check::check_mesh;
+use mesh::triangles::Triangle;
+use mesh::triangles::triangle_at;
+use mesh::vectors::V3;
+use mesh::vectors::dot;
+use mesh::vectors::norm;
+use mesh::vectors::sub;
+use powers::arc::arc;
+
+// (t - atan t) / t³ from 0.1 on, else the series; so a NaN takes the series here.
+fn radial_g(t: f64) -> f64
+    ensures { λ r. ⌜ r ≡ radialG t ⌝ }
+{
+    if abs(t) >= 0.1 {
+        return (t - arc(t)) / (t * t * t);
+    }
+    radial_g_series(t)
+}
+
+// What the point at a node adds, for the normal n.
+fn flux(t: Triangle, n: V3, c: V3, sigma: f64, k: Node) -> f64
+    ensures { λ r. ⌜ r ≡ flux t n c sigma k ⌝ }
+{
+    let d = sub(point_of(t, k), c);
+    0.5 * k.w * radial_g(sigma * norm(d)) * dot(d, n)
+}
+
+// The sum after the three points that have one corner's share a, the others b.
+fn three_fluxes(sum: f64, t: Triangle, n: V3, c: V3, sigma: f64, a: f64, b: f64, w: f64) -> f64
+    ensures { λ r. ⌜ r ≡ threeFluxes t n c sigma a b w sum ⌝ }
+{
+    let first = Node { a, b, c: b, w };
+    let second = Node {
+        a: b,
+        b: a,
+        c: b,
+        w,
+    };
+    let third = Node { a: b, b, c: a, w };
+    let one = sum + flux(t, n, c, sigma, first);
+    let two = one + flux(t, n, c, sigma, second);
+    two + flux(t, n, c, sigma, third)
+}
+
+// The sum after one more face: seven additions.
+fn face_sum(sum: f64, t: Triangle, c: V3, sigma: f64) -> f64
+    ensures { λ r. ⌜ r ≡ faceSum t c sigma sum ⌝ }
+{
+    let n = normal_of(t);
+    let middle = Node {
+        a: THIRD,
+        b: THIRD,
+        c: THIRD,
+        w: MIDDLE_WEIGHT,
+    };
+    let one = sum + flux(t, n, c, sigma, middle);
+    let four = three_fluxes(one, t, n, c, sigma, INNER_ONE, INNER_TWO, INNER_WEIGHT);
+    three_fluxes(four, t, n, c, sigma, OUTER_ONE, OUTER_TWO, OUTER_WEIGHT)
+}
+
+// The volume of a kernel over all faces of a mesh that is sound.
+pub fn volume_of(xyz: &[f64], faces: &[u32], c: V3, sigma: f64) -> f64
+    requires { ⌜ Sound (length (now xyz)) (now faces) ⌝ }
+    ensures { λ r. ⌜ r ≡ kernelVolume (triangleAt (now (xyz .entry)) (now (faces .entry))) (faceCount (now (faces .entry))) c sigma ⌝ }
+{
+    let n = faces.len() / 3;
+    let mut total = 0.0;
+    let mut f = 0;
+    while f < n {
+        total = face_sum(total, triangle_at(xyz, faces, f), c, sigma);
+        f += 1;
+    }
+    total
+}
+
+// The volume of a kernel inside a mesh.
+pub fn kernel_volume(xyz: &[f64], faces: &[u32], c: V3, sigma: f64) -> Measured
+    ensures { λ r. ⌜ measuredAs r ≡ volumeAnswer (now (xyz .entry)) (now (faces .entry)) c sigma ⌝ }
+{
+    let checked = check_mesh(xyz, faces);
+    match checked {
+        Checked::Passed => Measured::Value(volume_of(xyz, faces, c, sigma)),
+        Checked::Failed(refusal) => Measured::Refused(refusal),
+    }
+}
+
+// The centroid of a triangle.
+fn centroid_of(t: Triangle) -> V3
+    ensures { λ r. ⌜ r ≡ centroidOf t ⌝ }
+{
+    V3 {
+        x: (t.a.x + t.b.x + t.c.x) / 3.0,
+        y: (t.a.y + t.b.y + t.c.y) / 3.0,
+        z: (t.a.z + t.b.z + t.c.z) / 3.0,
+    }
+}
+
+// The signed volume between a triangle and the origin.
+fn pyramid(t: Triangle) -> f64
+    ensures { λ r. ⌜ r ≡ pyramid t ⌝ }
+{
+    dot(centroid_of(t), normal_of(t)) / 6.0
+}
+
+// The signed volume of a mesh that is sound.
+pub fn signed_volume(xyz: &[f64], faces: &[u32]) -> f64
+    requires { ⌜ Sound (length (now xyz)) (now faces) ⌝ }
+    ensures { λ r. ⌜ r ≡ signedVolume (triangleAt (now (xyz .entry)) (now (faces .entry))) (faceCount (now (faces .entry))) ⌝ }
+{
+    let n = faces.len() / 3;
+    let mut total = 0.0;
+    let mut f = 0;
+    while f < n {
+        total += pyramid(triangle_at(xyz, faces, f));
+        f += 1;
+    }
+    total
+}
+
+// The volume that a mesh encloses.
+pub fn mesh_enclosed_volume(xyz: &[f64], faces: &[u32]) -> Measured
+    ensures { λ r. ⌜ measuredAs r ≡ enclosedAnswer (now (xyz .entry)) (now (faces .entry)) ⌝ }
+{
+    let checked = check_mesh(xyz, faces);
+    match checked {
+        Checked::Passed => Measured::Value(abs(signed_volume(xyz, faces))),
+        Checked::Failed(refusal) => Measured::Refused(refusal),
+    }
+}
