@@ -1,0 +1,94 @@
+-- The loop over the places, and the work that they have left. Assumes nothing.
+use mathlib.Core.Path.{_≡_, refl, sym, ap, subst, _∙_}
+use mathlib.Core.Bool.{Bool, true, false, _&&_, cond}
+use mathlib.Core.List.{List}
+use Prim.Native.Nat.{ℕ, zero, suc, _+_, _*_, _-_, _≤_, _<_}
+use native.Mathlib.Nat.{mul-le-mul, suc-mul, zero-mul, zero-sub}
+use native.Mathlib.Numerals.{add-one}
+use native.Mathlib.Omega.{arith}
+use lib.Dec.{ltb, eqb}
+use lib.Ieee.{Float}
+use lib.ListN.{length, getD, set, take, drop, length-set}
+use lib.Seq.{getD-set-other, drop-set-lt, getD-drop}
+use borrow.Author.Tests.{ltb-true}
+use Rattle.mesh.specs.declared.vectors.V3.{V3}
+use Rattle.mesh.specs.declared.triangles.Triangle.{Triangle}
+use Rattle.mesh.specs.Checks.{faceLimit}
+use Rattle.layout.specs.Layout.{width, coordsFrom, cornersFrom, statusOf, finishedOf, doneOf}
+use Rattle.layout.specs.SoundLaws.{Meshed, Ready, Worded}
+use Rattle.advance.specs.Steps.{iterate, held, Work, work, oneFace, Whole, whole, slotWork, stored, slotsRun}
+
+-- ---- the work left at a place, by values that equal its words
+work-bound : (q m : ℕ) → q ≤ 16 → m ≤ faceLimit → q * m ≤ 33554432
+work-bound q m a b = mul-le-mul a b
+
+work-low : (q m d : ℕ) → 0 < q → d ≤ m → d ≤ q * m
+work-low zero m d h l = absurd (omega arith)
+work-low (suc q) m d h l = rw (suc-mul q m) (omega arith)
+
+pub left-term : (m i s n d q a b : ℕ) → Ready m i (s - 1) n d → m ≤ faceLimit → q ≡ s - 1 → a ≡ n → b ≡ d → a < q → ((q - a) * m ≤ 33554432) × (b ≤ (q - a) * m)
+left-term m i s n d q a b r hm e f g h =
+    let z = r .part (omega arith) in
+    (work-bound (q - a) m (omega (arith, r)) hm, work-low (q - a) m b (omega arith) (omega arith))
+
+pub left-none : (m s n d : ℕ) → s - 1 ≤ n → 0 ≡ (s - 1 - n) * m - d
+left-none m s n d h = let e : s - 1 - n ≡ 0 = omega arith in rw (e, zero-mul, zero-sub) refl
+
+-- ---- steps at place i do not reach the mesh
+one-mesh : (t : ℕ → Triangle) (c : V3) (m i p : ℕ) → i < 32 → p ≤ 16 → (r : Work) → drop coordsFrom (oneFace t c m (225 + 48 * i) p r .floats) ≡ drop coordsFrom (r .floats)
+unfolding oneFace
+one-mesh t c m i p hi hp r = go (ltb (r .finished) p) (ltb 0 (r .budget)) refl _ _ _
+  where
+    go : (a b : Bool) → ltb (r .finished) p ≡ a → (v : Float) (x y : ℕ) → drop coordsFrom (cond (a && b) (work (set (r .floats) (225 + 48 * i + 3 * r .finished + 2) v) x y (r .budget - 1)) r .floats) ≡ drop coordsFrom (r .floats)
+    go true true e v x y = let h = ltb-true (r .finished) p e in drop-set-lt coordsFrom (r .floats) (225 + 48 * i + 3 * r .finished + 2) v (omega arith)
+    go true false e v x y = refl
+    go false b e v x y = refl
+
+work-mesh : (t : ℕ → Triangle) (c : V3) (m i p : ℕ) → i < 32 → p ≤ 16 → (k : ℕ) (r : Work) → drop coordsFrom (iterate (oneFace t c m (225 + 48 * i) p) k r .floats) ≡ drop coordsFrom (r .floats)
+work-mesh t c m i p hi hp zero r = refl
+work-mesh t c m i p hi hp (suc k) r = one-mesh t c m i p hi hp (iterate (oneFace t c m (225 + 48 * i) p) k r) ∙ work-mesh t c m i p hi hp k r
+
+-- ---- the loop
+module _ (f₀ : List Float) (w₀ : List ℕ) (vs m b₀ : ℕ) where
+  abbrev runTo : ℕ → Whole
+  runTo i = slotsRun width (held width f₀ w₀ vs m) m i (whole f₀ w₀ b₀)
+
+  -- where it stands
+  pub record Sweep (f : List Float) (w : List ℕ) (b i : ℕ) : Type 0 where
+    pub top : i ≤ 32
+    pub long-f : length f ≡ length f₀
+    pub long-w : length w ≡ length w₀
+    pub mesh-f : drop coordsFrom f ≡ drop coordsFrom f₀
+    pub mesh-w : drop (cornersFrom width) w ≡ drop (cornersFrom width) w₀
+    pub ahead : (j : ℕ) → i ≤ j → j < 32 → Ready m j (statusOf width w j - 1) (finishedOf width w j) (doneOf width w j)
+    pub state : whole f w b ≡ runTo i
+
+  pub start : Worded width w₀ m → Sweep f₀ w₀ b₀ 0
+  unfolding slotsRun
+  start e = record { top = omega arith; long-f = refl; long-w = refl; mesh-f = refl; mesh-w = refl; ahead = λ j _ h. e .slot j h; state = refl }
+
+  pub sweep-meshed : (f : List Float) (w : List ℕ) (b i : ℕ) → Sweep f w b i → Meshed width f₀ w₀ vs m → Meshed width f w vs m
+  sweep-meshed f w b i g h = record { floats = rw (g .long-f) (h .floats); words = rw (g .long-w) (h .words); verts = h .verts; faces = h .faces; corners = λ j l. same j (h .corners j l) }
+    where
+      same : (j : ℕ) → getD w₀ (cornersFrom width + j) 0 < vs → getD w (cornersFrom width + j) 0 < vs
+      same j l = subst (λ (x : ℕ). x < vs) (sym (sym (getD-drop (cornersFrom width) w j 0) ∙ (ap (λ (t : List ℕ). getD t j 0) (g .mesh-w) ∙ getD-drop (cornersFrom width) w₀ j 0))) l
+
+  pub sweep : (f f′ : List Float) (w w′ : List ℕ) (b b′ i : ℕ) → Sweep f w b i → i < 32 → length f′ ≡ length f
+      → whole f′ w′ b′ ≡ stored width w i (slotWork width (held width f w vs m) m i (whole f w b))
+      → Sweep f′ w′ b′ (i + 1)
+  unfolding slotsRun slotWork
+  sweep f f′ w w′ b b′ i g hi lf e =
+      let r = g .ahead i (omega arith) hi in
+      let t = slotWork width (held width f w vs m) m i (whole f w b) in
+      let ef : f′ ≡ t .floats = ap (λ (s : Whole). s .floats) e in
+      let ew : w′ ≡ set (set w (3 + width * i) (t .finished)) (4 + width * i) (t .done) = ap (λ (s : Whole). s .words) e in
+      let same : (q : ℕ) → 4 + width * i < q → getD w′ q 0 ≡ getD w q 0 = λ q h. ap (λ (l : List ℕ). getD l q 0) ew ∙ (getD-set-other (set w (3 + width * i) (t .finished)) (4 + width * i) q (t .done) 0 (omega arith) ∙ getD-set-other w (3 + width * i) q (t .finished) 0 (omega arith)) in
+      record {
+        top = omega arith;
+        long-f = lf ∙ g .long-f;
+        long-w = ap length ew ∙ simp length-set (g .long-w);
+        mesh-f = ap (drop coordsFrom) ef ∙ (work-mesh _ _ _ i _ hi (r .pieces) b _ ∙ g .mesh-f);
+        mesh-w = ap (drop (cornersFrom width)) ew ∙ (drop-set-lt (cornersFrom width) (set w (3 + width * i) (t .finished)) (4 + width * i) (t .done) (omega arith) ∙ (drop-set-lt (cornersFrom width) w (3 + width * i) (t .finished) (omega arith) ∙ g .mesh-w));
+        ahead = λ j h l. rw (same (2 + width * j) (omega arith), same (3 + width * j) (omega arith), same (4 + width * j) (omega arith)) (g .ahead j (omega arith) l);
+        state = rw add-one ((rw (g .mesh-f, g .mesh-w) at e) ∙ ap (λ (s : Whole). stored width (s .words) i (slotWork width (held width f₀ w₀ vs m) m i s)) (g .state));
+      }

@@ -1,0 +1,156 @@
+-- A run of steps at one place. Assumes nothing.
+use mathlib.Core.Path.{_≡_, refl, sym, ap, _∙_}
+use mathlib.Core.Bool.{Bool, true, false, _&&_}
+use mathlib.Core.List.{List}
+use Prim.Native.Nat.{ℕ, zero, suc, _+_, _*_, _-_, _≤_, _<_, min}
+use native.Mathlib.Nat.{add-zero, sub-zero, add-suc}
+use native.Mathlib.Omega.{arith}
+use lib.Dec.{ltb, eqb}
+use lib.Ieee.{Float, nan}
+use lib.ListN.{length, getD, set, take, drop, length-set, length-take, length-drop}
+use lib.Seq.{getD-set-same, getD-set-other, set-set, set-getD, getD-take, getD-drop, drop-set-lt}
+use borrow.Author.Tests.{lt-ltb, eq-eqb, ne-eqb}
+use Rattle.base.specs.Loops.{times}
+use Rattle.base.specs.LoopLaws.{times-suc}
+use Rattle.runs.specs.RunLaws.{length-part}
+use Rattle.mesh.specs.declared.vectors.V3.{V3}
+use Rattle.mesh.specs.declared.triangles.Triangle.{Triangle}
+use Rattle.mesh.specs.Triangles.{Sound}
+use Rattle.mass.specs.Volume.{faceStep, volumeFrom}
+use Rattle.layout.specs.Layout.{width, coordsFrom, cornersFrom}
+use Rattle.layout.specs.SoundLaws.{Meshed, Ready}
+use Rattle.advance.specs.Steps.{iterate, held, centreAt, Work, work, oneFace}
+
+pub iterate-add : {A : Type 0} (f : A → A) (m n : ℕ) (a : A) → iterate f (m + n) a ≡ iterate f n (iterate f m a)
+iterate-add f m zero a = rw add-zero refl
+iterate-add f m (suc n) a = rw add-suc (ap f (iterate-add f m n a))
+
+module _ (t : ℕ → Triangle) (c : V3) (m base p : ℕ) where
+  -- what k faces of one piece, from d on, leave in the floats
+  abbrev pub chunked : List Float → ℕ → ℕ → ℕ → List Float
+  chunked fs n d k = set fs (base + 3 * n + 2) (times (faceStep t c (getD fs (base + 3 * n) nan)) k d (getD fs (base + 3 * n + 2) nan))
+
+  -- k steps in one piece, none of them its last
+  pub chunk-more : (fs : List Float) (n d b : ℕ) → n < p → base + 3 * n + 2 < length fs → (k : ℕ) → d + k < m → k ≤ b
+      → iterate (oneFace t c m base p) k (work fs n d b) ≡ work (chunked fs n d k) n (d + k) (b - k)
+  unfolding times oneFace
+  chunk-more fs n d b hf hl zero hk hn = simp (set-getD, add-zero, sub-zero)
+  chunk-more fs n d b hf hl (suc k) hk hn =
+      let at = base + 3 * n + 2 in
+      let g = faceStep t c (getD fs (base + 3 * n) nan) in
+      let v = times g k d (getD fs at nan) in
+      let x : ltb 0 (b - k) ≡ true = lt-ltb 0 (b - k) (omega arith) in
+      let q : eqb (d + k + 1) m ≡ false = ne-eqb (d + k + 1) m (omega arith) in
+      let y : d + k + 1 ≡ d + suc k = omega arith in
+      let e : b - k - 1 ≡ b - suc k = omega arith in
+      rw (chunk-more fs n d b hf hl k (omega arith) (omega arith), lt-ltb n p hf, x, q)
+      (rw (getD-set-same fs at v nan hl, getD-set-other fs at (base + 3 * n) v nan (omega arith), set-set, y, e)
+      (ap (λ (z : Float). work (set fs at z) n (d + suc k) (b - suc k)) (sym (times-suc g k d (getD fs at nan)))))
+
+  -- the same where the last of them ends the piece
+  pub chunk-end : (fs : List Float) (n d b : ℕ) → n < p → base + 3 * n + 2 < length fs → (k : ℕ) → d + suc k ≡ m → suc k ≤ b
+      → iterate (oneFace t c m base p) (suc k) (work fs n d b) ≡ work (chunked fs n d (suc k)) (n + 1) 0 (b - suc k)
+  unfolding oneFace
+  chunk-end fs n d b hf hl k hk hn =
+      let at = base + 3 * n + 2 in
+      let g = faceStep t c (getD fs (base + 3 * n) nan) in
+      let v = times g k d (getD fs at nan) in
+      let x : ltb 0 (b - k) ≡ true = lt-ltb 0 (b - k) (omega arith) in
+      let q : eqb (d + k + 1) m ≡ true = eq-eqb (d + k + 1) m (omega arith) in
+      let e : b - k - 1 ≡ b - suc k = omega arith in
+      rw (chunk-more fs n d b hf hl k (omega arith) (omega arith), lt-ltb n p hf, x, q)
+      (rw (getD-set-same fs at v nan hl, getD-set-other fs at (base + 3 * n) v nan (omega arith), set-set, e)
+      (ap (λ (z : Float). work (set fs at z) (n + 1) 0 (b - suc k)) (sym (times-suc g k d (getD fs at nan)))))
+
+  -- a place that is finished, or no step left: nothing happens
+  pub idle : (k : ℕ) (r : Work) → ltb (r .finished) p && ltb 0 (r .budget) ≡ false → iterate (oneFace t c m base p) k r ≡ r
+  unfolding oneFace
+  idle zero r e = refl
+  idle (suc k) r e = rw (idle k r e, e) refl
+
+-- ---- the mesh that a store holds is one that `volume_from` takes
+pub mesh-ready : (fs : List Float) (ws : List ℕ) (vs ms : ℕ) → Meshed width fs ws vs ms → (d k : ℕ) → d + k ≤ ms
+    → (Sound (length (take (coordsFrom + 3 * vs - coordsFrom) (drop coordsFrom fs))) (take (cornersFrom width + 3 * ms - cornersFrom width) (drop (cornersFrom width) ws)))
+    × ((d ≤ d + k) × (3 * (d + k) ≤ length (take (cornersFrom width + 3 * ms - cornersFrom width) (drop (cornersFrom width) ws))))
+mesh-ready fs ws vs ms h d k hk =
+    let a = length-part ws (cornersFrom width) (3 * ms) (h .words) in
+    let b = length-part fs coordsFrom (3 * vs) (h .floats) in (
+      record {
+        corner = λ j l.
+            let e : getD (take (cornersFrom width + 3 * ms - cornersFrom width) (drop (cornersFrom width) ws)) j 0 ≡ getD ws (cornersFrom width + j) 0
+            = getD-take (cornersFrom width + 3 * ms - cornersFrom width) (drop (cornersFrom width) ws) j 0 (omega arith) ∙ getD-drop (cornersFrom width) ws j 0 in
+            omega (arith, h .corners j (omega arith));
+      },
+      (omega arith, omega arith),
+    )
+
+pub meshed-same : (f f₀ : List Float) (w : List ℕ) (vs ms : ℕ) → length f ≡ length f₀ → Meshed width f₀ w vs ms → Meshed width f w vs ms
+meshed-same f f₀ w vs ms e m = record { floats = rw e (m .floats); words = m .words; verts = m .verts; faces = m .faces; corners = m .corners }
+
+-- ---- the loop over a place's pieces
+module _ (f₀ : List Float) (w : List ℕ) (vs ms i p n₀ d₀ b₀ : ℕ) where
+  abbrev pub stepHere : Work → Work
+  stepHere = oneFace (held width f₀ w vs ms) (centreAt f₀ i) ms (225 + 48 * i) p
+
+  -- where it stands
+  pub record Going (f : List Float) (n d b : ℕ) : Type 0 where
+    pub long : length f ≡ length f₀
+    pub mesh : drop coordsFrom f ≡ drop coordsFrom f₀
+    pub fits : n ≤ p
+    pub part : n < p → d < ms
+    pub low : d ≤ ms
+    pub spent : b ≤ b₀
+    pub state : work f n d b ≡ iterate stepHere (b₀ - b) (work f₀ n₀ d₀ b₀)
+
+  later : (k b : ℕ) (f f′ : List Float) (n d n′ d′ : ℕ) → k ≤ b → b ≤ b₀ → work f n d b ≡ iterate stepHere (b₀ - b) (work f₀ n₀ d₀ b₀)
+      → iterate stepHere k (work f n d b) ≡ work f′ n′ d′ (b - k) → work f′ n′ d′ (b - k) ≡ iterate stepHere (b₀ - (b - k)) (work f₀ n₀ d₀ b₀)
+  later k b f f′ n d n′ d′ hk hb s t =
+      let e : b₀ - (b - k) ≡ b₀ - b + k = omega arith in
+      sym t ∙ (ap (iterate stepHere k) s ∙ (sym (iterate-add stepHere (b₀ - b) k (work f₀ n₀ d₀ b₀)) ∙ ap (λ (j : ℕ). iterate stepHere j (work f₀ n₀ d₀ b₀)) (sym e)))
+
+  module _ (hf : coordsFrom ≤ length f₀) (hi : i < 32) (hp : p ≤ 16) (f f′ : List Float) (n d b : ℕ) (g : Going f n d b) (h : n < p) (hb : b ≡ 0 → ⊥) where
+    -- what `chunk` leaves
+    abbrev Chunk : ℕ → Type 0
+    Chunk k = f′ ≡ set f (225 + 48 * i + 3 * n + 2) (volumeFrom (held width f w vs ms) (centreAt f₀ i) (getD f (225 + 48 * i + 3 * n) nan) d (d + k) (getD f (225 + 48 * i + 3 * n + 2) nan))
+
+    left-chunk : (k : ℕ) → Chunk k → f′ ≡ chunked (held width f₀ w vs ms) (centreAt f₀ i) ms (225 + 48 * i) p f n d k
+    unfolding volumeFrom
+    left-chunk k r = let e : d + k - d ≡ k = omega arith in rw (g .mesh, e) at r
+
+    pub turn-end : (k : ℕ) → k ≡ min b (ms - d) → k ≡ ms - d → Chunk k → Going f′ (n + 1) 0 (b - k)
+    turn-end zero e q r = let z = g .part h in absurd (omega arith)
+    turn-end (suc k) e q r =
+        let z = g .part h in
+        let l = g .long in
+        record {
+          long = ap length r ∙ (length-set f _ _ ∙ l);
+          mesh = ap (drop coordsFrom) r ∙ (drop-set-lt coordsFrom f (225 + 48 * i + 3 * n + 2) _ (omega arith) ∙ g .mesh);
+          fits = omega arith;
+          part = λ _. omega arith;
+          low = omega arith;
+          spent = omega (arith, g .spent);
+          state = later (suc k) b f f′ n d (n + 1) 0 (omega arith) (g .spent) (g .state)
+              (chunk-end _ _ _ _ _ f n d b h (omega arith) k (omega arith) (omega arith) ∙ ap (λ (x : List Float). work x (n + 1) 0 (b - suc k)) (sym (left-chunk (suc k) r)));
+        }
+
+    pub turn-more : (k : ℕ) → k ≡ min b (ms - d) → (k ≡ ms - d → ⊥) → Chunk k → Going f′ n (d + k) (b - k)
+    turn-more k e q r =
+        let z = g .part h in
+        let l = g .long in
+        record {
+          long = ap length r ∙ (length-set f _ _ ∙ l);
+          mesh = ap (drop coordsFrom) r ∙ (drop-set-lt coordsFrom f (225 + 48 * i + 3 * n + 2) _ (omega arith) ∙ g .mesh);
+          fits = omega arith;
+          part = λ _. omega arith;
+          low = omega arith;
+          spent = omega (arith, g .spent);
+          state = later k b f f′ n d n (d + k) (omega arith) (g .spent) (g .state)
+              (chunk-more _ _ _ _ _ f n d b h (omega arith) k (omega arith) (omega arith) ∙ ap (λ (x : List Float). work x n (d + k) (b - k)) (sym (left-chunk k r)));
+        }
+
+  -- it ends where no step is left, or no piece
+  pub stopped : (f : List Float) (n d b : ℕ) → Going f n d b → ltb n p && ltb 0 b ≡ false → work f n d b ≡ iterate stepHere b₀ (work f₀ n₀ d₀ b₀)
+  stopped f n d b g e =
+      let q : b₀ - b + b ≡ b₀ = omega (arith, g .spent) in
+      sym (idle _ _ _ _ _ b (work f n d b) e) ∙ (ap (iterate stepHere b) (g .state)
+      ∙ (sym (iterate-add stepHere (b₀ - b) b (work f₀ n₀ d₀ b₀)) ∙ ap (λ (j : ℕ). iterate stepHere j (work f₀ n₀ d₀ b₀)) q))

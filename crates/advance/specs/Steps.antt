@@ -1,0 +1,97 @@
+-- 01, "The store": "Advance(n, u64)". Definitions only.
+use mathlib.Core.Bool.{_&&_, cond}
+use mathlib.Core.List.{List, [], _∷_}
+use Prim.Native.Nat.{ℕ, zero, suc, _+_, _*_, _-_}
+use lib.Dec.{ltb, eqb}
+use lib.ListN.{getD, set, take, drop}
+use lib.Ieee.{Float, nan}
+use Rattle.mesh.specs.declared.vectors.V3.{V3}
+use Rattle.mesh.specs.declared.triangles.Triangle.{Triangle}
+use Rattle.mesh.specs.Triangles.{triangleAt}
+use Rattle.mass.specs.Volume.{faceSum}
+use Rattle.layout.specs.Layout.{slotLimit, piecesFrom, coordsFrom, cornersFrom, vertsOf, facesOf, statusOf, finishedOf, doneOf}
+use Rattle.layout.specs.Soundness.{storeCheck}
+use Rattle.store.specs.Calls.{After, after, guarded, counted}
+
+-- f, n times over
+abbrev pub iterate : {A : Type 0} → (A → A) → ℕ → A → A
+iterate f zero a = a
+iterate f (suc n) a = f (iterate f n a)
+
+-- the triangles of the mesh that the runs hold
+abbrev pub held : ℕ → List Float → List ℕ → ℕ → ℕ → ℕ → Triangle
+held q fs ws verts faces = triangleAt (take (3 * verts) (drop coordsFrom fs)) (take (3 * faces) (drop (cornersFrom q) ws))
+
+-- the centre that place i holds
+abbrev pub centreAt : List Float → ℕ → V3
+centreAt fs i = record { x = getD fs (1 + 7 * i) nan; y = getD fs (2 + 7 * i) nan; z = getD fs (3 + 7 * i) nan }
+
+-- ---- "one face of one piece each"
+
+-- a place at work: the floats, its pieces finished, the faces done in the current one, and the steps still to spend
+pub record Work : Type 0 where
+  pub floats : List Float
+  pub finished : ℕ
+  pub done : ℕ
+  pub budget : ℕ
+
+abbrev pub work : List Float → ℕ → ℕ → ℕ → Work
+work fs n d b = record { floats = fs; finished = n; done = d; budget = b }
+
+-- one step at a place whose `count` pieces stand from `base` on, centre c, in a mesh of m triangles t: the current piece's volume so far is
+-- brought on by its next face, and its last face finishes it. Where no piece or no step is left, nothing is done
+unfoldable pub oneFace : (ℕ → Triangle) → V3 → ℕ → ℕ → ℕ → Work → Work
+oneFace t c m base count r =
+    let at = base + 3 * r .finished in
+    cond (ltb (r .finished) count && ltb 0 (r .budget))
+    (work
+    (set (r .floats) (at + 2) (faceSum (t (r .done)) c (getD (r .floats) at nan) (getD (r .floats) (at + 2) nan)))
+    (cond (eqb (r .done + 1) m) (r .finished + 1) (r .finished))
+    (cond (eqb (r .done + 1) m) 0 (r .done + 1))
+    (r .budget - 1))
+    r
+
+-- ---- "lowest unfinished place first"
+
+-- the store between two places, and the steps still to spend
+pub record Whole : Type 0 where
+  pub floats : List Float
+  pub words : List ℕ
+  pub budget : ℕ
+
+abbrev pub whole : List Float → List ℕ → ℕ → Whole
+whole fs ws b = record { floats = fs; words = ws; budget = b }
+
+-- the steps that place i takes of them
+unfoldable pub slotWork : ℕ → (ℕ → Triangle) → ℕ → ℕ → Whole → Work
+slotWork q t m i s =
+    iterate (oneFace t (centreAt (s .floats) i) m (piecesFrom i) (statusOf q (s .words) i - 1)) (s .budget)
+    (work (s .floats) (finishedOf q (s .words) i) (doneOf q (s .words) i) (s .budget))
+
+-- with its words written back
+abbrev pub stored : ℕ → List ℕ → ℕ → Work → Whole
+stored q ws i r = whole (r .floats) (set (set ws (3 + q * i) (r .finished)) (4 + q * i) (r .done)) (r .budget)
+
+-- the places below k, one after the other
+unfoldable pub slotsRun : ℕ → (ℕ → Triangle) → ℕ → ℕ → Whole → Whole
+slotsRun q t m zero s = s
+slotsRun q t m (suc i) s = stored q (slotsRun q t m i s .words) i (slotWork q t m i (slotsRun q t m i s))
+
+-- ---- "left, the sum of need - p", where p = finished * F + done
+abbrev pub leftAt : ℕ → List ℕ → ℕ → ℕ → ℕ
+leftAt q ws m i = (statusOf q ws i - 1 - finishedOf q ws i) * m - doneOf q ws i
+
+unfoldable pub leftOf : ℕ → List ℕ → ℕ → ℕ → ℕ
+leftOf q ws m zero = 0
+leftOf q ws m (suc k) = leftOf q ws m k + leftAt q ws m k
+
+-- ---- the call: "the step count in its result is done, beside left"
+abbrev pub spentAll : ℕ → List Float → List ℕ → ℕ → Whole
+spentAll q fs ws n = slotsRun q (held q fs ws (vertsOf ws) (facesOf ws)) (facesOf ws) slotLimit (whole fs ws n)
+
+unfoldable pub advanceStep : ℕ → List Float → List ℕ → ℕ → After
+advanceStep q fs ws n =
+    let s = spentAll q fs ws n in
+    let done = n - s .budget in
+    guarded (storeCheck q fs ws) fs ws
+    (after (counted (done ∷ (leftOf q ws (facesOf ws) slotLimit - done) ∷ [])) (s .floats) (s .words))

@@ -1,0 +1,41 @@
+// Advance. It has no `requires`; a refused one changes nothing.
+ghost use mathlib.Core.Path.{_≡_};
+ghost use Rattle.layout.specs.Layout.{width};
+ghost use Rattle.store.specs.Calls.{after};
+ghost use Rattle.advance.specs.Steps.{advanceStep};
+ghost use Rattle.advance.specs.AdvanceAnswer.{advanced};
+use crate::left::left;
+use crate::work::run_slots;
+use base::refusal::Checked;
+use base::refusal::Refusal;
+use layout::check::check_store;
+use runs::less;
+use runs::word;
+
+// The answer of an advance: the faces integrated, and the steps left.
+pub enum Advanced {
+    Steps { done: u64, left: u64 },
+    Refused(Refusal),
+}
+
+// Does up to `budget` steps of the work that is left.
+pub fn advance(f: &mut [f64], w: &mut [u32], budget: u64) -> Advanced
+    ensures { λ r. ⌜ after (advanced r) (now (f .exit)) (now (w .exit)) ≡ advanceStep width (now (f .entry)) (now (w .entry)) budget ⌝ }
+{
+    match check_store(f, w) {
+        Checked::Failed(r) => Advanced::Refused(r),
+        Checked::Passed => {
+            let verts = word(w, 0);
+            let faces = word(w, 1);
+            let total = left(w, faces);
+            let n = budget as usize;
+            let rest = run_slots(f, w, verts, faces, n);
+            let done = less(n, rest);
+            let over = less(total, done);
+            Advanced::Steps {
+                done: done as u64,
+                left: over as u64,
+            }
+        }
+    }
+}

@@ -1,0 +1,160 @@
+// Steps of work: faces integrated, piece by piece, the lowest place first.
+ghost use mathlib.Core.Path.{_≡_};
+ghost use Prim.Native.Nat.{_+_, _-_, _*_, _≤_, _<_};
+ghost use lib.ListN.{take, drop, getD, set};
+ghost use lib.Ieee.{nan};
+ghost use Rattle.base.specs.Loops.{times};
+ghost use Rattle.mesh.specs.Triangles.{triangleAt};
+ghost use Rattle.mass.specs.Volume.{volumeFrom};
+ghost use Rattle.layout.specs.Layout.{width, slotLimit, piecesFrom, coordsFrom, cornersFrom, statusOf, finishedOf, doneOf};
+ghost use Rattle.layout.specs.SoundLaws.{Ready, Meshed, Worded};
+ghost use Rattle.advance.specs.Steps.{held, centreAt, iterate, work, oneFace, whole, slotWork, stored, slotsRun};
+use crate::left::pieces;
+use layout::offsets::COORDS;
+use layout::offsets::CORNERS;
+use layout::offsets::KERNEL;
+use layout::offsets::KERNEL_SIZE;
+use layout::offsets::PIECE;
+use layout::offsets::PIECES_SIZE;
+use layout::offsets::SLOTS;
+use layout::offsets::STATE;
+use layout::offsets::WIDTH;
+use mass::volume::volume_from;
+use mesh::vectors::V3;
+use runs::lesser;
+use runs::word;
+
+// Where the work on a place stands, and the steps still to spend.
+pub struct Ran {
+    pub finished: usize,
+    pub done: usize,
+    pub budget: usize,
+}
+
+// Brings the volume of the piece whose three floats stand at `at` on from face `done` by k faces.
+fn chunk(
+    f: &mut [f64],
+    w: &[u32],
+    verts: usize,
+    faces: usize,
+    c: V3,
+    at: usize,
+    done: usize,
+    k: usize,
+)
+    requires { ⌜ Meshed width (now f) (now w) verts faces ⌝ ∗ ⌜ (at + 2 < coordsFrom) × (done + k ≤ faces) ⌝ }
+    ensures { λ _. ⌜ now (f .exit) ≡ set (now (f .entry)) (at + 2) (volumeFrom (held width (now (f .entry)) (now (w .entry)) verts faces) c (getD (now (f .entry)) at nan) done (done + k) (getD (now (f .entry)) (at + 2) nan)) ⌝ }
+{
+    let sigma = f[at];
+    let sum = f[at + 2];
+    let coords_end = COORDS + 3 * verts;
+    let corners_end = CORNERS + 3 * faces;
+    let volume = volume_from(
+        sum,
+        &f[COORDS..coords_end],
+        &w[CORNERS..corners_end],
+        c,
+        sigma,
+        done,
+        done + k,
+    );
+    f[at + 2] = volume;
+}
+
+// Spends up to `budget` steps at place i, which has `count` pieces.
+fn run_slot(
+    f: &mut [f64],
+    w: &[u32],
+    verts: usize,
+    faces: usize,
+    i: usize,
+    count: usize,
+    start: Ran,
+) -> Ran
+    requires { ⌜ Meshed width (now f) (now w) verts faces ⌝ ∗ ⌜ Ready faces i count (start .finished) (start .done) ⌝ }
+    ensures { λ r. ⌜ work (now (f .exit)) (r .finished) (r .done) (r .budget) ≡ iterate (oneFace (held width (now (f .entry)) (now (w .entry)) verts faces) (centreAt (now (f .entry)) i) faces (piecesFrom i) count) (start .budget) (work (now (f .entry)) (start .finished) (start .done) (start .budget)) ⌝ ∗ ⌜ (r .finished ≤ count) × (r .done ≤ faces) ⌝ }
+{
+    let at = KERNEL_SIZE * i;
+    let c = V3 {
+        x: f[KERNEL + at],
+        y: f[KERNEL + 1 + at],
+        z: f[KERNEL + 2 + at],
+    };
+    let mut finished = start.finished;
+    let mut done = start.done;
+    let mut budget = start.budget;
+    while finished < count {
+        if budget == 0 {
+            return Ran {
+                finished,
+                done,
+                budget,
+            };
+        }
+        let room = faces - done;
+        let k = lesser(budget, room);
+        chunk(
+            f,
+            w,
+            verts,
+            faces,
+            c,
+            PIECE + PIECES_SIZE * i + 3 * finished,
+            done,
+            k,
+        );
+        budget -= k;
+        if k == room {
+            finished += 1;
+            done = 0;
+        } else {
+            done += k;
+        }
+    }
+    Ran {
+        finished,
+        done,
+        budget,
+    }
+}
+
+// Spends up to `budget` steps at place i, and answers how many are over.
+fn spend(f: &mut [f64], w: &mut [u32], verts: usize, faces: usize, i: usize, budget: usize) -> usize
+    requires { ⌜ Meshed width (now f) (now w) verts faces ⌝ ∗ ⌜ Ready faces i (statusOf width (now w) i - 1) (finishedOf width (now w) i) (doneOf width (now w) i) ⌝ }
+    ensures { λ r. ⌜ whole (now (f .exit)) (now (w .exit)) r ≡ stored width (now (w .entry)) i (slotWork width (held width (now (f .entry)) (now (w .entry)) verts faces) faces i (whole (now (f .entry)) (now (w .entry)) budget)) ⌝ }
+{
+    let at = WIDTH * i;
+    let count = pieces(w[STATE + at]);
+    let finished = word(w, STATE + 1 + at);
+    let done = word(w, STATE + 2 + at);
+    let r = run_slot(
+        f,
+        w,
+        verts,
+        faces,
+        i,
+        count,
+        Ran {
+            finished,
+            done,
+            budget,
+        },
+    );
+    w[STATE + 1 + at] = r.finished as u32;
+    w[STATE + 2 + at] = r.done as u32;
+    r.budget
+}
+
+// Spends up to `budget` steps, the lowest place first, and answers how many are over.
+pub fn run_slots(f: &mut [f64], w: &mut [u32], verts: usize, faces: usize, budget: usize) -> usize
+    requires { ⌜ Meshed width (now f) (now w) verts faces ⌝ ∗ ⌜ Worded width (now w) faces ⌝ }
+    ensures { λ r. ⌜ whole (now (f .exit)) (now (w .exit)) r ≡ slotsRun width (held width (now (f .entry)) (now (w .entry)) verts faces) faces slotLimit (whole (now (f .entry)) (now (w .entry)) budget) ⌝ }
+{
+    let mut rest = budget;
+    let mut i: usize = 0;
+    while i < SLOTS {
+        rest = spend(f, w, verts, faces, i, rest);
+        i += 1;
+    }
+    rest
+}

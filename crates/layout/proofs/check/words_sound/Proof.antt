@@ -1,0 +1,42 @@
+-- `layout::check::words_sound` meets its contract. Assumes nothing.
+use Prim.Native.Nat.{_+_, _-_, _*_}
+use mathlib.Core.Path.{_≡_}
+use native.Mathlib.Omega.{arith}
+use Rattle.layout.specs.Layout.{facesOf}
+use Rattle.layout.specs.Soundness.{sound}
+use borrow.Author.Needs.{needs}
+use Rattle.layout.proofs.check.words_sound.Statement.{statement}
+use Rattle.layout.proofs.check.words_sound.Tie as tie
+
+returns : tie.Need-returns
+unfolding sound
+returns c =
+    let w = c .before .before .before .before .before .before .before .before .args .w .now in
+    let n : 98 + 3 * facesOf w - 98 ≡ 3 * facesOf w = omega arith in
+    rw (c .before .before .before .before .if1 .taken, ← c .before .before .before .slots-sound .ensures, c .before .before .if2 .taken) (rw n at (c .all-below .ensures))
+
+returns-2 : tie.Need-returns-2
+unfolding sound
+returns-2 c = rw (c .before .before .if1 .taken, ← c .before .slots-sound .ensures, c .if2 .left)
+
+returns-3 : tie.Need-returns-3
+unfolding sound
+returns-3 c = rw (c .if1 .left)
+
+pub words-sound-spec : {M : Type 1} → statement M
+words-sound-spec =
+    tie.close
+    (tie.spec
+    (λ c. search needs)
+    (λ c. search needs)
+    (λ c κs. search needs)
+    (λ c. search needs)
+    (λ c. search needs)
+    (λ c. search needs)
+    (λ c. search needs)
+    (λ c. search needs)
+    (λ c. search needs)
+    (λ c κs. search needs)
+    returns
+    returns-2
+    returns-3)

@@ -1,0 +1,85 @@
+-- 01, "The store": where each field stands in the float run and in the u32 run. Definitions only.
+use mathlib.Core.List.{List, [], _∷_}
+use Prim.Native.Nat.{ℕ, _+_, _*_}
+use lib.ListN.{getD, take, drop}
+use lib.Ieee.{Float, nan}
+
+-- "places 0 to 31", "its 16 pieces"
+abbrev pub slotLimit : ℕ
+slotLimit = 32
+
+abbrev pub pieceLimit : ℕ
+pieceLimit = 16
+
+-- ---- the float run fs; i is a place, j a piece
+
+-- "[0] radius"
+abbrev pub radiusOf : List Float → Float
+radiusOf fs = getD fs 0 nan
+
+-- "from 1+7i place i's c, sigma, w, alpha, error"
+abbrev pub kernelFrom : ℕ → ℕ
+kernelFrom i = 1 + 7 * i
+
+abbrev pub centreOf : List Float → ℕ → List Float
+centreOf fs i = getD fs (1 + 7 * i) nan ∷ getD fs (2 + 7 * i) nan ∷ getD fs (3 + 7 * i) nan ∷ []
+
+abbrev pub weightAt : ℕ → ℕ
+weightAt i = 5 + 7 * i
+
+abbrev pub weightOf : List Float → ℕ → Float
+weightOf fs i = getD fs (weightAt i) nan
+
+abbrev pub alphaOf : List Float → ℕ → Float
+alphaOf fs i = getD fs (6 + 7 * i) nan
+
+abbrev pub errorOf : List Float → ℕ → Float
+errorOf fs i = getD fs (7 + 7 * i) nan
+
+-- "from 225+48i its 16 pieces (sigma, coefficient, volume so far ..)"
+abbrev pub piecesFrom : ℕ → ℕ
+piecesFrom i = 225 + 48 * i
+
+abbrev pub pieceFrom : ℕ → ℕ → ℕ
+pieceFrom i j = 225 + 48 * i + 3 * j
+
+-- "from 1,761 coordinates"
+abbrev pub coordsFrom : ℕ
+coordsFrom = 1761
+
+-- ---- the u32 run ws, with q words to a place
+
+-- the words to a place: status, pieces finished, faces done
+abbrev pub width : ℕ
+width = 3
+
+-- "V, F"
+abbrev pub vertsOf : List ℕ → ℕ
+vertsOf ws = getD ws 0 0
+
+abbrev pub facesOf : List ℕ → ℕ
+facesOf ws = getD ws 1 0
+
+-- "from 2+3i status (0 empty, else 1 + pieces), pieces finished, faces done in the current piece"
+abbrev pub stateFrom : ℕ → ℕ → ℕ
+stateFrom q i = 2 + q * i
+
+abbrev pub statusOf : ℕ → List ℕ → ℕ → ℕ
+statusOf q ws i = getD ws (2 + q * i) 0
+
+abbrev pub finishedOf : ℕ → List ℕ → ℕ → ℕ
+finishedOf q ws i = getD ws (3 + q * i) 0
+
+abbrev pub doneOf : ℕ → List ℕ → ℕ → ℕ
+doneOf q ws i = getD ws (4 + q * i) 0
+
+-- "from 98 corners"
+abbrev pub cornersFrom : ℕ → ℕ
+cornersFrom q = 2 + q * 32
+
+-- ---- the mesh that the runs hold
+abbrev pub coordsOf : List Float → List ℕ → List Float
+coordsOf fs ws = take (3 * vertsOf ws) (drop coordsFrom fs)
+
+abbrev pub cornersOf : ℕ → List ℕ → List ℕ
+cornersOf q ws = take (3 * facesOf ws) (drop (cornersFrom q) ws)

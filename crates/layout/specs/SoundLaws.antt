@@ -1,0 +1,173 @@
+-- What a store that passes its checks has; and that the offsets of 01 go together. Assumes nothing.
+use mathlib.Core.Path.{_≡_, refl, sym, ap}
+use mathlib.Core.Bool.{Bool, true, false, _&&_, cond, and-false, and-eq-true-iff}
+use mathlib.Core.List.{List}
+use Prim.Native.Nat.{ℕ, zero, suc, _+_, _*_, _-_, _≤_, _<_}
+use native.Mathlib.Omega.{arith}
+use native.Mathlib.Decide.{decLt}
+use lib.Dec.{ltb, leb, eqb}
+use lib.Ieee.{Float}
+use lib.ListN.{length, getD}
+use lib.Seq.{length-take-le, getD-take, getD-drop}
+use lib.ListN.{length-drop}
+use borrow.Author.Tests.{ltb-true, leb-true, eqb-true, eqb-false}
+use Rattle.base.specs.Answers.{andThen}
+use Rattle.base.specs.declared.refusal.Refusal.the-variants.{ShortStore, Unsound, NoPlace, Vacant}
+use Rattle.base.specs.declared.refusal.Checked.{Checked}
+use Rattle.base.specs.declared.refusal.Checked.the-variants.{Passed, Failed}
+use Rattle.mesh.specs.Checks.{vertexLimit, faceLimit, allBelow}
+use Rattle.mesh.specs.CheckLaws.{below-each}
+use Rattle.layout.specs.Layout.{width, slotLimit, pieceLimit, kernelFrom, piecesFrom, pieceFrom, coordsFrom, stateFrom, cornersFrom, cornersOf, vertsOf, facesOf, statusOf, finishedOf, doneOf}
+use Rattle.layout.specs.Soundness.{every, longEnough, slotSound, slotSoundAt, sound, storeCheck, slotCheck, filledCheck}
+
+-- ---- 01's numbers: each part of a run begins where the one before it ends
+pub pieces-follow : piecesFrom 0 ≡ kernelFrom slotLimit
+pieces-follow = refl
+
+pub coords-follow : coordsFrom ≡ piecesFrom slotLimit
+coords-follow = refl
+
+pub next-place : (i : ℕ) → piecesFrom (suc i) ≡ pieceFrom i pieceLimit
+next-place i = omega arith
+
+pub corners-follow : cornersFrom width ≡ stateFrom width slotLimit
+corners-follow = refl
+
+pub corners-are : cornersFrom width ≡ 98
+corners-are = refl
+
+-- ---- tests
+pub both : (a b : Bool) → a && b ≡ true → (a ≡ true) × (b ≡ true)
+both a b h = and-eq-true-iff a b .0 h
+
+pub every-at : (test : ℕ → Bool) (n k : ℕ) → k < n → every test n ≡ true → test k ≡ true
+unfolding every
+every-at test zero k h e = absurd (omega arith)
+every-at test (suc n) k h e = go (λ (l : k < n). every-at test n k l (both (every test n) (test n) e .0)) (decLt k n)
+  where
+    go : (k < n → test k ≡ true) → Dec (k < n) → test k ≡ true
+    go ih (yes l) = ih l
+    go ih (no l) = let q : k ≡ n = omega arith in rw q (both (every test n) (test n) e .1)
+
+pub every-not : (test : ℕ → Bool) (n k : ℕ) → k < n → test k ≡ false → every test n ≡ false
+unfolding every
+every-not test zero k h e = absurd (omega arith)
+every-not test (suc n) k h e = go (λ (l : k < n). every-not test n k l e) (decLt k n)
+  where
+    go : (k < n → every test n ≡ false) → Dec (k < n) → every test n && test n ≡ false
+    go ih (yes l) = rw (ih l) refl
+    go ih (no l) = let z : n ≡ k = omega arith in rw (z, e) (and-false (every test k))
+
+-- two checks, one after the other, that pass
+pub passed-both : (a b : Checked) → andThen a b ≡ Passed → (a ≡ Passed) × (b ≡ Passed)
+passed-both Passed b e = (refl, e)
+passed-both (Failed r) b e = absurd (let z : _≡_ {A = ℕ} 0 1 = cc in omega arith)
+
+-- ---- what a place has: p pieces, `fin` of them finished, and `dn` of m faces done in the next
+pub record Ready (m i p fin dn : ℕ) : Type 0 where
+  pub place : i < 32
+  pub pieces : p ≤ 16
+  pub fits : fin ≤ p
+  pub part : fin < p → dn < m
+  pub low : dn ≤ m
+
+pub slot-ready : (m i s n d : ℕ) → i < 32 → slotSound s n d m ≡ true → Ready m i (s - 1) n d
+unfolding slotSound
+slot-ready m i s n d hi e = go (leb-true s 17 (both (leb s 17) _ e .0)) (eqb s 0) (eqb n (s - 1)) refl refl (both (leb s 17) _ e .1)
+  where
+    go : s ≤ 17 → (x y : Bool) → eqb s 0 ≡ x → eqb n (s - 1) ≡ y → cond x (eqb n 0 && eqb d 0) (leb n (s - 1) && cond y (eqb d 0) (ltb d m)) ≡ true → Ready m i (s - 1) n d
+    go few true y ex ey t =
+        let z = both (eqb n 0) (eqb d 0) t in
+        let s0 = eqb-true s 0 ex in
+        let n0 = eqb-true n 0 (z .0) in
+        let d0 = eqb-true d 0 (z .1) in
+        record { place = hi; pieces = omega arith; fits = omega arith; part = λ h. omega arith; low = omega arith }
+    go few false true ex ey t =
+        let n0 = eqb-true n (s - 1) ey in
+        let d0 = eqb-true d 0 (both (leb n (s - 1)) (eqb d 0) t .1) in
+        record { place = hi; pieces = omega arith; fits = omega arith; part = λ h. omega arith; low = omega arith }
+    go few false false ex ey t =
+        let n0 = leb-true n (s - 1) (both (leb n (s - 1)) (ltb d m) t .0) in
+        let d0 = ltb-true d m (both (leb n (s - 1)) (ltb d m) t .1) in
+        record { place = hi; pieces = omega arith; fits = omega arith; part = λ h. omega arith; low = omega arith }
+
+-- "with F = 0 all are finished"
+pub none-unfinished : (i s n d : ℕ) → i < 32 → slotSound s n d 0 ≡ true → n ≡ s - 1
+none-unfinished i s n d h e = let r = slot-ready 0 i s n d h e in go (decLt n (s - 1)) r
+  where
+    go : Dec (n < s - 1) → Ready 0 i (s - 1) n d → n ≡ s - 1
+    go (yes l) r = absurd (let z = r .part l in omega arith)
+    go (no l) r = omega arith
+
+-- ---- what a store with no fault has: a mesh of vs vertices and ms faces, and 32 places that are ready
+pub record Meshed (q : ℕ) (fs : List Float) (ws : List ℕ) (vs ms : ℕ) : Type 0 where
+  pub floats : coordsFrom + 3 * vs ≤ length fs
+  pub words : cornersFrom q + 3 * ms ≤ length ws
+  pub verts : vs ≤ vertexLimit
+  pub faces : ms ≤ faceLimit
+  pub corners : (j : ℕ) → j < 3 * ms → getD ws (cornersFrom q + j) 0 < vs
+
+pub record Worded (q : ℕ) (ws : List ℕ) (ms : ℕ) : Type 0 where
+  pub long : cornersFrom q ≤ length ws
+  pub few : ms ≤ faceLimit
+  pub slot : (i : ℕ) → i < 32 → Ready ms i (statusOf q ws i - 1) (finishedOf q ws i) (doneOf q ws i)
+
+pub record Fine (q : ℕ) (fs : List Float) (ws : List ℕ) : Type 0 where
+  pub mesh : Meshed q fs ws (vertsOf ws) (facesOf ws)
+  pub slots : Worded q ws (facesOf ws)
+
+module _ (q : ℕ) (fs : List Float) (ws : List ℕ) where
+  pub long-words : longEnough q fs ws ≡ true → cornersFrom q + 3 * facesOf ws ≤ length ws
+  unfolding longEnough
+  long-words a = leb-true (cornersFrom q + 3 * facesOf ws) (length ws) (both (leb (cornersFrom q + 3 * facesOf ws) (length ws)) _ a .0)
+
+  fine-sound : longEnough q fs ws ≡ true → sound q ws ≡ true → Fine q fs ws
+  unfolding longEnough sound slotSoundAt
+  fine-sound a b =
+      let l = both (leb (cornersFrom q + 3 * facesOf ws) (length ws)) _ a in
+      let r = both (leb (vertsOf ws) vertexLimit && leb (facesOf ws) faceLimit) _ b in
+      let s = both (leb (vertsOf ws) vertexLimit) (leb (facesOf ws) faceLimit) (r .0) in
+      let t = both (every (slotSoundAt q ws) slotLimit) _ (r .1) in
+      let k = long-words a in
+      let n : length (cornersOf q ws) ≡ 3 * facesOf ws = length-take-le (3 * facesOf ws) _ (rw length-drop (omega arith)) in
+      record {
+        mesh = record {
+          floats = leb-true (coordsFrom + 3 * vertsOf ws) (length fs) (l .1);
+          words = k;
+          verts = leb-true (vertsOf ws) vertexLimit (s .0);
+          faces = leb-true (facesOf ws) faceLimit (s .1);
+          corners = λ j h. rw (getD-take, getD-drop) at (below-each (vertsOf ws) (cornersOf q ws) (t .1) j (omega arith));
+        };
+        slots = record {
+          long = omega arith;
+          few = leb-true (facesOf ws) faceLimit (s .1);
+          slot = λ i h. slot-ready (facesOf ws) i (statusOf q ws i) (finishedOf q ws i) (doneOf q ws i) h (every-at (slotSoundAt q ws) slotLimit i h (t .0));
+        };
+      }
+
+  pub fine : storeCheck q fs ws ≡ Passed → Fine q fs ws
+  unfolding storeCheck
+  fine e = go (longEnough q fs ws) (sound q ws) refl refl e
+    where
+      go : (a b : Bool) → longEnough q fs ws ≡ a → sound q ws ≡ b → cond a (cond b Passed (Failed Unsound)) (Failed ShortStore) ≡ Passed → Fine q fs ws
+      go true true a b h = fine-sound a b
+      go true false a b h = absurd (let z : _≡_ {A = ℕ} 0 1 = cc in omega arith)
+      go false t a b h = absurd (let z : _≡_ {A = ℕ} 0 1 = cc in omega arith)
+
+  pub record Open (i : ℕ) : Type 0 where
+    pub all : Fine q fs ws
+    pub place : i < 32
+
+  pub slot-open : (i : ℕ) → slotCheck q fs ws i ≡ Passed → Open i
+  unfolding slotCheck
+  slot-open i e =
+      let p = passed-both (storeCheck q fs ws) (cond (ltb i slotLimit) Passed (Failed NoPlace)) e in
+      record { all = fine (p .0); place = go (ltb i slotLimit) refl (p .1) }
+    where
+      go : (b : Bool) → ltb i slotLimit ≡ b → cond b Passed (Failed NoPlace) ≡ Passed → i < 32
+      go true b h = ltb-true i 32 b
+      go false b h = absurd (let z : _≡_ {A = ℕ} 0 1 = cc in omega arith)
+
+  pub filled-open : (i : ℕ) → filledCheck q fs ws i ≡ Passed → Open i
+  unfolding filledCheck
+  filled-open i e = slot-open i (passed-both (slotCheck q fs ws i) (cond (eqb (statusOf q ws i) 0) (Failed Vacant) Passed) e .0)

@@ -1,0 +1,61 @@
+-- 01, "The store": when a store is sound, and the refusals 4 to 7 of a call on one. Definitions only.
+use mathlib.Core.Bool.{Bool, true, _&&_, cond}
+use mathlib.Core.List.{List}
+use Prim.Native.Nat.{ℕ, zero, suc, _+_, _*_, _-_}
+use lib.Dec.{ltb, leb, eqb}
+use lib.ListN.{length}
+use lib.Ieee.{Float}
+use Rattle.base.specs.Answers.{andThen}
+use Rattle.base.specs.declared.refusal.Refusal.the-variants.{ShortStore, Unsound, NoPlace, Vacant}
+use Rattle.base.specs.declared.refusal.Checked.{Checked}
+use Rattle.base.specs.declared.refusal.Checked.the-variants.{Passed, Failed}
+use Rattle.mesh.specs.Checks.{vertexLimit, faceLimit, allBelow}
+use Rattle.layout.specs.Layout.{slotLimit, pieceLimit, coordsFrom, cornersFrom, cornersOf, vertsOf, facesOf, statusOf, finishedOf, doneOf}
+
+-- each number below n passes
+unfoldable pub every : (ℕ → Bool) → ℕ → Bool
+every test zero = true
+every test (suc n) = every test n && test n
+
+-- "both lengths suffice"; a run of under 98 words is too short for any F, so also for the 0 that is read past its end
+unfoldable pub longEnough : ℕ → List Float → List ℕ → Bool
+longEnough q fs ws = leb (cornersFrom q + 3 * facesOf ws) (length ws) && leb (coordsFrom + 3 * vertsOf ws) (length fs)
+
+-- a place's status, pieces finished and faces done, in a store of so many faces
+unfoldable pub slotSound : ℕ → ℕ → ℕ → ℕ → Bool
+slotSound status finished done faces =
+    -- "status ≤ 17"
+    leb status (1 + pieceLimit)
+    && cond (eqb status 0)
+    -- "empty means two zeros"
+    (eqb finished 0 && eqb done 0)
+    -- "finished ≤ pieces"
+    (leb finished (status - 1)
+    -- "faces done 0 if all are finished and else below F", which no number is "with F = 0"
+    && cond (eqb finished (status - 1)) (eqb done 0) (ltb done faces))
+
+-- place i of a run
+unfoldable pub slotSoundAt : ℕ → List ℕ → ℕ → Bool
+slotSoundAt q ws i = slotSound (statusOf q ws i) (finishedOf q ws i) (doneOf q ws i) (facesOf ws)
+
+-- "Sound", but for the lengths
+unfoldable pub sound : ℕ → List ℕ → Bool
+sound q ws =
+    -- "V and F in limit"
+    (leb (vertsOf ws) vertexLimit && leb (facesOf ws) faceLimit)
+    -- every place
+    && (every (slotSoundAt q ws) slotLimit
+    -- "corners < V"
+    && allBelow (vertsOf ws) (cornersOf q ws))
+
+-- rows 4 and 5, of every call on a store: "too short for them, or under 98 words, is 4; any other fault in it .. is 5"
+unfoldable pub storeCheck : ℕ → List Float → List ℕ → Checked
+storeCheck q fs ws = cond (longEnough q fs ws) (cond (sound q ws) Passed (Failed Unsound)) (Failed ShortStore)
+
+-- and row 6, of a call that names a place
+unfoldable pub slotCheck : ℕ → List Float → List ℕ → ℕ → Checked
+slotCheck q fs ws i = andThen (storeCheck q fs ws) (cond (ltb i slotLimit) Passed (Failed NoPlace))
+
+-- and row 7, of a call that wants the place filled
+unfoldable pub filledCheck : ℕ → List Float → List ℕ → ℕ → Checked
+filledCheck q fs ws i = andThen (slotCheck q fs ws i) (cond (eqb (statusOf q ws i) 0) (Failed Vacant) Passed)

@@ -1,0 +1,126 @@
+// Refusals 4 to 7 of a call on a store. No exported check has a `requires`.
+ghost use mathlib.Core.Path.{_≡_};
+ghost use Prim.Native.Nat.{_+_, _*_, _≤_};
+ghost use lib.ListN.{length};
+ghost use Rattle.layout.specs.Layout.{width, slotLimit, cornersFrom, facesOf};
+ghost use Rattle.layout.specs.Soundness.{every, longEnough, slotSound, slotSoundAt, sound, storeCheck, slotCheck, filledCheck};
+use crate::offsets::COORDS;
+use crate::offsets::CORNERS;
+use crate::offsets::SLOTS;
+use crate::offsets::STATE;
+use crate::offsets::WIDTH;
+use base::refusal::Checked;
+use base::refusal::Refusal;
+
+// Whether both runs are as long as the counts of vertices and faces ask. The counts may be anything up to 2^32 - 1.
+fn long_enough(f: &[f64], w: &[u32]) -> bool
+    ensures { λ r. ⌜ r ≡ longEnough width (now (f .entry)) (now (w .entry)) ⌝ }
+{
+    if w.len() < CORNERS {
+        return false;
+    }
+    let verts = w[0] as usize;
+    let faces = w[1] as usize;
+    (w.len() >= CORNERS + 3 * faces) & (f.len() >= COORDS + 3 * verts)
+}
+
+// Whether a place's three words go together.
+fn slot_sound(status: u32, finished: u32, done: u32, faces: u32) -> bool
+    ensures { λ r. ⌜ r ≡ slotSound status finished done faces ⌝ }
+{
+    if status > 17 {
+        return false;
+    }
+    if status == 0 {
+        return (finished == 0) & (done == 0);
+    }
+    let pieces = status - 1;
+    if finished > pieces {
+        return false;
+    }
+    if finished == pieces {
+        done == 0
+    } else {
+        done < faces
+    }
+}
+
+// Whether every place's words go together.
+fn slots_sound(w: &[u32]) -> bool
+    requires { ⌜ cornersFrom width ≤ length (now w) ⌝ }
+    ensures { λ r. ⌜ r ≡ every (slotSoundAt width (now (w .entry))) slotLimit ⌝ }
+{
+    let faces = w[1];
+    let mut i: usize = 0;
+    while i < SLOTS {
+        let at = WIDTH * i;
+        if !slot_sound(w[STATE + at], w[STATE + 1 + at], w[STATE + 2 + at], faces) {
+            return false;
+        }
+        i += 1;
+    }
+    true
+}
+
+// Whether the counts, the places and the corners are sound, in runs that are long enough.
+fn words_sound(w: &[u32]) -> bool
+    requires { ⌜ cornersFrom width + 3 * facesOf (now w) ≤ length (now w) ⌝ }
+    ensures { λ r. ⌜ r ≡ sound width (now (w .entry)) ⌝ }
+{
+    let verts = w[0];
+    let faces = w[1];
+    let few = (verts <= 1_048_576) & (faces <= 2_097_152);
+    if few {
+        if slots_sound(w) {
+            let end = CORNERS + 3 * (faces as usize);
+            mesh::check::all_below(&w[CORNERS..end], verts)
+        } else {
+            false
+        }
+    } else {
+        false
+    }
+}
+
+// Refusal 4 or 5 of a store.
+pub fn check_store(f: &[f64], w: &[u32]) -> Checked
+    ensures { λ r. ⌜ r ≡ storeCheck width (now (f .entry)) (now (w .entry)) ⌝ }
+{
+    if long_enough(f, w) {
+        if words_sound(w) {
+            Checked::Passed
+        } else {
+            Checked::Failed(Refusal::Unsound)
+        }
+    } else {
+        Checked::Failed(Refusal::ShortStore)
+    }
+}
+
+// Refusal 4, 5 or 6 of a call that names a place.
+pub fn check_slot(f: &[f64], w: &[u32], slot: u32) -> Checked
+    ensures { λ r. ⌜ r ≡ slotCheck width (now (f .entry)) (now (w .entry)) slot ⌝ }
+{
+    match check_store(f, w) {
+        Checked::Failed(r) => Checked::Failed(r),
+        Checked::Passed => if slot < 32 {
+            Checked::Passed
+        } else {
+            Checked::Failed(Refusal::NoPlace)
+        },
+    }
+}
+
+// Refusal 4, 5, 6 or 7 of a call that wants the place filled.
+pub fn check_filled(f: &[f64], w: &[u32], slot: u32) -> Checked
+    ensures { λ r. ⌜ r ≡ filledCheck width (now (f .entry)) (now (w .entry)) slot ⌝ }
+{
+    match check_slot(f, w, slot) {
+        Checked::Failed(r) => Checked::Failed(r),
+        Checked::Passed => if w[STATE + WIDTH * (slot as usize)] == 0 {
+            Checked::Failed(Refusal::Vacant)
+        } else {
+            Checked::Passed
+        },
+    }
+}

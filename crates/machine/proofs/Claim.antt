@@ -1,0 +1,287 @@
+-- Each call on a store that holds a machine does what the machine does. Assumes nothing.
+use mathlib.Core.Path.{_≡_, refl, sym, ap, subst, _∙_}
+use mathlib.Core.List.{List, [], _∷_, map}
+use mathlib.Core.Bool.{cond}
+use Prim.Native.Nat.{ℕ, zero, suc, _+_, _*_, _-_, _≤_, _<_, min}
+use native.Mathlib.Nat.{zero-div, zero-mod}
+use native.Mathlib.Decide.{decLt}
+use native.Mathlib.Omega.{arith}
+use lib.ListN.{length, getD, set, replicate, length-set}
+use lib.Seq.{set-getD}
+use lib.Dec.{ltb}
+use lib.Ieee.{Float, nan}
+use borrow.Author.Tests.{lt-ltb, le-ltb, ne-eqb}
+use Rattle.base.specs.Floats.{+0}
+use Rattle.base.specs.Loops.{times}
+use Rattle.base.specs.declared.refusal.Refusal.{Refusal}
+use Rattle.base.specs.declared.refusal.Refusal.the-variants.{NoPlace, Vacant}
+use Rattle.base.specs.declared.refusal.Checked.the-variants.{Passed, Failed}
+use Rattle.runs.specs.Runs.{write}
+use Rattle.mass.specs.Volume.{volumeTo}
+use Rattle.mass.specs.Total.{centreOf}
+use Rattle.kernel.specs.declared.kernel.Kernel.{Kernel}
+use Rattle.pieces.specs.declared.pieces.Pieces.{Pieces}
+use Rattle.pieces.specs.Pieces.{decomposed}
+use Rattle.pieces.specs.PieceLaws.{at-most-16, same-pieces}
+use Rattle.layout.specs.Layout.{slotLimit, radiusOf, vertsOf, facesOf, statusOf}
+use Rattle.layout.specs.Soundness.{storeCheck, slotCheck, filledCheck}
+use Rattle.store.specs.Calls.{refused, counted, done, clearStep, reweighStep}
+use Rattle.advance.specs.Steps.{advanceStep}
+use Rattle.put.specs.Puts.{fresh, atFirst, putFloats, putWords, putStep}
+use Rattle.machine.specs.Machine.{Mesh, Slot, empty, full, need, leftSlot, leftSum, Machine, Turn, turn, putTurn, clearTurn, weighed, reweighTurn}
+use Rattle.machine.specs.Holding.{Form, form3, placeRow, floats48, cells, floatsOf, wordsOf}
+use Rattle.readings.specs.Readings.{Reading}
+use Rattle.machine.specs.Calls.{Call, put, clear, reweigh, advance, read, machine, Result, result, seen, store, results, turns, after-all, holding, shown, chargedBy, doneBy, chargedIn, doneIn}
+use Rattle.machine.proofs.Valid.{Within, Valid, spread}
+use Rattle.machine.proofs.Held.{status-held, write-words, write-floats, set-seven, coords-held, corners-held}
+use Rattle.machine.proofs.Sane.{no-fault}
+use Rattle.machine.proofs.Look.{read-held}
+use Rattle.machine.proofs.Sweep.{all-held, left-held, lowest-first, spread-length, within-spread, left-spread}
+
+module _ (wd : ℕ) (fm : Form wd) (m : Machine) (v : Valid (m .mesh) (m .slots)) (xs : List Float) (ys : List ℕ) where
+  abbrev FS : List Float
+  FS = floatsOf (m .mesh) (m .slots) xs
+
+  abbrev WS : List ℕ
+  WS = wordsOf (m .mesh) (m .slots) ys
+
+  sane : storeCheck wd FS WS ≡ Passed
+  sane = no-fault wd fm (m .mesh) (m .slots) v xs ys
+
+  -- ---- the checks of a place
+  slot-in : (i : ℕ) → i < 32 → slotCheck wd FS WS i ≡ Passed
+  unfolding slotCheck
+  slot-in i h = rw (sane, lt-ltb i 32 h) refl
+
+  slot-out : (i : ℕ) → 32 ≤ i → slotCheck wd FS WS i ≡ Failed NoPlace
+  unfolding slotCheck
+  slot-out i h = rw (sane, le-ltb i 32 h) refl
+
+  status : (i : ℕ) → i < 32 → statusOf wd WS i ≡ getD (placeRow (m .mesh) (getD (m .slots) i empty)) 0 0
+  status i h = status-held wd fm (m .mesh) (m .slots) (v .slots) ys i h
+
+  filled-out : (i : ℕ) → 32 ≤ i → filledCheck wd FS WS i ≡ Failed NoPlace
+  unfolding filledCheck
+  filled-out i h = rw (slot-out i h) refl
+
+  filled-none : (i : ℕ) → i < 32 → getD (m .slots) i empty ≡ empty → filledCheck wd FS WS i ≡ Failed Vacant
+  unfolding filledCheck
+  filled-none i h e = rw (slot-in i h, status i h, e) refl
+
+  filled-in : (i : ℕ) → i < 32 → (k : Kernel) (fit : Pieces) (p : ℕ) → getD (m .slots) i empty ≡ full k fit p → filledCheck wd FS WS i ≡ Passed
+  unfolding filledCheck
+  filled-in i h k fit p e = rw (slot-in i h, status i h, e, ne-eqb (1 + fit .count) 0 (λ z. omega arith)) refl
+
+  -- ---- clear
+  zeros-row : replicate wd 0 ≡ placeRow (m .mesh) empty
+  zeros-row = go fm
+    where
+      go : {w : ℕ} → Form w → replicate w 0 ≡ placeRow (m .mesh) empty
+      go form3 = refl
+
+  clear-in : (i : ℕ) → i < 32 → (s : Slot) → getD (m .slots) i empty ≡ s → result (clearStep wd FS WS i) ≡ shown xs ys (clearTurn m i s)
+  unfolding clearStep
+  clear-in i h empty e = rw (filled-none i h e) refl
+  clear-in i h (full k fit p) e =
+      rw (filled-in i h k fit p e, write-floats wd fm (m .mesh) (m .slots) (v .slots) xs i h empty, zeros-row, write-words wd fm (m .mesh) (m .slots) (v .slots) ys i h empty) refl
+
+  clear-held : (i : ℕ) → store wd (holding m xs ys) (clear i) ≡ shown xs ys (machine m (clear i))
+  unfolding store machine clearStep
+  clear-held i = go (decLt i 32)
+    where
+      go : Dec (i < 32) → result (clearStep wd FS WS i) ≡ shown xs ys (cond (ltb i slotLimit) (clearTurn m i (getD (m .slots) i empty)) (turn m (refused NoPlace)))
+      go (yes h) = clear-in i h (getD (m .slots) i empty) refl ∙ rw (lt-ltb i 32 h) refl
+      go (no h) = rw (filled-out i (omega arith), le-ltb i 32 (omega arith)) refl
+
+  -- ---- reweigh
+  same-place : (i : ℕ) → i < 32 → (s : Slot) → placeRow (m .mesh) (getD (m .slots) i empty) ≡ placeRow (m .mesh) s → WS ≡ wordsOf (m .mesh) (set (m .slots) i s) ys
+  same-place i h s e =
+      sym (write-words wd fm (m .mesh) (m .slots) (v .slots) ys i h (getD (m .slots) i empty) ∙ ap (λ (t : List Slot). wordsOf (m .mesh) t ys) (set-getD (m .slots) i empty))
+      ∙ (ap (write WS (2 + wd * i)) e ∙ write-words wd fm (m .mesh) (m .slots) (v .slots) ys i h s)
+
+  same-volumes : (k : Kernel) (fit : Pieces) (w : Float) (p : ℕ) → floats48 (m .mesh) (full (weighed k w) fit p) ≡ floats48 (m .mesh) (full k fit p)
+  unfolding centreOf
+  same-volumes k fit w p = refl
+
+  reweigh-in : (i : ℕ) (w : Float) → i < 32 → (s : Slot) → getD (m .slots) i empty ≡ s → result (reweighStep wd FS WS i w) ≡ shown xs ys (reweighTurn m i w s)
+  unfolding reweighStep
+  reweigh-in i w h empty e = rw (filled-none i h e) refl
+  reweigh-in i w h (full k fit p) e =
+      let n : 5 + 7 * i ≡ 1 + (7 * i + 4) = omega arith in
+      let s = full (weighed k w) fit p in
+      let f = set-seven wd fm (m .mesh) (m .slots) (v .slots) xs i h s 4 w (omega arith) (rw e refl) (rw e (same-volumes k fit w p)) in
+      let g : WS ≡ wordsOf (m .mesh) (set (m .slots) i s) ys = same-place i h s (rw e refl) in
+      rw (filled-in i h k fit p e, n, f)
+      (ap (λ (t : List ℕ). record { left = record { floats = floatsOf (m .mesh) (set (m .slots) i s) xs; words = t }; reply = done; out = [] }) g)
+
+  reweigh-held : (i : ℕ) (w : Float) → store wd (holding m xs ys) (reweigh i w) ≡ shown xs ys (machine m (reweigh i w))
+  unfolding store machine reweighStep
+  reweigh-held i w = go (decLt i 32)
+    where
+      go : Dec (i < 32) → result (reweighStep wd FS WS i w) ≡ shown xs ys (cond (ltb i slotLimit) (reweighTurn m i w (getD (m .slots) i empty)) (turn m (refused NoPlace)))
+      go (yes h) = reweigh-in i w h (getD (m .slots) i empty) refl ∙ rw (lt-ltb i 32 h) refl
+      go (no h) = rw (filled-out i (omega arith), le-ltb i 32 (omega arith)) refl
+
+  -- ---- put
+  radius-held : radiusOf FS ≡ m .mesh .radius
+  unfolding floatsOf
+  radius-held = refl
+
+  faces-held : facesOf WS ≡ m .mesh .faces
+  unfolding wordsOf
+  faces-held = refl
+
+  verts-held : vertsOf WS ≡ m .mesh .verts
+  unfolding wordsOf
+  verts-held = refl
+
+  fresh-cells : (k : Kernel) (fit : Pieces) (n j : ℕ) → fresh fit n j ≡ cells (m .mesh) k fit n j 0
+  unfolding volumeTo times
+  fresh-cells k fit zero j = refl
+  fresh-cells k fit (suc n) j =
+      let a : min (m .mesh .faces) 0 ≡ 0 = omega arith in
+      let b : 0 - m .mesh .faces ≡ 0 = omega arith in
+      rw (a, b) (ap (λ (t : List Float). getD (fit .sigma) j nan ∷ getD (fit .coefficient) j nan ∷ +0 ∷ t) (fresh-cells k fit n (suc j)))
+
+  put-in : (i : ℕ) (k : Kernel) (fit : Pieces) → i < 32
+      → result (record { reply = counted (fit .count ∷ need (m .mesh) fit ∷ []); floats = putFloats FS i k fit; words = putWords wd WS i fit }) ≡ shown xs ys (putTurn m i k fit)
+  unfolding putFloats putWords atFirst
+  put-in i k fit h =
+      let f = write-floats wd fm (m .mesh) (m .slots) (v .slots) xs i h (full k fit 0) in
+      let g = rw (zero-div, zero-mod) at (write-words wd fm (m .mesh) (m .slots) (v .slots) ys i h (full k fit 0)) in
+      rw (faces-held, fresh-cells k fit 16 0, f, g) refl
+
+  put-held : (i : ℕ) (k : Kernel) → store wd (holding m xs ys) (put i k) ≡ shown xs ys (machine m (put i k))
+  unfolding store machine putStep
+  put-held i k = go (decLt i 32)
+    where
+      go : Dec (i < 32) → store wd (holding m xs ys) (put i k) ≡ shown xs ys (machine m (put i k))
+      go (yes h) = rw (slot-in i h, lt-ltb i 32 h, radius-held, faces-held) (put-in i k (decomposed k (m .mesh .radius)) h)
+      go (no h) = rw (slot-out i (omega arith), le-ltb i 32 (omega arith)) refl
+
+  -- ---- advance
+  advance-held : (n : ℕ) → store wd (holding m xs ys) (advance n) ≡ shown xs ys (machine m (advance n))
+  unfolding store machine advanceStep
+  advance-held n =
+      let l = leftSum (m .mesh) (m .slots) in
+      let a : n - (n - l) ≡ min n l = omega arith in
+      rw (
+        sane,
+        verts-held,
+        faces-held,
+        coords-held wd fm (m .mesh) (m .slots) (v .slots) xs (v .coords),
+        corners-held wd fm (m .mesh) (m .slots) (v .slots) ys (v .corners),
+        all-held wd fm (m .mesh) (m .slots) v xs ys n,
+        left-held wd fm (m .mesh) (m .slots) v ys,
+        a,
+        lowest-first (m .mesh) (min n l) n (m .slots) refl,
+      ) refl
+
+  -- ---- a reading
+  reading-held : (r : Reading) → store wd (holding m xs ys) (read r) ≡ shown xs ys (machine m (read r))
+  unfolding store machine
+  reading-held r = ap (seen (holding m xs ys)) (read-held wd fm (m .mesh) (m .slots) v xs ys r)
+
+  pub one-call : (c : Call) → store wd (holding m xs ys) c ≡ shown xs ys (machine m c)
+  one-call (put i k) = put-held i k
+  one-call (clear i) = clear-held i
+  one-call (reweigh i w) = reweigh-held i w
+  one-call (advance n) = advance-held n
+  one-call (read r) = reading-held r
+
+-- ---- what every turn keeps
+all-set : (P : Slot → Type 0) (ss : List Slot) (i : ℕ) (s : Slot) → P s → ((j : ℕ) → P (getD ss j empty)) → (j : ℕ) → P (getD (set ss i s) j empty)
+all-set P [] i s w h j = h j
+all-set P (x ∷ ss) zero s w h zero = w
+all-set P (x ∷ ss) zero s w h (suc j) = h (suc j)
+all-set P (x ∷ ss) (suc i) s w h zero = h zero
+all-set P (x ∷ ss) (suc i) s w h (suc j) = all-set P ss i s w (λ n. h (suc n)) j
+
+left-set : (m : Mesh) (ss : List Slot) (i : ℕ) (s : Slot) → i < length ss → leftSum m (set ss i s) + leftSlot m (getD ss i empty) ≡ leftSum m ss + leftSlot m s
+left-set m [] i s h = absurd (omega arith)
+left-set m (x ∷ ss) zero s h = omega arith
+left-set m (x ∷ ss) (suc i) s h = omega (arith, left-set m ss i s (omega arith))
+
+pub record Kept (m : Machine) (c : Call) (t : Turn) : Type 0 where
+  pub valid : Valid (t .next .mesh) (t .next .slots)
+  pub balance : doneBy c (t .reply) + leftSum (t .next .mesh) (t .next .slots) + t .next .dropped ≡ chargedBy c (t .reply) + leftSum (m .mesh) (m .slots) + m .dropped
+
+module _ (m : Machine) (v : Valid (m .mesh) (m .slots)) where
+  remade : (ss : List Slot) → length ss ≡ 32 → ((i : ℕ) → Within (m .mesh) (getD ss i empty)) → Valid (m .mesh) ss
+  remade ss l w = record { slots = l; coords = v .coords; corners = v .corners; verts = v .verts; faces = v .faces; below = v .below; within = w }
+
+  with-slot : (i : ℕ) (s : Slot) → Within (m .mesh) s → Valid (m .mesh) (set (m .slots) i s)
+  with-slot i s w = remade (set (m .slots) i s) (length-set (m .slots) i s ∙ v .slots) (all-set (Within (m .mesh)) (m .slots) i s w (v .within))
+
+  still-put : (i : ℕ) (k : Kernel) (r : Refusal) → Kept m (put i k) (turn m (refused r))
+  still-put i k r = record { valid = v; balance = refl }
+
+  still-clear : (i : ℕ) (r : Refusal) → Kept m (clear i) (turn m (refused r))
+  still-clear i r = record { valid = v; balance = refl }
+
+  still-reweigh : (i : ℕ) (w : Float) (r : Refusal) → Kept m (reweigh i w) (turn m (refused r))
+  still-reweigh i w r = record { valid = v; balance = refl }
+
+  keep-put : (i : ℕ) (k : Kernel) → i < 32 → Kept m (put i k) (putTurn m i k (decomposed k (m .mesh .radius)))
+  keep-put i k h =
+      let fit = decomposed k (m .mesh .radius) in
+      let z = left-set (m .mesh) (m .slots) i (full k fit 0) (rw (v .slots) h) in
+      record { valid = with-slot i (full k fit 0) (record { steps = omega arith; few = at-most-16 k (m .mesh .radius); fitted = refl }); balance = omega arith }
+
+  keep-clear : (i : ℕ) → i < 32 → (s : Slot) → getD (m .slots) i empty ≡ s → Kept m (clear i) (clearTurn m i s)
+  keep-clear i h empty e = still-clear i Vacant
+  keep-clear i h (full k fit p) e =
+      let z = rw e at (left-set (m .mesh) (m .slots) i empty (rw (v .slots) h)) in
+      record { valid = with-slot i empty (tt {0}); balance = omega arith }
+
+  keep-reweigh : (i : ℕ) (w : Float) → i < 32 → (s : Slot) → getD (m .slots) i empty ≡ s → Kept m (reweigh i w) (reweighTurn m i w s)
+  keep-reweigh i w h empty e = still-reweigh i w Vacant
+  keep-reweigh i w h (full k fit p) e =
+      let o = subst (Within (m .mesh)) e (v .within i) in
+      let z = rw e at (left-set (m .mesh) (m .slots) i (full (weighed k w) fit p) (rw (v .slots) h)) in
+      record {
+        valid = with-slot i (full (weighed k w) fit p) (record { steps = o .steps; few = o .few; fitted = o .fitted ∙ same-pieces (k .c) (k .c) (k .sigma) (k .w) w (k .alpha) (m .mesh .radius) });
+        balance = omega arith;
+      }
+
+  pub kept : (c : Call) → Kept m c (machine m c)
+  unfolding machine
+  kept (put i k) = go (decLt i 32)
+    where
+      go : Dec (i < 32) → Kept m (put i k) (machine m (put i k))
+      go (yes h) = rw (lt-ltb i 32 h) (keep-put i k h)
+      go (no h) = rw (le-ltb i 32 (omega arith)) (still-put i k NoPlace)
+  kept (clear i) = go (decLt i 32)
+    where
+      go : Dec (i < 32) → Kept m (clear i) (machine m (clear i))
+      go (yes h) = rw (lt-ltb i 32 h) (keep-clear i h (getD (m .slots) i empty) refl)
+      go (no h) = rw (le-ltb i 32 (omega arith)) (still-clear i NoPlace)
+  kept (reweigh i w) = go (decLt i 32)
+    where
+      go : Dec (i < 32) → Kept m (reweigh i w) (machine m (reweigh i w))
+      go (yes h) = rw (lt-ltb i 32 h) (keep-reweigh i w h (getD (m .slots) i empty) refl)
+      go (no h) = rw (le-ltb i 32 (omega arith)) (still-reweigh i w NoPlace)
+  kept (advance n) =
+      let l = leftSum (m .mesh) (m .slots) in
+      rw (lowest-first (m .mesh) (min n l) n (m .slots) refl)
+      (record {
+        valid = remade (spread (m .mesh) n (m .slots)) (spread-length 3 form3 (m .mesh) n (m .slots) ∙ v .slots) (within-spread (m .mesh) n (m .slots) (v .within));
+        balance = rw (left-spread (m .mesh) n (m .slots)) (omega arith);
+      })
+  kept (read r) = record { valid = v; balance = refl }
+
+-- ---- every list of calls
+module _ (wd : ℕ) (fm : Form wd) where
+  pub every-list : (cs : List Call) (m : Machine) → Valid (m .mesh) (m .slots) → (xs : List Float) (ys : List ℕ) → results wd (holding m xs ys) cs ≡ map (shown xs ys) (turns m cs)
+  every-list [] m v xs ys = refl
+  every-list (c ∷ cs) m v xs ys =
+      rw (one-call wd fm m v xs ys c) (ap (λ (l : List Result). shown xs ys (machine m c) ∷ l) (every-list cs (machine m c .next) (kept m v c .valid) xs ys))
+
+  pub books : (cs : List Call) (m : Machine) → Valid (m .mesh) (m .slots) → (xs : List Float) (ys : List ℕ)
+      → doneIn wd (holding m xs ys) cs + leftSum (after-all m cs .mesh) (after-all m cs .slots) + after-all m cs .dropped
+      ≡ chargedIn wd (holding m xs ys) cs + leftSum (m .mesh) (m .slots) + m .dropped
+  books [] m v xs ys = refl
+  books (c ∷ cs) m v xs ys =
+      let k = kept m v c in
+      let t = machine m c in
+      rw (one-call wd fm m v xs ys c) (omega (arith, books cs (t .next) (k .valid) xs ys, k .balance))

@@ -1,0 +1,135 @@
+-- Demand 3. Assumes nothing.
+use mathlib.Core.Path.{_≡_, refl, sym, ap, subst, _∙_}
+use mathlib.Core.Bool.{Bool, true, false, _&&_, cond, and-eq-true-iff}
+use mathlib.Core.List.{List, [], _∷_, map}
+use Prim.Native.Nat.{ℕ, _+_, _*_, _/_, _≤_}
+use native.Mathlib.Omega.{arith}
+use lib.Dec.{ltb, leb}
+use lib.ListN.{length}
+use lib.Ieee.{Float}
+use borrow.Author.Tests.{lt-ltb, ltb-true}
+use Rattle.base.specs.Refusals.{number}
+use Rattle.base.specs.Answers.{andThen}
+use Rattle.base.specs.declared.refusal.Refusal.{Refusal}
+use Rattle.base.specs.declared.refusal.Refusal.the-variants.{Ragged, Oversize, LooseCorner, ShortStore, Unfinished, ShortList}
+use Rattle.base.specs.declared.refusal.Checked.the-variants.{Passed, Failed}
+use Rattle.runs.specs.Runs.{write}
+use Rattle.mesh.specs.Checks.{ragged, oversize, allBelow, meshCheck}
+use Rattle.layout.specs.Layout.{coordsFrom, cornersFrom}
+use Rattle.store.specs.Calls.{Reply, refused, counted, After, after, openCheck, openStep}
+use Rattle.readings.specs.Readings.{Reading, density, report, list, needsWork, bare, applied, rescaled, sixes, Seen, Outcome, outcome, answerOf, refusing}
+use Rattle.machine.specs.Machine.{leftSum, Machine, opened}
+use Rattle.machine.specs.Holding.{Form, excessF, excessW}
+use Rattle.machine.specs.Fresh.{freshSeen}
+use Rattle.machine.specs.Calls.{Call, advance, read, machine, Store, Result, store, leaves, after-all, holding, leftIn}
+use Rattle.machine.specs.Demands.{leaving, Same, Read, Each, end, next, Follows, Demand3}
+use Rattle.machine.proofs.Valid.{Valid}
+use Rattle.machine.proofs.Claim.{one-call, kept, books}
+use Rattle.machine.proofs.Opened.{opens, opened-valid}
+
+-- ---- what is answered is never 8
+listed-not : (b : Bool) (n : ℕ) (o out : List Float) → cond b (outcome (counted (n ∷ [])) o) (outcome (refused ShortList) out) .reply .refusal ≡ 8 → ⊥
+listed-not true n o out e = omega arith
+listed-not false n o out e = omega arith
+
+not-eight : (r : Reading) (s : Seen) → answerOf r s .reply ≡ refused Unfinished → ⊥
+not-eight (density v x) s e = let z : _≡_ {A = ℕ} 0 8 = ap (λ (a : Reply). a .refusal) e in omega arith
+not-eight (report v) s e = let z : _≡_ {A = ℕ} 0 8 = ap (λ (a : Reply). a .refusal) e in omega arith
+not-eight (list v out) s e =
+    let ks = map bare (s .parts) in
+    listed-not (leb (6 * length ks) (length out)) (length ks) (write out 0 (sixes (map (rescaled (applied v (s .parts))) ks))) out (ap (λ (a : Reply). a .refusal) e)
+
+eight : (r : Reading) → refusing r Unfinished .reply ≡ refused Unfinished
+eight (density v x) = refl
+eight (report v) = refl
+eight (list v out) = refl
+
+module _ (r : Reading) (s : Seen) where
+  when-eight : (b : Bool) → cond b (refusing r Unfinished) (answerOf r s) .reply ≡ refused Unfinished → b ≡ true
+  when-eight true e = refl
+  when-eight false e = absurd (not-eight r s e)
+
+  when-not : (b : Bool) → (cond b (refusing r Unfinished) (answerOf r s) .reply ≡ refused Unfinished → ⊥) → cond b (refusing r Unfinished) (answerOf r s) ≡ answerOf r s
+  when-not true n = absurd (n (eight r))
+  when-not false n = refl
+
+module _ (wd : ℕ) (fm : Form wd) (exF : List Float) (exW : List ℕ) where
+  same : (m : Machine) → Valid (m .mesh) (m .slots) → (c : Call) → Same wd exF exW m (holding m exF exW) c
+  same m v c =
+      let e = one-call wd fm m v exF exW c in
+      record { before = refl; reply = ap (λ (r : Result). r .reply) e; lent = ap (λ (r : Result). r .out) e; fields = ap (λ (r : Result). r .left) e }
+
+  reading : (m : Machine) → Valid (m .mesh) (m .slots) → (r : Reading) → Read wd m (holding m exF exW) r
+  unfolding machine
+  reading m v r =
+      let e = one-call wd fm m v exF exW (read r) in
+      let er = ap (λ (x : Result). x .reply) e in
+      let eo = ap (λ (x : Result). x .out) e in
+      let l = leftSum (m .mesh) (m .slots) in
+      let b = needsWork r && ltb 0 l in
+      let f = freshSeen (m .mesh) (m .slots) in
+      record {
+        unfinished = λ n h. er ∙ rw (n, lt-ltb 0 l h) (eight r);
+        only-then = λ z. let t = and-eq-true-iff (needsWork r) (ltb 0 l) .0 (when-eight r f b (sym er ∙ z)) in (t .0, ltb-true 0 l (t .1));
+        afresh = λ z.
+            (er ∙ ap (λ (a : Outcome). a .reply) (when-not r f b (λ y. z (er ∙ y))), eo ∙ ap (λ (a : Outcome). a .out) (when-not r f b (λ y. z (er ∙ y))));
+        kept = ap (λ (x : Result). x .left) e;
+      }
+
+  each : (cs : List Call) (m : Machine) → Valid (m .mesh) (m .slots) → Each wd exF exW m (holding m exF exW) cs
+  each [] m v = end
+  each (c ∷ cs) m v =
+      let s = same m v c in
+      next s (reading m v) (subst (λ (t : Store). Each wd exF exW (machine m c .next) t cs) (sym (s .fields)) (each cs (machine m c .next) (kept m v c .valid)))
+
+  last : (cs : List Call) (m : Machine) → Valid (m .mesh) (m .slots) → (leaves wd (holding m exF exW) cs ≡ holding (after-all m cs) exF exW) × Valid (after-all m cs .mesh) (after-all m cs .slots)
+  last [] m v = (refl, v)
+  last (c ∷ cs) m v =
+      let i = last cs (machine m c .next) (kept m v c .valid) in
+      (ap (λ (t : Store). leaves wd t cs) (same m v c .fields) ∙ i .0, i .1)
+
+  left-asked : (m : Machine) → Valid (m .mesh) (m .slots) → leftIn (store wd (holding m exF exW) (advance 0) .reply) ≡ leftSum (m .mesh) (m .slots)
+  unfolding machine
+  left-asked m v = ap (λ (x : Result). leftIn (x .reply)) (one-call wd fm m v exF exW (advance 0)) ∙ omega arith
+
+  follows : (cs : List Call) (m : Machine) → Valid (m .mesh) (m .slots) → leftSum (m .mesh) (m .slots) ≡ 0 → m .dropped ≡ 0 → Follows wd exF exW m (holding m exF exW) cs
+  follows cs m v z d =
+      let i = last cs m v in
+      let l : leftIn (store wd (leaves wd (holding m exF exW) cs) (advance 0) .reply) ≡ leftSum (after-all m cs .mesh) (after-all m cs .slots)
+      = ap (λ (t : Store). leftIn (store wd t (advance 0) .reply)) (i .0) ∙ left-asked (after-all m cs) (i .1) in
+      let b = books wd fm cs m v exF exW in
+      record { calls = each cs m v; sums = omega arith }
+
+-- ---- the refusals of an opening
+open-number : (q n : ℕ) (ks : List ℕ) (a b : ℕ) (e : Refusal) → openCheck q n ks a b ≡ Failed e → number e ≤ 4
+unfolding openCheck meshCheck
+open-number q n ks a b e h = go (ragged n ks) (oversize n ks) (allBelow (n / 3) ks) (leb (coordsFrom + n) a && leb (cornersFrom q + length ks) b) h
+  where
+    is : (x : Refusal) → number x ≤ 4 → Failed x ≡ Failed e → number e ≤ 4
+    is x l z = let y : x ≡ e = cc in rw y at l
+
+    go : (x y z w : Bool) → andThen (cond x (Failed Ragged) (cond y (Failed Oversize) (cond z Passed (Failed LooseCorner)))) (cond w Passed (Failed ShortStore)) ≡ Failed e → number e ≤ 4
+    go true y z w h = is Ragged (omega arith) h
+    go false true z w h = is Oversize (omega arith) h
+    go false false false w h = is LooseCorner (omega arith) h
+    go false false true false h = is ShortStore (omega arith) h
+    go false false true true h = absurd (let o : _≡_ {A = ℕ} 0 1 = cc in omega arith)
+
+refuses : (q : ℕ) (r : Float) (xs : List Float) (ks : List ℕ) (fs : List Float) (ws : List ℕ) (e : Refusal)
+    → openCheck q (length xs) ks (length fs) (length ws) ≡ Failed e → openStep q fs ws r xs ks ≡ after (refused e) fs ws
+unfolding openStep
+refuses q r xs ks fs ws e h = rw h refl
+
+pub demand3 : (wd : ℕ) → Form wd → (r : Float) (xs : List Float) (ks : List ℕ) (fs : List Float) (ws : List ℕ) → Demand3 wd r xs ks fs ws
+demand3 wd fm r xs ks fs ws =
+    record {
+      refused-as = refuses wd r xs ks fs ws;
+      one-to-four = open-number wd (length xs) ks (length fs) (length ws);
+      accepted = λ h. ap (λ (a : After). a .reply) (opens wd fm r xs ks fs ws h);
+      holds = holds;
+      every-list = λ h cs. subst (λ (s : Store). Follows wd (excessF xs fs) (excessW wd ks ws) (opened r xs ks) s cs) (sym (holds h))
+          (follows wd fm (excessF xs fs) (excessW wd ks ws) cs (opened r xs ks) (opened-valid wd fm r xs ks (length fs) (length ws) h) refl refl);
+    }
+  where
+    holds : openCheck wd (length xs) ks (length fs) (length ws) ≡ Passed → leaving (openStep wd fs ws r xs ks) ≡ holding (opened r xs ks) (excessF xs fs) (excessW wd ks ws)
+    holds h = ap leaving (opens wd fm r xs ks fs ws h)

@@ -1,0 +1,233 @@
+-- What a store that holds a mesh and slots has in each field, and what a write leaves. Assumes nothing.
+use mathlib.Core.Path.{_≡_, refl, sym, ap, _∙_}
+use mathlib.Core.List.{List, [], _∷_, _++_, map, append-assoc}
+use Prim.Native.Nat.{ℕ, zero, suc, _+_, _*_, _-_, _≤_, _<_}
+use native.Mathlib.Nat.{mul-suc}
+use native.Mathlib.Omega.{arith}
+use lib.ListN.{length-set, length, take, drop, getD, set, length-append}
+use lib.Seq.{getD-append-add, drop-at, take-at, set-set, set-getD, getD-set-same}
+use lib.Ieee.{Float, nan}
+use Rattle.runs.specs.Runs.{write}
+use Rattle.layout.specs.Layout.{cornersFrom, statusOf, finishedOf, doneOf}
+use Rattle.kernel.specs.declared.kernel.Kernel.{Kernel}
+use Rattle.pieces.specs.declared.pieces.Pieces.{Pieces}
+use Rattle.machine.specs.Machine.{Mesh, Slot, empty, full}
+use Rattle.machine.specs.Holding.{Form, form3, placeRow, floats7, floats48, cells, flat, floatsOf, wordsOf}
+use Rattle.machine.proofs.Rows.{Each, row-get, row-set, row-write, flat-length, map-set, map-getD, each-map, map-length, set-append-add, write-append-add, each-set}
+
+-- a form has at least three words per place
+pub at-least : {w : ℕ} → Form w → 3 ≤ w
+at-least form3 = omega arith
+
+module _ (wd : ℕ) (fm : Form wd) where
+  three-in : 3 ≤ wd
+  three-in = at-least fm
+
+  pub cells-length : (m : Mesh) (k : Kernel) (fit : Pieces) (n j t : ℕ) → length (cells m k fit n j t) ≡ 3 * n
+  cells-length m k fit zero j t = refl
+  cells-length m k fit (suc n) j t = rw mul-suc (omega (arith, cells-length m k fit n (suc j) (t - m .faces)))
+
+  module _ (m : Mesh) where
+    pub len3 : (s : Slot) → length (placeRow m s) ≡ wd
+    len3 empty = go fm
+      where
+        go : {w : ℕ} → Form w → length (placeRow m empty) ≡ w
+        go form3 = refl
+    len3 (full k fit p) = go fm
+      where
+        go : {w : ℕ} → Form w → length (placeRow m (full k fit p)) ≡ w
+        go form3 = refl
+
+    pub len7 : (s : Slot) → length (floats7 s) ≡ 7
+    len7 empty = refl
+    len7 (full k fit p) = refl
+
+    pub len48 : (s : Slot) → length (floats48 m s) ≡ 48
+    len48 empty = refl
+    len48 (full k fit p) = cells-length m k fit 16 0 p
+
+    pub each3 : (ss : List Slot) → Each wd (map (placeRow m) ss)
+    each3 ss = each-map wd (placeRow m) len3 ss
+
+    pub each7 : (ss : List Slot) → Each 7 (map floats7 ss)
+    each7 ss = each-map 7 floats7 len7 ss
+
+    pub each48 : (ss : List Slot) → Each 48 (map (floats48 m) ss)
+    each48 ss = each-map 48 (floats48 m) len48 ss
+
+    module _ (ss : List Slot) (hs : length ss ≡ 32) where
+      in-map : {B : Type 0} (g : Slot → B) (i : ℕ) → i < 32 → i < length (map g ss)
+      in-map g i h = rw (map-length, hs) h
+
+      module _ (ys : List ℕ) (i : ℕ) (h : i < 32) where
+        abbrev rest3 : List ℕ
+        rest3 = m .corners ++ ys
+
+        pub get-word : (j : ℕ) → j < wd → getD (wordsOf m ss ys) (2 + (wd * i + j)) 0 ≡ getD (placeRow m (getD ss i empty)) j 0
+        unfolding wordsOf
+        get-word j hj =
+            getD-append-add (m .verts ∷ m .faces ∷ []) (flat (map (placeRow m) ss) ++ rest3) (wd * i + j) 0
+            ∙ (row-get wd (map (placeRow m) ss) (each3 ss) rest3 i j 0 (in-map (placeRow m) i h) hj
+            ∙ ap (λ (r : List ℕ). getD r j 0) (map-getD (placeRow m) ss i empty [] (rw hs h)))
+
+        pub status-held : statusOf wd (wordsOf m ss ys) i ≡ getD (placeRow m (getD ss i empty)) 0 0
+        status-held = let e : 2 + wd * i ≡ 2 + (wd * i + 0) = omega arith in rw e (get-word 0 (omega (arith, three-in)))
+
+        pub finished-held : finishedOf wd (wordsOf m ss ys) i ≡ getD (placeRow m (getD ss i empty)) 1 0
+        finished-held = let e : 3 + wd * i ≡ 2 + (wd * i + 1) = omega arith in rw e (get-word 1 (omega (arith, three-in)))
+
+        pub done-held : doneOf wd (wordsOf m ss ys) i ≡ getD (placeRow m (getD ss i empty)) 2 0
+        done-held = let e : 4 + wd * i ≡ 2 + (wd * i + 2) = omega arith in rw e (get-word 2 (omega (arith, three-in)))
+
+        pub write-words : (s : Slot) → write (wordsOf m ss ys) (2 + wd * i) (placeRow m s) ≡ wordsOf m (set ss i s) ys
+        unfolding wordsOf
+        write-words s =
+            write-append-add (m .verts ∷ m .faces ∷ []) (flat (map (placeRow m) ss) ++ rest3) (wd * i) (placeRow m s)
+            ∙ ap (λ (l : List ℕ). m .verts ∷ m .faces ∷ l)
+            (row-write wd (map (placeRow m) ss) (each3 ss) rest3 i (placeRow m s) (in-map (placeRow m) i h) (len3 s)
+            ∙ ap (λ (r : List (List ℕ)). flat r ++ rest3) (sym (map-set (placeRow m) ss i s)))
+
+      module _ (xs : List Float) (i : ℕ) (h : i < 32) where
+        abbrev rest48 : List Float
+        rest48 = m .coords ++ xs
+
+        abbrev rest7 : List Float
+        rest7 = flat (map (floats48 m) ss) ++ rest48
+
+        head48 : length (m .radius ∷ flat (map floats7 ss)) ≡ 225
+        head48 = rw (flat-length 7 (map floats7 ss) (each7 ss), map-length, hs) refl
+
+        pub get7 : (j : ℕ) → j < 7 → getD (floatsOf m ss xs) (1 + (7 * i + j)) nan ≡ getD (floats7 (getD ss i empty)) j nan
+        unfolding floatsOf
+        get7 j hj =
+            getD-append-add (m .radius ∷ []) (flat (map floats7 ss) ++ rest7) (7 * i + j) nan
+            ∙ (row-get 7 (map floats7 ss) (each7 ss) rest7 i j nan (in-map floats7 i h) hj
+            ∙ ap (λ (r : List Float). getD r j nan) (map-getD floats7 ss i empty [] (rw hs h)))
+
+        pub get48 : (j : ℕ) → j < 48 → getD (floatsOf m ss xs) (225 + (48 * i + j)) nan ≡ getD (floats48 m (getD ss i empty)) j nan
+        unfolding floatsOf
+        get48 j hj =
+            ap (λ (n : ℕ). getD (m .radius ∷ (flat (map floats7 ss) ++ rest7)) (n + (48 * i + j)) nan) (sym head48)
+            ∙ (getD-append-add (m .radius ∷ flat (map floats7 ss)) rest7 (48 * i + j) nan
+            ∙ (row-get 48 (map (floats48 m) ss) (each48 ss) rest48 i j nan (in-map (floats48 m) i h) hj
+            ∙ ap (λ (r : List Float). getD r j nan) (map-getD (floats48 m) ss i empty [] (rw hs h))))
+
+  -- a float run by its rows
+  abbrev raw : Float → List (List Float) → List (List Float) → List Float → List Float
+  raw r a b rest = r ∷ (flat a ++ (flat b ++ rest))
+
+  module _ (r : Float) (a b : List (List Float)) (ea : Each 7 a) (eb : Each 48 b) (la : length a ≡ 32) (lb : length b ≡ 32) (rest : List Float) (i : ℕ) (h : i < 32) where
+    head : length (r ∷ flat a) ≡ 225
+    head = rw (flat-length 7 a ea, la) refl
+
+    pub raw-write7 : (vs : List Float) → length vs ≡ 7 → write (raw r a b rest) (1 + 7 * i) vs ≡ raw r (set a i vs) b rest
+    raw-write7 vs hv =
+        write-append-add (r ∷ []) (flat a ++ (flat b ++ rest)) (7 * i) vs
+        ∙ ap (λ (l : List Float). r ∷ l) (row-write 7 a ea (flat b ++ rest) i vs (rw la h) hv)
+
+    pub raw-set7 : (j : ℕ) (v : Float) → j < 7 → set (raw r a b rest) (1 + (7 * i + j)) v ≡ raw r (set a i (set (getD a i []) j v)) b rest
+    raw-set7 j v hj =
+        set-append-add (r ∷ []) (flat a ++ (flat b ++ rest)) (7 * i + j) v
+        ∙ ap (λ (l : List Float). r ∷ l) (row-set 7 a ea (flat b ++ rest) i j v (rw la h) hj)
+
+    pub raw-write48 : (vs : List Float) → length vs ≡ 48 → write (raw r a b rest) (225 + 48 * i) vs ≡ raw r a (set b i vs) rest
+    raw-write48 vs hv =
+        ap (λ (n : ℕ). write (raw r a b rest) (n + 48 * i) vs) (sym head)
+        ∙ (write-append-add (r ∷ flat a) (flat b ++ rest) (48 * i) vs
+        ∙ ap (λ (l : List Float). (r ∷ flat a) ++ l) (row-write 48 b eb rest i vs (rw lb h) hv))
+
+    pub raw-set48 : (j : ℕ) (v : Float) → j < 48 → set (raw r a b rest) (225 + (48 * i + j)) v ≡ raw r a (set b i (set (getD b i []) j v)) rest
+    raw-set48 j v hj =
+        ap (λ (n : ℕ). set (raw r a b rest) (n + (48 * i + j)) v) (sym head)
+        ∙ (set-append-add (r ∷ flat a) (flat b ++ rest) (48 * i + j) v
+        ∙ ap (λ (l : List Float). (r ∷ flat a) ++ l) (row-set 48 b eb rest i j v (rw lb h) hj))
+
+  module _ (m : Mesh) (ss : List Slot) (hs : length ss ≡ 32) (xs : List Float) (i : ℕ) (h : i < 32) where
+    l7 : length (map floats7 ss) ≡ 32
+    l7 = map-length floats7 ss ∙ hs
+
+    l48 : length (map (floats48 m) ss) ≡ 32
+    l48 = map-length (floats48 m) ss ∙ hs
+
+    -- place i's floats written anew
+    pub write-floats : (s : Slot) → write (write (floatsOf m ss xs) (1 + 7 * i) (floats7 s)) (225 + 48 * i) (floats48 m s) ≡ floatsOf m (set ss i s) xs
+    unfolding floatsOf
+    write-floats s =
+        let a = map floats7 ss in
+        let b = map (floats48 m) ss in
+        ap (λ (l : List Float). write l (225 + 48 * i) (floats48 m s)) (raw-write7 (m .radius) a b (each7 m ss) (each48 m ss) l7 l48 (m .coords ++ xs) i h (floats7 s) (len7 m s))
+        ∙ (raw-write48 (m .radius) (set a i (floats7 s)) b (each-set 7 a (each7 m ss) i (floats7 s) (len7 m s)) (each48 m ss) (length-set a i (floats7 s) ∙ l7) l48 (m .coords ++ xs) i h (floats48 m s) (len48 m s)
+        ∙ rw (map-set floats7 ss i s, map-set (floats48 m) ss i s) refl)
+
+    -- one float of place i's seven, where the pieces stay
+    pub set-seven : (s : Slot) (j : ℕ) (v : Float) → j < 7 → set (floats7 (getD ss i empty)) j v ≡ floats7 s → floats48 m s ≡ floats48 m (getD ss i empty) → set (floatsOf m ss xs) (1 + (7 * i + j)) v ≡ floatsOf m (set ss i s) xs
+    unfolding floatsOf
+    set-seven s j v hj e q =
+        let a = map floats7 ss in
+        let b = map (floats48 m) ss in
+        raw-set7 (m .radius) a b (each7 m ss) (each48 m ss) l7 l48 (m .coords ++ xs) i h j v hj
+        ∙ rw (map-getD floats7 ss i empty [] (rw hs h), e, map-set floats7 ss i s, map-set (floats48 m) ss i s, q, ← map-getD (floats48 m) ss i empty [] (rw hs h), set-getD b i []) refl
+
+    -- one float of its forty-eight, where the seven stay
+    pub set-piece : (s : Slot) (j : ℕ) (v : Float) → j < 48 → set (floats48 m (getD ss i empty)) j v ≡ floats48 m s → floats7 s ≡ floats7 (getD ss i empty) → set (floatsOf m ss xs) (225 + (48 * i + j)) v ≡ floatsOf m (set ss i s) xs
+    unfolding floatsOf
+    set-piece s j v hj e q =
+        let a = map floats7 ss in
+        let b = map (floats48 m) ss in
+        raw-set48 (m .radius) a b (each7 m ss) (each48 m ss) l7 l48 (m .coords ++ xs) i h j v hj
+        ∙ rw (map-getD (floats48 m) ss i empty [] (rw hs h), e, map-set floats7 ss i s, map-set (floats48 m) ss i s, q, ← map-getD floats7 ss i empty [] (rw hs h), set-getD a i []) refl
+
+  -- the mesh part
+  module _ (m : Mesh) (ss : List Slot) (hs : length ss ≡ 32) where
+    pub coords-held : (xs : List Float) → length (m .coords) ≡ 3 * m .verts → take (3 * m .verts) (drop 1761 (floatsOf m ss xs)) ≡ m .coords
+    unfolding floatsOf
+    coords-held xs e =
+        let p = (m .radius ∷ flat (map floats7 ss)) ++ flat (map (floats48 m) ss) in
+        let n : length p ≡ 1761 = rw (length-append, flat-length 7 (map floats7 ss) (each7 m ss), flat-length 48 (map (floats48 m) ss) (each48 m ss), map-length, map-length, hs) refl in
+        ap (λ (l : List Float). take (3 * m .verts) (drop 1761 l)) (sym (append-assoc (m .radius ∷ flat (map floats7 ss)) (flat (map (floats48 m) ss)) (m .coords ++ xs)))
+        ∙ (ap (take (3 * m .verts)) (drop-at p (m .coords ++ xs) 1761 n) ∙ take-at (m .coords) xs (3 * m .verts) e)
+
+    pub corners-held : (ys : List ℕ) → length (m .corners) ≡ 3 * m .faces → take (3 * m .faces) (drop (cornersFrom wd) (wordsOf m ss ys)) ≡ m .corners
+    unfolding wordsOf
+    corners-held ys e =
+        let p = m .verts ∷ m .faces ∷ flat (map (placeRow m) ss) in
+        let n : length p ≡ cornersFrom wd = rw (flat-length wd (map (placeRow m) ss) (each3 m ss), map-length, hs) (omega arith) in
+        ap (take (3 * m .faces)) (drop-at p (m .corners ++ ys) (cornersFrom wd) n) ∙ take-at (m .corners) ys (3 * m .faces) e
+
+    pub words-long : (ys : List ℕ) → length (m .corners) ≡ 3 * m .faces → cornersFrom wd + 3 * m .faces ≤ length (wordsOf m ss ys)
+    unfolding wordsOf
+    words-long ys e = rw (length-append, flat-length wd (map (placeRow m) ss) (each3 m ss), map-length, hs, length-append) (omega arith)
+
+    pub floats-long : (xs : List Float) → length (m .coords) ≡ 3 * m .verts → 1761 + 3 * m .verts ≤ length (floatsOf m ss xs)
+    unfolding floatsOf
+    floats-long xs e = rw (length-append, flat-length 7 (map floats7 ss) (each7 m ss), map-length, hs, length-append, flat-length 48 (map (floats48 m) ss) (each48 m ss), map-length, hs, length-append) (omega arith)
+
+  -- two of place i's words, where the first stays
+  module _ (m : Mesh) (ss : List Slot) (hs : length ss ≡ 32) (ys : List ℕ) (i : ℕ) (h : i < 32) where
+    one-word : (a : List (List ℕ)) → Each wd a → length a ≡ 32 → (j : ℕ) (v : ℕ) → j < wd
+        → set (m .verts ∷ m .faces ∷ (flat a ++ (m .corners ++ ys))) (2 + (wd * i + j)) v ≡ m .verts ∷ m .faces ∷ (flat (set a i (set (getD a i []) j v)) ++ (m .corners ++ ys))
+    one-word a ea la j v hj =
+        set-append-add (m .verts ∷ m .faces ∷ []) (flat a ++ (m .corners ++ ys)) (wd * i + j) v
+        ∙ ap (λ (l : List ℕ). m .verts ∷ m .faces ∷ l) (row-set wd a ea (m .corners ++ ys) i j v (rw la h) hj)
+
+    pub two-words : (s : Slot) (x y : ℕ) → set (set (placeRow m (getD ss i empty)) 1 x) 2 y ≡ placeRow m s → set (set (wordsOf m ss ys) (3 + wd * i) x) (4 + wd * i) y ≡ wordsOf m (set ss i s) ys
+    unfolding wordsOf
+    two-words s x y e =
+        let a = map (placeRow m) ss in
+        let b = set a i (set (getD a i []) 1 x) in
+        let la : length a ≡ 32 = map-length (placeRow m) ss ∙ hs in
+        let g : getD a i [] ≡ placeRow m (getD ss i empty) = map-getD (placeRow m) ss i empty [] (rw hs h) in
+        let lr : length (set (getD a i []) 1 x) ≡ wd = length-set (getD a i []) 1 x ∙ (ap length g ∙ len3 m (getD ss i empty)) in
+        let i1 : 3 + wd * i ≡ 2 + (wd * i + 1) = omega arith in
+        let i2 : 4 + wd * i ≡ 2 + (wd * i + 2) = omega arith in
+        rw (
+          i1,
+          i2,
+          one-word a (each3 m ss) la 1 x (omega (arith, three-in)),
+          one-word b (each-set wd a (each3 m ss) i (set (getD a i []) 1 x) lr) (length-set a i (set (getD a i []) 1 x) ∙ la) 2 y (omega (arith, three-in)),
+          getD-set-same a i (set (getD a i []) 1 x) [] (rw la h),
+          set-set,
+          g,
+          e,
+          map-set (placeRow m) ss i s,
+        ) refl

@@ -1,0 +1,11 @@
+pub mod Rows
+pub mod Held
+pub mod Valid
+pub mod Sane
+pub mod Step
+pub mod Sweep
+pub mod Read
+pub mod Look
+pub mod Claim
+pub mod Opened
+pub mod Demand

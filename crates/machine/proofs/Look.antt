@@ -1,0 +1,133 @@
+-- A reading of a store that holds a machine is the machine's reading, worked afresh. Assumes nothing.
+use mathlib.Core.Path.{_≡_, refl, ap, _∙_}
+use mathlib.Core.List.{List, [], _∷_, _++_, map}
+use mathlib.Core.Bool.{Bool, true, false, _&&_, cond, true≢false}
+use Prim.Native.Nat.{ℕ, zero, suc, _+_, _*_, _≤_, _<_}
+use native.Mathlib.Omega.{arith}
+use lib.ListN.{take, getD}
+use lib.Seq.{take-suc, take-all}
+use lib.Dec.{ltb, eqb}
+use lib.Ieee.{Float, nan, lt, ofBits}
+use borrow.Author.Tests.{ltb-false, ne-eqb}
+use Rattle.base.specs.Floats.{+0}
+use Rattle.base.specs.declared.refusal.Refusal.the-variants.{Unfinished}
+use Rattle.mass.specs.Centroid.{bodyVolume}
+use Rattle.kernel.specs.declared.kernel.Kernel.{Kernel}
+use Rattle.pieces.specs.declared.pieces.Pieces.{Pieces}
+use Rattle.density.specs.declared.convention.Convention.{Convention}
+use Rattle.density.specs.declared.convention.Convention.the-variants.{Raw, Rho0, Mass}
+use Rattle.density.specs.Conventions.{bulkOf, targetOf, rho0Scale, massScale, appliedScale}
+use Rattle.layout.specs.Layout.{vertsOf, facesOf}
+use Rattle.advance.specs.Steps.{held}
+use Rattle.readings.specs.Readings.{Reading, density, report, list, byMass, needsWork, Part, bare, densityAt, rawMass, origin, applied, rescaled, Seen, seeing, outcome, listing, answerOf, refusing, readingOf, heldFilled, greater, heldWorst, heldSeen, readStep}
+use Rattle.machine.specs.Machine.{Mesh, Slot, empty, full, leftSum}
+use Rattle.machine.specs.Holding.{Form, triangles, placeRow, floatsOf, wordsOf}
+use Rattle.machine.specs.Fresh.{filledOne, freshFilled, worseOne, worstFrom, freshSeen}
+use Rattle.machine.proofs.Valid.{Within, Valid}
+use Rattle.machine.proofs.Held.{get7, status-held, coords-held, corners-held}
+use Rattle.machine.proofs.Sane.{no-fault}
+use Rattle.machine.proofs.Sweep.{left-held}
+use Rattle.machine.proofs.Read.{bare-all, whole-all}
+
+-- ---- a reading that needs no work does not look at volumes
+zero-not : lt +0 +0 ≡ false
+unfolding lt ofBits
+zero-not = refl
+
+scale-blind : (v : Convention) → byMass v ≡ false → (raw raw′ scale : Float) → appliedScale v raw scale ≡ appliedScale v raw′ scale
+unfolding appliedScale massScale targetOf
+scale-blind Raw n raw raw′ scale = refl
+scale-blind (Rho0 b) n raw raw′ scale = refl
+scale-blind (Mass t b) n raw raw′ scale = rw (n, zero-not) refl
+
+applied-blind : (v : Convention) → byMass v ≡ false → (ps qs : List Part) → map bare ps ≡ map bare qs → applied v ps ≡ applied v qs
+applied-blind v n ps qs e =
+    scale-blind v n (rawMass ps) (rawMass qs) (rho0Scale (bulkOf v) (densityAt (map bare ps) origin))
+    ∙ ap (λ (ks : List Kernel). appliedScale v (rawMass qs) (rho0Scale (bulkOf v) (densityAt ks origin))) e
+
+pub blind : (r : Reading) → needsWork r ≡ false → (s t : Seen) → map bare (s .parts) ≡ map bare (t .parts) → answerOf r s ≡ answerOf r t
+blind (density v x) n s t e =
+    ap (λ (a : Float). outcome (record { refusal = 0; counts = []; floats = densityAt (map (rescaled a) (map bare (s .parts))) x ∷ [] }) []) (applied-blind v n (s .parts) (t .parts) e)
+    ∙ ap (λ (ks : List Kernel). outcome (record { refusal = 0; counts = []; floats = densityAt (map (rescaled (applied v (t .parts))) ks) x ∷ [] }) []) e
+blind (report v) n s t e = absurd (true≢false n)
+blind (list v out) n s t e =
+    ap (λ (a : Float). listing a (map bare (s .parts)) out) (applied-blind v n (s .parts) (t .parts) e)
+    ∙ ap (λ (ks : List Kernel). listing (applied v (t .parts)) ks out) e
+
+same-seen : {p p′ : List Part} {b b′ : Float} {n n′ : ℕ} {e e′ : Float} → p ≡ p′ → b ≡ b′ → n ≡ n′ → e ≡ e′
+    → seeing p b n e ≡ seeing p′ b′ n′ e′
+same-seen hp hb hn he = rw (hp, hb, hn, he) refl
+
+module _ (wd : ℕ) (fm : Form wd) (m : Mesh) (ss : List Slot) (v : Valid m ss) (xs : List Float) (ys : List ℕ) where
+  abbrev FS : List Float
+  FS = floatsOf m ss xs
+
+  abbrev WS : List ℕ
+  WS = wordsOf m ss ys
+
+  -- ---- count and greatest error
+  filled-snoc : (l : List Slot) (s : Slot) → freshFilled (l ++ (s ∷ [])) ≡ freshFilled l + filledOne s
+  filled-snoc [] s = omega arith
+  filled-snoc (x ∷ l) s = omega (arith, filled-snoc l s)
+
+  worst-snoc : (e : Float) (l : List Slot) (s : Slot) → worstFrom m e (l ++ (s ∷ [])) ≡ worseOne m (worstFrom m e l) s
+  worst-snoc e [] s = refl
+  worst-snoc e (x ∷ l) s = worst-snoc (worseOne m e x) l s
+
+  not-empty : (fit : Pieces) → eqb (1 + fit .count) 0 ≡ false
+  not-empty fit = ne-eqb (1 + fit .count) 0 (λ e. omega arith)
+
+  filled-one : (s : Slot) → cond (eqb (getD (placeRow m s) 0 0) 0) 0 1 ≡ filledOne s
+  filled-one empty = refl
+  filled-one (full k fit p) = rw (not-empty fit) refl
+
+  worst-one : (i : ℕ) → i < 32 → (e : Float) (s : Slot) → getD ss i empty ≡ s → Within m s → cond (eqb (getD (placeRow m s) 0 0) 0) e (greater e (getD FS (7 + 7 * i) nan)) ≡ worseOne m e s
+  worst-one i h e empty q w = refl
+  worst-one i h e (full k fit p) q w =
+      let a : 7 + 7 * i ≡ 1 + (7 * i + 6) = omega arith in
+      rw (not-empty fit, a, get7 wd fm m ss (v .slots) xs i h 6 (omega arith), q) (ap (λ (f : Pieces). greater e (f .error)) (w .fitted))
+
+  filled-to : (n : ℕ) → n ≤ 32 → heldFilled wd WS n ≡ freshFilled (take n ss)
+  unfolding heldFilled
+  filled-to zero h = refl
+  filled-to (suc n) h =
+      rw (status-held wd fm m ss (v .slots) ys n h, filled-one (getD ss n empty), filled-to n (omega arith), take-suc ss n empty (rw (v .slots) h), filled-snoc (take n ss) (getD ss n empty)) refl
+
+  worst-to : (n : ℕ) → n ≤ 32 → heldWorst wd FS WS n ≡ worstFrom m +0 (take n ss)
+  unfolding heldWorst
+  worst-to zero h = refl
+  worst-to (suc n) h =
+      rw (status-held wd fm m ss (v .slots) ys n h, worst-to n (omega arith), worst-one n h (worstFrom m +0 (take n ss)) (getD ss n empty) refl (v .within n), take-suc ss n empty (rw (v .slots) h), worst-snoc +0 (take n ss) (getD ss n empty)) refl
+
+  all : take 32 ss ≡ ss
+  all = take-all 32 ss (rw (v .slots) (omega arith))
+
+  faces-held : facesOf WS ≡ m .faces
+  unfolding wordsOf
+  faces-held = refl
+
+  verts-held : vertsOf WS ≡ m .verts
+  unfolding wordsOf
+  verts-held = refl
+
+  body-held : bodyVolume (held wd FS WS (vertsOf WS) (facesOf WS)) (facesOf WS) ≡ bodyVolume (triangles m) (m .faces)
+  body-held = rw (verts-held, faces-held, coords-held wd fm m ss (v .slots) xs (v .coords), corners-held wd fm m ss (v .slots) ys (v .corners)) refl
+
+  -- with nothing left a reading sees what is worked afresh
+  whole-seen : leftSum m ss ≡ 0 → heldSeen wd FS WS ≡ freshSeen m ss
+  unfolding heldSeen freshSeen
+  whole-seen z =
+      same-seen (whole-all wd fm m ss v xs ys z) body-held (filled-to 32 (omega arith) ∙ ap freshFilled all) (worst-to 32 (omega arith) ∙ ap (worstFrom m +0) all)
+
+  bare-seen : map bare (heldSeen wd FS WS .parts) ≡ map bare (freshSeen m ss .parts)
+  unfolding heldSeen freshSeen
+  bare-seen = bare-all wd fm m ss v xs ys
+
+  pub read-held : (r : Reading) → readStep wd FS WS r ≡ readingOf r (leftSum m ss) (freshSeen m ss)
+  unfolding readStep
+  read-held r = rw (no-fault wd fm m ss v xs ys, faces-held, left-held wd fm m ss v ys) (go (needsWork r) refl (ltb 0 (leftSum m ss)) refl)
+    where
+      go : (b : Bool) → needsWork r ≡ b → (c : Bool) → ltb 0 (leftSum m ss) ≡ c → cond (b && c) (refusing r Unfinished) (answerOf r (heldSeen wd FS WS)) ≡ cond (b && c) (refusing r Unfinished) (answerOf r (freshSeen m ss))
+      go false n c e = blind r n (heldSeen wd FS WS) (freshSeen m ss) bare-seen
+      go true n true e = refl
+      go true n false e = ap (answerOf r) (whole-seen (let z = ltb-false 0 (leftSum m ss) e in omega arith))

@@ -1,0 +1,155 @@
+-- What a store holds is what working afresh gives: but for volumes at all times, and with no work left whole. Assumes nothing.
+use mathlib.Core.Path.{_≡_, refl, sym, ap, subst, _∙_}
+use mathlib.Core.List.{List, [], _∷_, _++_, map, append-assoc, append-nil}
+use Prim.Native.Nat.{ℕ, zero, suc, _+_, _*_, _-_, _≤_, _<_, min}
+use native.Mathlib.Nat.{zero-mul, suc-mul, le-refl, mul-le-mul}
+use native.Mathlib.Omega.{arith}
+use lib.ListN.{take, getD}
+use lib.Seq.{getD-append-add, take-suc, take-all}
+use lib.Ieee.{Float, nan}
+use Rattle.mass.specs.Volume.{volumeTo}
+use Rattle.mass.specs.Total.{centreOf}
+use Rattle.kernel.specs.declared.kernel.Kernel.{Kernel}
+use Rattle.pieces.specs.declared.pieces.Pieces.{Pieces}
+use Rattle.readings.specs.Readings.{Part, bare, heldPart, heldAt, heldAll}
+use Rattle.machine.specs.Machine.{Mesh, Slot, empty, full, need, leftSlot, leftSum}
+use Rattle.machine.specs.Holding.{Form, triangles, cells, placeRow, floatsOf, wordsOf}
+use Rattle.machine.specs.Fresh.{freshPart, freshAt, freshSlot, freshAll}
+use Rattle.machine.proofs.Valid.{Within, Valid}
+use Rattle.machine.proofs.Held.{get7, get48, status-held}
+
+pub map-id : {A : Type 0} (l : List A) → map (λ (x : A). x) l ≡ l
+map-id [] = refl
+map-id (x ∷ l) = ap (λ (t : List _). x ∷ t) (map-id l)
+
+map-append : {A B : Type 0} (f : A → B) (l r : List A) → map f (l ++ r) ≡ map f l ++ map f r
+map-append f [] r = refl
+map-append f (x ∷ l) r = ap (λ (t : List _). f x ∷ t) (map-append f l r)
+
+-- ---- a place's cells: n pieces from j on, with t steps; u counts from j
+module _ (m : Mesh) (k : Kernel) (fit : Pieces) where
+  -- sigma and coefficient, whatever is done
+  cell-sigma : (n j t u : ℕ) → u < n → getD (cells m k fit n j t) (3 * u) nan ≡ getD (fit .sigma) (j + u) nan
+  cell-sigma zero j t u h = absurd (omega arith)
+  cell-sigma (suc n) j t zero h = let e : j + 0 ≡ j = omega arith in rw e refl
+  cell-sigma (suc n) j t (suc u) h =
+      let i : 3 * suc u ≡ 3 + 3 * u = omega arith in
+      let e : j + suc u ≡ suc j + u = omega arith in
+      rw (i, e) (getD-append-add (getD (fit .sigma) j nan ∷ getD (fit .coefficient) j nan ∷ volumeTo (triangles m) (centreOf k) (getD (fit .sigma) j nan) (min (m .faces) t) ∷ []) (cells m k fit n (suc j) (t - m .faces)) (3 * u) nan
+      ∙ cell-sigma n (suc j) (t - m .faces) u (omega arith))
+
+  cell-coefficient : (n j t u : ℕ) → u < n → getD (cells m k fit n j t) (3 * u + 1) nan ≡ getD (fit .coefficient) (j + u) nan
+  cell-coefficient zero j t u h = absurd (omega arith)
+  cell-coefficient (suc n) j t zero h = let e : j + 0 ≡ j = omega arith in rw e refl
+  cell-coefficient (suc n) j t (suc u) h =
+      let i : 3 * suc u + 1 ≡ 3 + (3 * u + 1) = omega arith in
+      let e : j + suc u ≡ suc j + u = omega arith in
+      rw (i, e) (getD-append-add (getD (fit .sigma) j nan ∷ getD (fit .coefficient) j nan ∷ volumeTo (triangles m) (centreOf k) (getD (fit .sigma) j nan) (min (m .faces) t) ∷ []) (cells m k fit n (suc j) (t - m .faces)) (3 * u + 1) nan
+      ∙ cell-coefficient n (suc j) (t - m .faces) u (omega arith))
+
+  -- the volume over all faces, of a piece that the steps reach past
+  cell-volume : (n j t u : ℕ) → u < n → suc u * m .faces ≤ t → getD (cells m k fit n j t) (3 * u + 2) nan ≡ volumeTo (triangles m) (centreOf k) (getD (fit .sigma) (j + u) nan) (m .faces)
+  cell-volume zero j t u h l = absurd (omega arith)
+  cell-volume (suc n) j t zero h l =
+      let z = rw (suc-mul, zero-mul) at l in
+      let e : j + 0 ≡ j = omega arith in
+      let a : min (m .faces) t ≡ m .faces = omega arith in
+      rw (e, a) refl
+  cell-volume (suc n) j t (suc u) h l =
+      let z = rw (suc-mul (suc u) (m .faces)) at l in
+      let i : 3 * suc u + 2 ≡ 3 + (3 * u + 2) = omega arith in
+      let e : j + suc u ≡ suc j + u = omega arith in
+      rw (i, e) (getD-append-add (getD (fit .sigma) j nan ∷ getD (fit .coefficient) j nan ∷ volumeTo (triangles m) (centreOf k) (getD (fit .sigma) j nan) (min (m .faces) t) ∷ []) (cells m k fit n (suc j) (t - m .faces)) (3 * u + 2) nan
+      ∙ cell-volume n (suc j) (t - m .faces) u (omega arith) (omega arith))
+
+module _ (wd : ℕ) (fm : Form wd) (m : Mesh) (ss : List Slot) (v : Valid m ss) (xs : List Float) (ys : List ℕ) where
+  abbrev FS : List Float
+  FS = floatsOf m ss xs
+
+  abbrev WS : List ℕ
+  WS = wordsOf m ss ys
+
+  module _ (i : ℕ) (h : i < 32) (k : Kernel) (fit : Pieces) (p : ℕ) (e : getD ss i empty ≡ full k fit p) where
+    few-in : fit .count ≤ 16
+    few-in = subst (Within m) e (v .within i) .few
+
+    seven-at : (j : ℕ) → j < 7 → getD FS (1 + (7 * i + j)) nan ≡ getD (getD (k .c) 0 nan ∷ getD (k .c) 1 nan ∷ getD (k .c) 2 nan ∷ k .sigma ∷ k .w ∷ k .alpha ∷ fit .error ∷ []) j nan
+    seven-at j hj = rw (get7 wd fm m ss (v .slots) xs i h j hj, e) refl
+
+    pub bare-held : (j : ℕ) → j < fit .count → bare (heldPart FS i j) ≡ bare (freshPart m k fit j)
+    bare-held j hj =
+        let z : 0 + j ≡ j = omega arith in
+        let s0 : getD FS (225 + 48 * i + 3 * j) nan ≡ getD (fit .sigma) j nan
+        = (let q : 225 + 48 * i + 3 * j ≡ 225 + (48 * i + 3 * j) = omega arith in
+        rw (q, get48 wd fm m ss (v .slots) xs i h (3 * j) (omega (arith, few-in)), e) (rw z at (cell-sigma m k fit 16 0 p j (omega (arith, few-in))))) in
+        let s1 : getD FS (225 + 48 * i + 3 * j + 1) nan ≡ getD (fit .coefficient) j nan
+        = (let q : 225 + 48 * i + 3 * j + 1 ≡ 225 + (48 * i + (3 * j + 1)) = omega arith in
+        rw (q, get48 wd fm m ss (v .slots) xs i h (3 * j + 1) (omega (arith, few-in)), e) (rw z at (cell-coefficient m k fit 16 0 p j (omega (arith, few-in))))) in
+        let c0 : 1 + 7 * i ≡ 1 + (7 * i + 0) = omega arith in
+        let c1 : 2 + 7 * i ≡ 1 + (7 * i + 1) = omega arith in
+        let c2 : 3 + 7 * i ≡ 1 + (7 * i + 2) = omega arith in
+        let a : 5 + 7 * i ≡ 1 + (7 * i + 4) = omega arith in
+        let b : 6 + 7 * i ≡ 1 + (7 * i + 5) = omega arith in
+        rw (s1, s0, c1, c2, a, b, c0, seven-at 0 (omega arith), seven-at 1 (omega arith), seven-at 2 (omega arith), seven-at 4 (omega arith), seven-at 5 (omega arith)) refl
+
+    pub volume-held : p ≡ need m fit → (j : ℕ) → j < fit .count → heldPart FS i j .volume ≡ freshPart m k fit j .volume
+    volume-held fin j hj =
+        let q : 225 + 48 * i + 3 * j + 2 ≡ 225 + (48 * i + (3 * j + 2)) = omega arith in
+        let z : 0 + j ≡ j = omega arith in
+        let l : suc j * m .faces ≤ fit .count * m .faces = mul-le-mul hj (le-refl (m .faces)) in
+        rw (q, get48 wd fm m ss (v .slots) xs i h (3 * j + 2) (omega (arith, few-in)), e) (rw z at (cell-volume m k fit 16 0 p j (omega (arith, few-in)) (omega arith)))
+
+  -- by any function g of a part on which the two agree
+  module _ {B : Type 0} (g : Part → B) (ag : (i : ℕ) → i < 32 → (k : Kernel) (fit : Pieces) (p : ℕ) → getD ss i empty ≡ full k fit p → (j : ℕ) → j < fit .count → g (heldPart FS i j) ≡ g (freshPart m k fit j)) where
+    parts-to : (i : ℕ) → i < 32 → (k : Kernel) (fit : Pieces) (p : ℕ) → getD ss i empty ≡ full k fit p → (j : ℕ) → j ≤ fit .count → map g (heldAt FS i j) ≡ map g (freshAt m k fit j)
+    parts-to i h k fit p e zero hj = refl
+    parts-to i h k fit p e (suc j) hj =
+        rw (map-append g (heldAt FS i j) (heldPart FS i j ∷ []), parts-to i h k fit p e j (omega arith), map-append g (freshAt m k fit j) (freshPart m k fit j ∷ []))
+        (ap (λ (b : B). map g (freshAt m k fit j) ++ (b ∷ [])) (ag i h k fit p e j hj))
+
+    slot-held : (i : ℕ) → i < 32 → (s : Slot) → getD ss i empty ≡ s → Within m s → map g (heldAt FS i (getD (placeRow m s) 0 0 - 1)) ≡ map g (freshSlot m s)
+    slot-held i h empty e w = refl
+    slot-held i h (full k fit p) e w =
+        let n : 1 + fit .count - 1 ≡ fit .count = omega arith in
+        rw n (parts-to i h k fit p e (fit .count) (omega arith) ∙ ap (λ (f : Pieces). map g (freshAt m k f (f .count))) (w .fitted))
+
+    fresh-snoc : (l : List Slot) (s : Slot) → freshAll m (l ++ (s ∷ [])) ≡ freshAll m l ++ freshSlot m s
+    fresh-snoc [] s = append-nil (freshSlot m s)
+    fresh-snoc (x ∷ l) s = ap (λ (t : List Part). freshSlot m x ++ t) (fresh-snoc l s) ∙ sym (append-assoc (freshSlot m x) (freshAll m l) (freshSlot m s))
+
+    held-to : (n : ℕ) → n ≤ 32 → map g (heldAll wd FS WS n) ≡ map g (freshAll m (take n ss))
+    unfolding heldAll
+    held-to zero h = refl
+    held-to (suc n) h =
+        rw (
+          status-held wd fm m ss (v .slots) ys n h,
+          map-append g (heldAll wd FS WS n) (heldAt FS n (getD (placeRow m (getD ss n empty)) 0 0 - 1)),
+          held-to n (omega arith),
+          slot-held n h (getD ss n empty) refl (v .within n),
+          take-suc ss n empty (rw (v .slots) h),
+          fresh-snoc (take n ss) (getD ss n empty),
+          map-append g (freshAll m (take n ss)) (freshSlot m (getD ss n empty)),
+        ) refl
+
+    held-all : map g (heldAll wd FS WS 32) ≡ map g (freshAll m ss)
+    held-all = held-to 32 (omega arith) ∙ ap (λ (l : List Slot). map g (freshAll m l)) (take-all 32 ss (rw (v .slots) (omega arith)))
+
+  -- but for volumes, whatever is left
+  pub bare-all : map bare (heldAll wd FS WS 32) ≡ map bare (freshAll m ss)
+  bare-all = held-all bare bare-held
+
+  none-left : (l : List Slot) (i : ℕ) → leftSum m l ≡ 0 → leftSlot m (getD l i empty) ≡ 0
+  none-left [] i e = refl
+  none-left (s ∷ l) zero e = omega arith
+  none-left (s ∷ l) (suc i) e = none-left l i (omega arith)
+
+  -- whole, with nothing left
+  pub whole-all : leftSum m ss ≡ 0 → heldAll wd FS WS 32 ≡ freshAll m ss
+  whole-all none = sym (map-id (heldAll wd FS WS 32)) ∙ (held-all (λ (x : Part). x) agree ∙ map-id (freshAll m ss))
+    where
+      agree : (i : ℕ) → i < 32 → (k : Kernel) (fit : Pieces) (p : ℕ) → getD ss i empty ≡ full k fit p → (j : ℕ) → j < fit .count → heldPart FS i j ≡ freshPart m k fit j
+      agree i h k fit p e j hj =
+          let z : need m fit - p ≡ 0 = subst (λ (s : Slot). leftSlot m s ≡ 0) e (none-left ss i none) in
+          let y = subst (Within m) e (v .within i) .steps in
+          ap (λ (b : Kernel). record { kernel = b; volume = heldPart FS i j .volume }) (bare-held i h k fit p e j hj)
+          ∙ ap (λ (x : Float). record { kernel = freshPart m k fit j .kernel; volume = x }) (volume-held i h k fit p e (omega arith) j hj)

@@ -1,0 +1,80 @@
+-- A store that holds a machine passes the check of a store. Assumes nothing.
+use mathlib.Core.Path.{_≡_, refl}
+use mathlib.Core.Bool.{Bool, true, false, _&&_, cond}
+use mathlib.Core.List.{List}
+use Prim.Native.Nat.{ℕ, zero, suc, _+_, _*_, _-_, _/_, _%_, _≤_, _<_}
+use native.Mathlib.Nat.{mul-zero, div-add-mod', mod-lt, div-lt-iff-lt-mul, suc-mul}
+use native.Mathlib.Omega.{arith}
+use lib.ListN.{length, getD}
+use lib.Dec.{ltb, leb, eqb}
+use lib.Ieee.{Float}
+use borrow.Author.Tests.{lt-ltb, le-leb, eq-eqb, ne-eqb, eqb-true, eqb-false}
+use Rattle.base.specs.declared.refusal.Checked.the-variants.{Passed}
+use Rattle.mesh.specs.Checks.{vertexLimit, faceLimit}
+use Rattle.layout.specs.Layout.{coordsFrom, cornersFrom, facesOf}
+use Rattle.layout.specs.Soundness.{every, longEnough, slotSound, slotSoundAt, sound, storeCheck}
+use Rattle.machine.specs.Machine.{Mesh, Slot, empty, full}
+use Rattle.machine.specs.Holding.{Form, placeRow, floatsOf, wordsOf}
+use Rattle.machine.proofs.Valid.{Within, Valid}
+use Rattle.machine.proofs.Held.{status-held, finished-held, done-held, words-long, floats-long, corners-held}
+
+-- the words of n pieces, f faces and p steps are sound
+steps-sound : (n f p : ℕ) → n ≤ 16 → p ≤ n * f → slotSound (1 + n) (cond (eqb f 0) n (p / f)) (p % f) f ≡ true
+unfolding slotSound
+steps-sound n f p hn hp = go (eqb f 0) refl
+  where
+    e1 : 1 + n - 1 ≡ n
+    e1 = omega arith
+
+    e0 : eqb (1 + n) 0 ≡ false
+    e0 = ne-eqb (1 + n) 0 (λ e. omega arith)
+
+    some : 0 < f → (b : Bool) → eqb (p / f) n ≡ b → leb (p / f) n && cond b (eqb (p % f) 0) (ltb (p % f) f) ≡ true
+    some hf true e =
+        let d = div-add-mod' p f in
+        let q : p / f ≡ n = eqb-true (p / f) n e in
+        let z : p % f ≡ 0 = omega (arith, rw q at d) in
+        rw (le-leb (p / f) n (omega arith), eq-eqb (p % f) 0 z) refl
+    some hf false e =
+        let l : p / f < suc n = div-lt-iff-lt-mul hf .1 (rw suc-mul (omega arith)) in
+        rw (le-leb (p / f) n (omega arith), lt-ltb (p % f) f (mod-lt p hf)) refl
+
+    go : (b : Bool) → eqb f 0 ≡ b
+        → leb (1 + n) 17 && cond (eqb (1 + n) 0) (eqb (cond b n (p / f)) 0 && eqb (p % f) 0) (leb (cond b n (p / f)) (1 + n - 1) && cond (eqb (cond b n (p / f)) (1 + n - 1)) (eqb (p % f) 0) (ltb (p % f) f)) ≡ true
+    go true e =
+        let q : f ≡ 0 = eqb-true f 0 e in
+        let z : p ≡ 0 = omega (arith, rw (q, mul-zero) at hp) in
+        rw (e1, e0, le-leb (1 + n) 17 (omega arith), le-leb n n (omega arith), eq-eqb n n refl, q, z) refl
+    go false e =
+        let q : 0 < f = omega (arith, eqb-false f 0 e) in
+        rw (e1, e0, le-leb (1 + n) 17 (omega arith)) (some q (eqb (p / f) n) refl)
+
+slot-sound : (m : Mesh) (s : Slot) → Within m s → slotSound (getD (placeRow m s) 0 0) (getD (placeRow m s) 1 0) (getD (placeRow m s) 2 0) (m .faces) ≡ true
+unfolding slotSound
+slot-sound m empty h = refl
+slot-sound m (full k fit p) h = steps-sound (fit .count) (m .faces) p (h .few) (h .steps)
+
+module _ (wd : ℕ) (fm : Form wd) (m : Mesh) (ss : List Slot) (v : Valid m ss) (xs : List Float) (ys : List ℕ) where
+  faces-held : facesOf (wordsOf m ss ys) ≡ m .faces
+  unfolding wordsOf
+  faces-held = refl
+
+  slots-sound : (n : ℕ) → n ≤ 32 → every (slotSoundAt wd (wordsOf m ss ys)) n ≡ true
+  unfolding every slotSoundAt
+  slots-sound zero h = refl
+  slots-sound (suc n) h =
+      rw (slots-sound n (omega arith), status-held wd fm m ss (v .slots) ys n h, finished-held wd fm m ss (v .slots) ys n h, done-held wd fm m ss (v .slots) ys n h, faces-held)
+      (slot-sound m (getD ss n empty) (v .within n))
+
+  pub no-fault : storeCheck wd (floatsOf m ss xs) (wordsOf m ss ys) ≡ Passed
+  unfolding storeCheck longEnough sound wordsOf
+  no-fault =
+      rw (
+        le-leb (cornersFrom wd + 3 * m .faces) (length (wordsOf m ss ys)) (words-long wd fm m ss (v .slots) ys (v .corners)),
+        le-leb (coordsFrom + 3 * m .verts) (length (floatsOf m ss xs)) (floats-long wd fm m ss (v .slots) xs (v .coords)),
+        le-leb (m .verts) vertexLimit (v .verts),
+        le-leb (m .faces) faceLimit (v .faces),
+        slots-sound 32 (omega arith),
+        corners-held wd fm m ss (v .slots) ys (v .corners),
+        v .below,
+      ) refl

@@ -1,0 +1,117 @@
+-- Demand 3: the calls of a list, what the machine does at each, the store's calls by their contracts, and the sums over a list. Definitions only.
+use mathlib.Core.Bool.{cond}
+use mathlib.Core.List.{List, [], _∷_}
+use Prim.Native.Nat.{ℕ, _+_}
+use lib.Dec.{ltb}
+use lib.ListN.{getD}
+use lib.Ieee.{Float}
+use Rattle.base.specs.declared.refusal.Refusal.the-variants.{NoPlace}
+use Rattle.kernel.specs.declared.kernel.Kernel.{Kernel}
+use Rattle.pieces.specs.Pieces.{decomposed}
+use Rattle.layout.specs.Layout.{slotLimit}
+use Rattle.store.specs.Calls.{Reply, refused, After, clearStep, reweighStep}
+use Rattle.advance.specs.Steps.{advanceStep}
+use Rattle.put.specs.Puts.{putStep}
+use Rattle.readings.specs.Readings.{Reading, Outcome, readingOf, readStep}
+use Rattle.machine.specs.Machine.{empty, leftSum, Machine, Turn, turn, putTurn, clearTurn, reweighTurn, advanceTurn}
+use Rattle.machine.specs.Holding.{floatsOf, wordsOf}
+use Rattle.machine.specs.Fresh.{freshSeen}
+
+-- the calls of demand 3's list
+pub data Call : Type 0 where
+  put : ℕ → Kernel → Call
+  clear : ℕ → Call
+  reweigh : ℕ → Float → Call
+  advance : ℕ → Call
+  read : Reading → Call
+
+-- ---- the machine: "It refuses by the table below as its own places stand; a refused call changes nothing."
+abbrev pub given : Machine → Outcome → Turn
+given m a = record { next = m; reply = a .reply; out = a .out }
+
+unfoldable pub machine : Machine → Call → Turn
+machine m (put i k) = cond (ltb i slotLimit) (putTurn m i k (decomposed k (m .mesh .radius))) (turn m (refused NoPlace))
+machine m (clear i) = cond (ltb i slotLimit) (clearTurn m i (getD (m .slots) i empty)) (turn m (refused NoPlace))
+machine m (reweigh i v) = cond (ltb i slotLimit) (reweighTurn m i v (getD (m .slots) i empty)) (turn m (refused NoPlace))
+machine m (advance n) = advanceTurn m n
+machine m (read r) = given m (readingOf r (leftSum (m .mesh) (m .slots)) (freshSeen (m .mesh) (m .slots)))
+
+-- ---- the store
+
+-- the two runs
+pub record Store : Type 0 where
+  pub floats : List Float
+  pub words : List ℕ
+
+-- what a call on them leaves and answers
+pub record Result : Type 0 where
+  pub left : Store
+  pub reply : Reply
+  pub out : List Float
+
+abbrev pub result : After → Result
+result a = record { left = record { floats = a .floats; words = a .words }; reply = a .reply; out = [] }
+
+-- a reading leaves the store
+abbrev pub seen : Store → Outcome → Result
+seen s a = record { left = s; reply = a .reply; out = a .out }
+
+-- each call is the function of its contract
+unfoldable pub store : ℕ → Store → Call → Result
+store q s (put i k) = result (putStep q (s .floats) (s .words) i k)
+store q s (clear i) = result (clearStep q (s .floats) (s .words) i)
+store q s (reweigh i v) = result (reweighStep q (s .floats) (s .words) i v)
+store q s (advance n) = result (advanceStep q (s .floats) (s .words) n)
+store q s (read r) = seen s (readStep q (s .floats) (s .words) r)
+
+-- ---- a list of calls: each gets what the call before it left
+abbrev pub results : ℕ → Store → List Call → List Result
+results q s [] = []
+results q s (c ∷ cs) = store q s c ∷ results q (store q s c .left) cs
+
+abbrev pub leaves : ℕ → Store → List Call → Store
+leaves q s [] = s
+leaves q s (c ∷ cs) = leaves q (store q s c .left) cs
+
+abbrev pub turns : Machine → List Call → List Turn
+turns m [] = []
+turns m (c ∷ cs) = machine m c ∷ turns (machine m c .next) cs
+
+abbrev pub after-all : Machine → List Call → Machine
+after-all m [] = m
+after-all m (c ∷ cs) = after-all (machine m c .next) cs
+
+-- ---- the runs that hold a machine, with what lies past them
+abbrev pub holding : Machine → List Float → List ℕ → Store
+holding m xs ys = record { floats = floatsOf (m .mesh) (m .slots) xs; words = wordsOf (m .mesh) (m .slots) ys }
+
+abbrev pub shown : List Float → List ℕ → Turn → Result
+shown xs ys t = record { left = holding (t .next) xs ys; reply = t .reply; out = t .out }
+
+-- ---- the sums: "charged is the need summed over accepted puts' answers"; a refused call answers no count
+abbrev pub chargedBy : Call → Reply → ℕ
+chargedBy (put i k) r = getD (r .counts) 1 0
+chargedBy (clear i) r = 0
+chargedBy (reweigh i v) r = 0
+chargedBy (advance n) r = 0
+chargedBy (read x) r = 0
+
+-- the steps that an advance answers
+abbrev pub doneBy : Call → Reply → ℕ
+doneBy (put i k) r = 0
+doneBy (clear i) r = 0
+doneBy (reweigh i v) r = 0
+doneBy (advance n) r = getD (r .counts) 0 0
+doneBy (read x) r = 0
+
+-- the left that an advance answers
+abbrev pub leftIn : Reply → ℕ
+leftIn r = getD (r .counts) 1 0
+
+abbrev pub chargedIn : ℕ → Store → List Call → ℕ
+chargedIn q s [] = 0
+chargedIn q s (c ∷ cs) = chargedBy c (store q s c .reply) + chargedIn q (store q s c .left) cs
+
+abbrev pub doneIn : ℕ → Store → List Call → ℕ
+doneIn q s [] = 0
+doneIn q s (c ∷ cs) = doneBy c (store q s c .reply) + doneIn q (store q s c .left) cs

@@ -1,0 +1,62 @@
+-- Demand 3, one statement: r, xs, ks are an opening's radius, coordinates and corners; fs, ws the runs lent to it, whatever was in them. Definitions only.
+use mathlib.Core.Path.{_≡_}
+use mathlib.Core.Bool.{true}
+use mathlib.Core.List.{List, [], _∷_}
+use Prim.Native.Nat.{ℕ, _+_, _/_, _≤_, _<_}
+use lib.ListN.{length}
+use lib.Ieee.{Float}
+use Rattle.base.specs.Refusals.{number}
+use Rattle.base.specs.declared.refusal.Refusal.{Refusal}
+use Rattle.base.specs.declared.refusal.Refusal.the-variants.{Unfinished}
+use Rattle.base.specs.declared.refusal.Checked.the-variants.{Passed, Failed}
+use Rattle.store.specs.Calls.{refused, counted, After, after, openCheck, openStep}
+use Rattle.readings.specs.Readings.{Reading, needsWork, answerOf}
+use Rattle.machine.specs.Machine.{leftSum, Machine, opened}
+use Rattle.machine.specs.Holding.{excessF, excessW}
+use Rattle.machine.specs.Fresh.{freshSeen}
+use Rattle.machine.specs.Calls.{Call, advance, read, machine, Store, store, leaves, after-all, holding, leftIn, chargedIn, doneIn}
+
+abbrev pub leaving : After → Store
+leaving a = record { floats = a .floats; words = a .words }
+
+-- one call: what the store s does at c, beside the machine m that stands where s does
+pub record Same (q : ℕ) (exF : List Float) (exW : List ℕ) (m : Machine) (s : Store) (c : Call) : Type 0 where
+  -- the call got runs that hold the machine
+  pub before : s ≡ holding m exF exW
+  -- refused exactly when the machine refuses, with its number; else its answers: pieces and need, done and left, the reading's
+  pub reply : store q s c .reply ≡ machine m c .reply
+  -- the run lent beside the store, each word
+  pub lent : store q s c .out ≡ machine m c .out
+  -- 01's fields for mesh, radius, places and steps, volumes so far included, and the excess as the opening found it
+  pub fields : store q s c .left ≡ holding (machine m c .next) exF exW
+
+-- a reading: unfinished exactly where the machine has work left that it needs; any other as worked afresh
+pub record Read (q : ℕ) (m : Machine) (s : Store) (r : Reading) : Type 0 where
+  pub unfinished : needsWork r ≡ true → 0 < leftSum (m .mesh) (m .slots) → store q s (read r) .reply ≡ refused Unfinished
+  pub only-then : store q s (read r) .reply ≡ refused Unfinished → (needsWork r ≡ true) × (0 < leftSum (m .mesh) (m .slots))
+  pub afresh : (store q s (read r) .reply ≡ refused Unfinished → ⊥)
+      → (store q s (read r) .reply ≡ answerOf r (freshSeen (m .mesh) (m .slots)) .reply) × (store q s (read r) .out ≡ answerOf r (freshSeen (m .mesh) (m .slots)) .out)
+  -- no reading changes the store
+  pub kept : store q s (read r) .left ≡ s
+
+-- every call of a list: the first gets the opening's runs, each later one those that the call before it left, whole
+pub data Each (q : ℕ) (exF : List Float) (exW : List ℕ) : Machine → Store → List Call → Type 0 where
+  end : {m : Machine} {s : Store} → Each q exF exW m s []
+  next : {m : Machine} {s : Store} {c : Call} {cs : List Call} → Same q exF exW m s c → ((r : Reading) → Read q m s r)
+      → Each q exF exW (machine m c .next) (store q s c .left) cs → Each q exF exW m s (c ∷ cs)
+
+pub record Follows (q : ℕ) (exF : List Float) (exW : List ℕ) (m : Machine) (s : Store) (cs : List Call) : Type 0 where
+  pub calls : Each q exF exW m s cs
+  -- done + left + dropped = charged, left being what an advance of 0 then answers
+  pub sums : doneIn q s cs + leftIn (store q (leaves q s cs) (advance 0) .reply) + after-all m cs .dropped ≡ chargedIn q s cs
+
+pub record Demand3 (q : ℕ) (r : Float) (xs : List Float) (ks : List ℕ) (fs : List Float) (ws : List ℕ) : Type 0 where
+  -- an opening is refused exactly when one of 1 to 4 applies, and then nothing is changed
+  pub refused-as : (e : Refusal) → openCheck q (length xs) ks (length fs) (length ws) ≡ Failed e → openStep q fs ws r xs ks ≡ after (refused e) fs ws
+  pub one-to-four : (e : Refusal) → openCheck q (length xs) ks (length fs) (length ws) ≡ Failed e → number e ≤ 4
+  -- else accepted, and its runs hold the machine that it opens
+  pub accepted : openCheck q (length xs) ks (length fs) (length ws) ≡ Passed → openStep q fs ws r xs ks .reply ≡ counted (length xs / 3 ∷ length ks / 3 ∷ [])
+  pub holds : openCheck q (length xs) ks (length fs) (length ws) ≡ Passed → leaving (openStep q fs ws r xs ks) ≡ holding (opened r xs ks) (excessF xs fs) (excessW q ks ws)
+  -- and every list of calls on those runs goes as the machine goes
+  pub every-list : openCheck q (length xs) ks (length fs) (length ws) ≡ Passed → (cs : List Call)
+      → Follows q (excessF xs fs) (excessW q ks ws) (opened r xs ks) (leaving (openStep q fs ws r xs ks)) cs

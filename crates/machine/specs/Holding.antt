@@ -1,0 +1,72 @@
+-- 01, "The store": the two runs that hold a machine, field by field. Definitions only.
+use mathlib.Core.Bool.{cond}
+use mathlib.Core.List.{List, [], _∷_, _++_, map}
+use Prim.Native.Nat.{ℕ, zero, suc, _+_, _-_, _/_, _%_, min}
+use lib.Dec.{eqb}
+use lib.ListN.{length, getD, drop, replicate}
+use lib.Ieee.{Float, nan}
+use Rattle.base.specs.Floats.{+0}
+use Rattle.mesh.specs.Triangles.{triangleAt}
+use Rattle.mesh.specs.declared.triangles.Triangle.{Triangle}
+use Rattle.mass.specs.Volume.{volumeTo}
+use Rattle.mass.specs.Total.{centreOf}
+use Rattle.kernel.specs.declared.kernel.Kernel.{Kernel}
+use Rattle.pieces.specs.declared.pieces.Pieces.{Pieces}
+use Rattle.layout.specs.Layout.{coordsFrom, cornersFrom}
+use Rattle.machine.specs.Machine.{Mesh, Slot, empty, full}
+
+-- ---- the float run
+
+-- "place i's c, sigma, w, alpha, error"; "Unused fields are zero"
+abbrev pub floats7 : Slot → List Float
+floats7 empty = replicate 7 +0
+floats7 (full k fit p) = getD (k .c) 0 nan ∷ getD (k .c) 1 nan ∷ getD (k .c) 2 nan ∷ k .sigma ∷ k .w ∷ k .alpha ∷ fit .error ∷ []
+
+-- "its 16 pieces (sigma, coefficient, volume so far, which is `kernel_volume`'s running sum over that piece's faces done)": n pieces from j on, the
+-- first of which has t steps before the next has any. Past the last piece there is no step, and the fit's arrays are +0
+abbrev pub triangles : Mesh → ℕ → Triangle
+triangles m = triangleAt (m .coords) (m .corners)
+
+abbrev pub cells : Mesh → Kernel → Pieces → ℕ → ℕ → ℕ → List Float
+cells m k fit zero j t = []
+cells m k fit (suc n) j t =
+    getD (fit .sigma) j nan ∷ getD (fit .coefficient) j nan ∷ volumeTo (triangles m) (centreOf k) (getD (fit .sigma) j nan) (min (m .faces) t)
+    ∷ cells m k fit n (suc j) (t - m .faces)
+
+abbrev pub floats48 : Mesh → Slot → List Float
+floats48 m empty = replicate 48 +0
+floats48 m (full k fit p) = cells m k fit 16 0 p
+
+-- rows one behind the other
+abbrev pub flat : {A : Type 0} → List (List A) → List A
+flat [] = []
+flat (r ∷ rs) = r ++ flat rs
+
+-- "[0] radius; from 1+7i ..; from 225+48i ..; from 1,761 coordinates", then what lies past the store's own floats
+unfoldable pub floatsOf : Mesh → List Slot → List Float → List Float
+floatsOf m ss xs = m .radius ∷ (flat (map floats7 ss) ++ (flat (map (floats48 m) ss) ++ (m .coords ++ xs)))
+
+-- ---- the u32 run, of q words to a place
+
+-- the forms there are
+pub data Form : ℕ → Type 0 where
+  form3 : Form 3
+
+-- "status (0 empty, else 1 + pieces), pieces finished, faces done in the current piece"; "with F = 0 all are finished"
+abbrev pub finished : Mesh → Pieces → ℕ → ℕ
+finished m fit p = cond (eqb (m .faces) 0) (fit .count) (p / m .faces)
+
+abbrev pub placeRow : Mesh → Slot → List ℕ
+placeRow m empty = 0 ∷ 0 ∷ 0 ∷ []
+placeRow m (full k fit p) = (1 + fit .count) ∷ finished m fit p ∷ p % m .faces ∷ []
+
+-- "V, F; from 2+3i ..; from 98 corners", then what lies past the store's own words
+unfoldable pub wordsOf : Mesh → List Slot → List ℕ → List ℕ
+wordsOf m ss ys = m .verts ∷ m .faces ∷ (flat (map (placeRow m) ss) ++ (m .corners ++ ys))
+
+-- ---- what an opening found past them
+abbrev pub excessF : List Float → List Float → List Float
+excessF xs fs = drop (coordsFrom + length xs) fs
+
+abbrev pub excessW : ℕ → List ℕ → List ℕ → List ℕ
+excessW q ks ws = drop (cornersFrom q + length ks) ws

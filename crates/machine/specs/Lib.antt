@@ -1,0 +1,5 @@
+pub mod Machine
+pub mod Holding
+pub mod Fresh
+pub mod Calls
+pub mod Demands

@@ -1,0 +1,103 @@
+-- 01, "The store": the machine, "fed only the calls' arguments, never the store's runs". Definitions only.
+use mathlib.Core.Bool.{cond}
+use mathlib.Core.List.{List, [], _∷_}
+use Prim.Native.Nat.{ℕ, _+_, _*_, _-_, _/_, min}
+use lib.Dec.{eqb}
+use lib.ListN.{length, getD, set, replicate}
+use lib.Ieee.{Float}
+use Rattle.base.specs.declared.refusal.Refusal.the-variants.{Vacant}
+use Rattle.kernel.specs.declared.kernel.Kernel.{Kernel}
+use Rattle.pieces.specs.declared.pieces.Pieces.{Pieces}
+use Rattle.layout.specs.Layout.{slotLimit}
+use Rattle.store.specs.Calls.{Reply, refused, counted, done}
+use Rattle.advance.specs.Steps.{iterate}
+
+-- the mesh and radius that an opening gave: V and F are the counts of vertices and faces
+pub record Mesh : Type 0 where
+  pub radius : Float
+  pub coords : List Float
+  pub corners : List ℕ
+  pub verts : ℕ
+  pub faces : ℕ
+
+-- "each place is empty or (kernel, steps p)"; a filled one keeps the pieces that its decomposition gave
+pub data Slot : Type 0 where
+  empty : Slot
+  full : Kernel → Pieces → ℕ → Slot
+
+-- "pieces is how many its decomposition gives, need = pieces times F"
+abbrev pub need : Mesh → Pieces → ℕ
+need m fit = fit .count * m .faces
+
+-- need - p, "0 for an empty place"
+abbrev pub leftSlot : Mesh → Slot → ℕ
+leftSlot m empty = 0
+leftSlot m (full k fit p) = need m fit - p
+
+-- "left, the sum of need - p"
+abbrev pub leftSum : Mesh → List Slot → ℕ
+leftSum m [] = 0
+leftSum m (s ∷ ss) = leftSlot m s + leftSum m ss
+
+-- u steps more
+abbrev pub adv : ℕ → Slot → Slot
+adv u empty = empty
+adv u (full k fit p) = full k fit (p + u)
+
+pub record Machine : Type 0 where
+  pub mesh : Mesh
+  pub slots : List Slot
+  pub charged : ℕ
+  pub dropped : ℕ
+
+-- what a call does: the machine after it, the reply, and the run lent beside the store as it is then ([] where none is lent)
+pub record Turn : Type 0 where
+  pub next : Machine
+  pub reply : Reply
+  pub out : List Float
+
+abbrev pub turn : Machine → Reply → Turn
+turn m r = record { next = m; reply = r; out = [] }
+
+-- with other places, and so much more charged and dropped
+abbrev pub with-slots : Machine → List Slot → ℕ → ℕ → Machine
+with-slots m ss c d = record { mesh = m .mesh; slots = ss; charged = m .charged + c; dropped = m .dropped + d }
+
+-- "Open copies a mesh and radius; all empty, charged = dropped = 0"
+abbrev pub meshOf : Float → List Float → List ℕ → Mesh
+meshOf r xs ks = record { radius = r; coords = xs; corners = ks; verts = length xs / 3; faces = length ks / 3 }
+
+abbrev pub opened : Float → List Float → List ℕ → Machine
+opened r xs ks = record { mesh = meshOf r xs ks; slots = replicate slotLimit empty; charged = 0; dropped = 0 }
+
+-- "Put: charged += need, dropped += the old need - p (0 for an empty place), p = 0. Answers pieces and need."
+abbrev pub putTurn : Machine → ℕ → Kernel → Pieces → Turn
+putTurn m i k fit =
+    turn (with-slots m (set (m .slots) i (full k fit 0)) (need (m .mesh) fit) (leftSlot (m .mesh) (getD (m .slots) i empty)))
+    (counted (fit .count ∷ need (m .mesh) fit ∷ []))
+
+-- "Clear: dropped += need - p; empty."
+abbrev pub clearTurn : Machine → ℕ → Slot → Turn
+clearTurn m i empty = turn m (refused Vacant)
+clearTurn m i (full k fit p) = turn (with-slots m (set (m .slots) i empty) 0 (need (m .mesh) fit - p)) done
+
+-- "Reweigh: new w, p kept."
+abbrev pub weighed : Kernel → Float → Kernel
+weighed k v = record { c = k .c; sigma = k .sigma; w = v; alpha = k .alpha }
+
+abbrev pub reweighTurn : Machine → ℕ → Float → Slot → Turn
+reweighTurn m i v empty = turn m (refused Vacant)
+reweighTurn m i v (full k fit p) = turn (with-slots m (set (m .slots) i (full (weighed k v) fit p)) 0 0) done
+
+-- "Advance(n, u64): does min(n, left) steps, lowest unfinished place first"
+abbrev pub bump : Mesh → List Slot → List Slot
+bump m [] = []
+bump m (s ∷ ss) = cond (eqb (leftSlot m s) 0) (s ∷ bump m ss) (adv 1 s ∷ ss)
+
+abbrev pub stepsOf : Machine → ℕ → ℕ
+stepsOf m n = min n (leftSum (m .mesh) (m .slots))
+
+abbrev pub advanceTurn : Machine → ℕ → Turn
+advanceTurn m n =
+    turn (with-slots m (iterate (bump (m .mesh)) (stepsOf m n) (m .slots)) 0 0)
+    (counted (stepsOf m n ∷ (leftSum (m .mesh) (m .slots) - stepsOf m n) ∷ []))

@@ -1,0 +1,1 @@
+// The machine of the store, and the theorem over every list of calls; no code.

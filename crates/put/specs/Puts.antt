@@ -1,0 +1,41 @@
+-- 01, "The store": what put answers, and what it leaves in the two runs. Definitions only.
+use mathlib.Core.Bool.{cond}
+use mathlib.Core.List.{List, [], _∷_}
+use Prim.Native.Nat.{ℕ, zero, suc, _+_, _*_}
+use lib.Dec.{eqb}
+use lib.ListN.{getD}
+use lib.Ieee.{Float, nan}
+use Rattle.base.specs.Floats.{+0}
+use Rattle.runs.specs.Runs.{write}
+use Rattle.kernel.specs.declared.kernel.Kernel.{Kernel}
+use Rattle.pieces.specs.declared.pieces.Pieces.{Pieces}
+use Rattle.pieces.specs.Pieces.{decomposed}
+use Rattle.layout.specs.Layout.{pieceLimit, radiusOf, kernelFrom, piecesFrom, stateFrom, facesOf}
+use Rattle.layout.specs.Soundness.{slotCheck}
+use Rattle.store.specs.Calls.{After, after, guarded, counted}
+
+-- "c, sigma, w, alpha, error"
+abbrev pub seven : Kernel → Float → List Float
+seven k error = getD (k .c) 0 nan ∷ getD (k .c) 1 nan ∷ getD (k .c) 2 nan ∷ k .sigma ∷ k .w ∷ k .alpha ∷ error ∷ []
+
+-- "sigma, coefficient, volume so far", which is "0 before the first" face: n pieces from j on; past the last, the fit's arrays are +0
+abbrev pub fresh : Pieces → ℕ → ℕ → List Float
+fresh fit zero j = []
+fresh fit (suc n) j = getD (fit .sigma) j nan ∷ getD (fit .coefficient) j nan ∷ +0 ∷ fresh fit n (suc j)
+
+-- "with F = 0 all are finished"
+unfoldable pub atFirst : ℕ → ℕ → ℕ
+atFirst faces count = cond (eqb faces 0) count 0
+
+-- the floats and words with place i filled; "status (0 empty, else 1 + pieces), pieces finished, faces done"
+unfoldable pub putFloats : List Float → ℕ → Kernel → Pieces → List Float
+putFloats fs i k fit = write (write fs (kernelFrom i) (seven k (fit .error))) (piecesFrom i) (fresh fit pieceLimit 0)
+
+unfoldable pub putWords : ℕ → List ℕ → ℕ → Pieces → List ℕ
+putWords q ws i fit = write ws (stateFrom q i) ((1 + fit .count) ∷ atFirst (facesOf ws) (fit .count) ∷ 0 ∷ [])
+
+-- "Put: .. p = 0. Answers pieces and need."
+unfoldable pub putStep : ℕ → List Float → List ℕ → ℕ → Kernel → After
+putStep q fs ws i k =
+    let fit = decomposed k (radiusOf fs) in
+    guarded (slotCheck q fs ws i) fs ws (after (counted (fit .count ∷ (fit .count * facesOf ws) ∷ [])) (putFloats fs i k fit) (putWords q ws i fit))

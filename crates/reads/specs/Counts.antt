@@ -1,0 +1,9 @@
+-- How many pieces a store has, by its words. Definitions only.
+use mathlib.Core.List.{List}
+use Prim.Native.Nat.{ℕ, zero, suc, _+_, _-_}
+use Rattle.layout.specs.Layout.{statusOf}
+
+-- of the places below k
+unfoldable pub pieceCount : ℕ → List ℕ → ℕ → ℕ
+pieceCount q ws zero = 0
+pieceCount q ws (suc k) = pieceCount q ws k + (statusOf q ws k - 1)

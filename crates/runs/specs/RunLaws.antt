@@ -1,0 +1,95 @@
+-- Laws of a run that is written from a place on. Assumes nothing.
+use mathlib.Core.Path.{_≡_, refl, sym, ap, _∙_}
+use mathlib.Core.List.{List, [], _∷_, _++_, append-assoc}
+use Prim.Native.Nat.{ℕ, _+_, _-_, _≤_, _<_}
+use native.Mathlib.Nat.{zero-add}
+use native.Mathlib.Numerals.{add-one}
+use native.Mathlib.Omega.{arith}
+use lib.ListN.{length, take, drop, getD, set, replicate, length-append, length-take, length-drop, length-replicate, getD-replicate, length-set, take-append-drop}
+use lib.Seq.{sets, sets-eq, drop-drop, take-suc, length-take-le, take-append-seam, drop-append-seam, take-all}
+use Rattle.runs.specs.Runs.{write}
+
+module _ {ℓ} {A : Type ℓ} where
+  -- words stored one after another, and a part lent and given back, are writes
+  pub sets-write : (vs l : List A) (i : ℕ) → i + length vs ≤ length l → sets l i vs ≡ write l i vs
+  unfolding write
+  sets-write vs l i h =
+      sets-eq vs l i h
+      ∙ (append-assoc (take i l) vs (drop (i + length vs) l) ∙ ap (λ (r : List A). take i l ++ (vs ++ r)) (sym (drop-drop (length vs) i l)))
+
+  pub part-write : (l : List A) (i k : ℕ) (vs : List A) → length vs ≡ k → take i l ++ (vs ++ drop k (drop i l)) ≡ write l i vs
+  unfolding write
+  part-write l i k vs e = rw e refl
+
+  pub length-part : (l : List A) (i k : ℕ) → i + k ≤ length l → length (take (i + k - i) (drop i l)) ≡ k
+  length-part l i k h = simp (length-take, length-drop) (omega arith)
+
+  pub length-write : (l : List A) (i : ℕ) (vs : List A) → i + length vs ≤ length l → length (write l i vs) ≡ length l
+  unfolding write
+  length-write l i vs h =
+      simp (length-append, length-drop) (rw (length-take-le i l (omega arith)) (omega arith))
+
+module _ {A : Type 0} where
+  -- two writes, the second where the first ends
+  pub write-more : (l : List A) (i : ℕ) (xs ys : List A) → i + length xs ≤ length l → write (write l i xs) (i + length xs) ys ≡ write l i (xs ++ ys)
+  unfolding write
+  write-more l i xs ys h =
+      let p = take i l ++ xs in
+      let r = drop (length xs) (drop i l) in
+      let n : length p ≡ i + length xs = length-append (take i l) xs ∙ rw (length-take-le i l (omega arith)) refl in
+      let s : take i l ++ (xs ++ r) ≡ p ++ r = sym (append-assoc (take i l) xs r) in
+      rw (s, ← n)
+      (seam p r
+      ∙ rw (length-append xs ys, append-assoc (take i l) xs (ys ++ drop (length ys) r), append-assoc xs ys, drop-drop (length ys) (length xs) (drop i l)) refl)
+    where
+      seam : (p r : List A) → take (length p) (p ++ r) ++ (ys ++ drop (length ys) (drop (length p) (p ++ r))) ≡ p ++ (ys ++ drop (length ys) r)
+      seam p r = rw (take-append-seam p r, drop-append-seam p r) refl
+
+  -- one word more
+  pub write-snoc : (l : List A) (i k : ℕ) (vs : List A) (v : A) → length vs ≡ k → i + k < length l → set (write l i vs) (i + k) v ≡ write l i (vs ++ (v ∷ []))
+  write-snoc l i k vs v e h =
+      let m = length-write l i vs (omega arith) in
+      rw (← e) (sets-write (v ∷ []) (write l i vs) (i + length vs) (omega arith) ∙ write-more l i vs (v ∷ []) (omega arith))
+
+  -- nothing written
+  pub write-none : (l : List A) (i : ℕ) → write l i [] ≡ l
+  unfolding write
+  write-none l i = take-append-drop i l
+
+  -- a head, zeros and a copy, one behind the other
+  pub laid : (l h : List A) (n : ℕ) (z : A) (xs : List A) (a : ℕ) → length h + n ≡ a → a + length xs ≤ length l
+      → write (write (write l 0 h) (length h) (replicate n z)) a xs ≡ write l 0 (h ++ (replicate n z ++ xs))
+  laid l h n z xs a e b =
+      let k : length (replicate n z) ≡ n = length-replicate n z in
+      let m : length (h ++ replicate n z) ≡ a = length-append h (replicate n z) ∙ omega arith in
+      let w : write (write l 0 h) (length h) (replicate n z) ≡ write l 0 (h ++ replicate n z) = rw zero-add at (write-more l 0 h (replicate n z) (omega arith)) in
+      rw (w, ← m) ((rw zero-add at (write-more l 0 (h ++ replicate n z) xs (omega arith))) ∙ ap (write l 0) (append-assoc h (replicate n z) xs))
+
+  -- ---- a run copied word by word: i of the words xs stand from `at` on
+  pub record Copied (l : List A) (at : ℕ) (xs : List A) (i : ℕ) (f : List A) : Type 0 where
+    pub within : i ≤ length xs
+    pub long : length f ≡ length l
+    pub same : f ≡ write l at (take i xs)
+
+  pub none-copied : (l : List A) (at : ℕ) (xs : List A) → Copied l at xs 0 l
+  none-copied l at xs = record { within = omega arith; long = refl; same = sym (write-none l at) }
+
+  module _ {l : List A} {at : ℕ} {xs : List A} {i : ℕ} {f : List A} where
+    pub one-copied : {v : A} (d : A) → Copied l at xs i f → i < length xs → at + length xs ≤ length l → v ≡ getD xs i d → Copied l at xs (i + 1) (set f (at + i) v)
+    one-copied d c h b e =
+        record {
+          within = omega arith;
+          long = simp length-set (c .long);
+          same = rw (c .same, e, add-one, take-suc xs i d h) (write-snoc l at i (take i xs) (getD xs i d) (length-take-le i xs (omega arith)) (omega arith));
+        }
+
+    pub all-copied : Copied l at xs i f → length xs ≤ i → f ≡ write l at xs
+    all-copied c h = c .same ∙ ap (write l at) (take-all i xs h)
+
+  -- the same of one word written n times
+  module _ (n : ℕ) (v : A) {l : List A} {at i : ℕ} {f : List A} where
+    pub one-filled : Copied l at (replicate n v) i f → i < n → at + n ≤ length l → Copied l at (replicate n v) (i + 1) (set f (at + i) v)
+    one-filled c h b = let e = length-replicate n v in one-copied v c (omega arith) (omega arith) (sym (getD-replicate n i v v h))
+
+    pub all-filled : Copied l at (replicate n v) i f → n ≤ i → f ≡ write l at (replicate n v)
+    all-filled c h = all-copied c (rw length-replicate h)

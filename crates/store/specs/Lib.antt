@@ -1,0 +1,4 @@
+pub mod Calls
+pub mod OpenAnswer
+pub mod EditAnswer
+pub mod OpenLaws

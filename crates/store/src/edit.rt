@@ -1,0 +1,52 @@
+// Clear and reweigh.
+ghost use mathlib.Core.Path.{_≡_};
+ghost use Rattle.layout.specs.Layout.{width};
+ghost use Rattle.store.specs.Calls.{after, clearStep, reweighStep};
+ghost use Rattle.store.specs.EditAnswer.{edited};
+use base::refusal::Checked;
+use base::refusal::Refusal;
+use layout::check::check_filled;
+use layout::offsets::KERNEL;
+use layout::offsets::KERNEL_SIZE;
+use layout::offsets::PIECE;
+use layout::offsets::PIECES_SIZE;
+use layout::offsets::STATE;
+use layout::offsets::WIDTH;
+use runs::zero_floats;
+use runs::zero_words;
+
+// The answer of an edit.
+pub enum Edited {
+    Done,
+    Refused(Refusal),
+}
+
+// Empties a place: all its fields become zero.
+pub fn clear(f: &mut [f64], w: &mut [u32], slot: u32) -> Edited
+    ensures { λ r. ⌜ after (edited r) (now (f .exit)) (now (w .exit)) ≡ clearStep width (now (f .entry)) (now (w .entry)) slot ⌝ }
+{
+    match check_filled(f, w, slot) {
+        Checked::Failed(r) => Edited::Refused(r),
+        Checked::Passed => {
+            let i = slot as usize;
+            zero_floats(f, KERNEL + KERNEL_SIZE * i, KERNEL_SIZE);
+            zero_floats(f, PIECE + PIECES_SIZE * i, PIECES_SIZE);
+            zero_words(w, STATE + WIDTH * i, WIDTH);
+            Edited::Done
+        }
+    }
+}
+
+// Gives the kernel of a place a new weight; the work done on it stays.
+pub fn reweigh(f: &mut [f64], w: &mut [u32], slot: u32, weight: f64) -> Edited
+    ensures { λ r. ⌜ after (edited r) (now (f .exit)) (now (w .exit)) ≡ reweighStep width (now (f .entry)) (now (w .entry)) slot weight ⌝ }
+{
+    match check_filled(f, w, slot) {
+        Checked::Failed(r) => Edited::Refused(r),
+        Checked::Passed => {
+            let i = slot as usize;
+            f[KERNEL + 4 + KERNEL_SIZE * i] = weight;
+            Edited::Done
+        }
+    }
+}

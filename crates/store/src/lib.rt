@@ -1,0 +1,3 @@
+// The calls that open and edit a store. No exported call has a `requires`; a refused one changes nothing.
+pub mod edit;
+pub mod open;
