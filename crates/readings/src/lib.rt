@@ -1,1 +1,1 @@
-// Readings of a store: density, report and list. Their contracts; the code is not here yet.
+// The definitions of the readings; their code is in the crate `reads`.
