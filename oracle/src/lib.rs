@@ -1,12 +1,26 @@
 //! The proved functions of 01's "Roots and powers", as libcauchy.a exports them, and what a comparison needs: one NaN, distances in
 //! ulp, inputs that can be repeated. [`steps`] works 01's steps a second time, sharing nothing with the proved code.
 pub mod cases;
+#[cfg(original)]
+pub mod conventions;
+#[cfg(original)]
+pub mod held;
+#[cfg(original)]
+pub mod histories;
 pub mod inputs;
+pub mod meshes;
+#[cfg(original)]
+pub mod machine;
 #[cfg(original)]
 pub mod original;
 pub mod pieces;
 pub mod steps;
+#[cfg(original)]
+pub mod store;
 pub mod tally;
+#[cfg(original)]
+pub mod text;
+pub mod volumes;
 
 /// What a comparison with the original's text says where its files are not there.
 #[cfg(not(original))]

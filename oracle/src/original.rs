@@ -1,9 +1,9 @@
-//! The original's own text, taken from its files when this package is built (build/text.rs), in four modules:
+//! The original's own text, taken from its files when this package is built (build/text.rs), in these modules:
 //!
 //! | module | roots and powers |
 //! |---|---|
 //! | [`native`], [`source`] | 01's, by the archive's C functions |
-//! | [`native_steps`] | 01's, by the second transcription |
+//! | [`native_steps`], [`source_steps`] | 01's, by the second transcription |
 //! | [`native_platform`] | the platform's: the text unchanged |
 //!
 //! Beside the text each has doors to the functions that are private in it.
@@ -11,7 +11,7 @@
 /// What the changed text calls in place of the platform's functions.
 macro_rules! functions {
     ($name:ident, $root:path, $arc:path, $power:path, $log10:path, $ten:path) => {
-        mod $name {
+        pub(crate) mod $name {
             pub use $ten as ten;
 
             pub trait Functions {
@@ -69,6 +69,11 @@ macro_rules! native_doors {
         pub fn size(delta: f64) -> (usize, usize) {
             fit_size(delta)
         }
+
+        /// The points' shares and weights of a triangle's rule.
+        pub fn rule() -> [([f64; 3], f64); 7] {
+            DUNANT7
+        }
     };
 }
 
@@ -92,8 +97,60 @@ pub mod native_platform {
     native_doors!();
 }
 
+/// The doors to a source module's private functions. Kernels are six floats each, triangles the corners of the faces in face order.
+macro_rules! source_doors {
+    () => {
+        fn kernels_of(list: &[f64]) -> Vec<Kernel> {
+            list.chunks_exact(6).map(|k| Kernel { c: [k[0], k[1], k[2]], sigma: k[3], w: k[4], alpha: k[5] }).collect()
+        }
+
+        fn floats_of(list: Vec<Kernel>) -> Vec<f64> {
+            list.iter().flat_map(|k| [k.c[0], k.c[1], k.c[2], k.sigma, k.w, k.alpha]).collect()
+        }
+
+        fn triangles_of(xyz: &[f64], faces: &[u32]) -> Vec<Triangle> {
+            let corner = |i: u32| [0, 1, 2].map(|k| xyz[3 * i as usize + k]);
+            faces.chunks_exact(3).map(|f| Triangle { a: corner(f[0]), b: corner(f[1]), c: corner(f[2]), normal: [0.0; 3] }).collect()
+        }
+
+        /// `density_at`.
+        pub fn density(kernels: &[f64], point: [f64; 3]) -> f64 {
+            density_at(&kernels_of(kernels), point)
+        }
+
+        /// `kernel_volume`.
+        pub fn volume(xyz: &[f64], faces: &[u32], c: [f64; 3], sigma: f64) -> f64 {
+            kernel_volume(&triangles_of(xyz, faces), c, sigma)
+        }
+
+        /// `mesh_enclosed_volume`.
+        pub fn enclosed(xyz: &[f64], faces: &[u32]) -> f64 {
+            mesh_enclosed_volume(&triangles_of(xyz, faces))
+        }
+
+        /// `normalize_kernels`; none where it tells of an exponent.
+        pub fn normalize(xyz: &[f64], faces: &[u32], kernels: &[f64], target: f64) -> Option<Vec<f64>> {
+            normalize_kernels(&triangles_of(xyz, faces), &kernels_of(kernels), target).ok().map(floats_of)
+        }
+
+        /// `calibrate_kernels`; none where it tells of an exponent.
+        pub fn calibrate(xyz: &[f64], faces: &[u32], kernels: &[f64], total: f64, mean: Option<f64>) -> Option<Vec<f64>> {
+            let of = ParsedDensity { kernels: kernels_of(kernels), total_mass_target: total, mean_density_target: mean };
+            calibrate_kernels(&triangles_of(xyz, faces), &of).ok().map(floats_of)
+        }
+    };
+}
+
 #[allow(dead_code, clippy::all)]
 pub mod source {
     use super::archive::Functions;
     include!(concat!(env!("OUT_DIR"), "/source.rs"));
+    source_doors!();
+}
+
+#[allow(dead_code, clippy::all)]
+pub mod source_steps {
+    use super::transcribed::Functions;
+    include!(concat!(env!("OUT_DIR"), "/source.rs"));
+    source_doors!();
 }

@@ -3,8 +3,14 @@
 //!   stored pieces               the expected output of the program `pieces_rows` (crates/pieces_rows)
 //!   stored pieces --table       its table of arguments
 //!   stored pieces --held FILE   whether FILE is that output: the exit status is 1 if it is not
+//!   stored volumes ..           the same for `volume_rows` (crates/volume_rows)
+//!   stored history [--table | --held FILE]   the same for the program `history` (crates/history), by 01's machine
+#[cfg(original)]
+mod history;
 #[cfg(original)]
 mod pieces;
+#[cfg(original)]
+mod volumes;
 
 #[cfg(original)]
 fn main() {
@@ -13,8 +19,14 @@ fn main() {
         ["pieces"] => print!("{}", pieces::answers()),
         ["pieces", "--table"] => print!("{}", pieces::table()),
         ["pieces", "--held", file] => held(file, &pieces::answers()),
+        ["volumes"] => print!("{}", volumes::answers()),
+        ["volumes", "--table"] => print!("{}", volumes::tables()),
+        ["volumes", "--held", file] => held(file, &volumes::answers()),
+        ["history"] => print!("{}", history::answers()),
+        ["history", "--table"] => print!("{}", history::table()),
+        ["history", "--held", file] => held(file, &history::answers()),
         _ => {
-            eprintln!("usage: stored pieces [--table | --held FILE]");
+            eprintln!("usage: stored pieces | volumes | history [--table | --held FILE]");
             std::process::exit(2);
         }
     }

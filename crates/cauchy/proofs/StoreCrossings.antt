@@ -1,0 +1,74 @@
+-- A store's reply can be read off what C gets: the number is 0 just where nothing is refused, and no value is lost. Assumes nothing.
+use Prim.Native.Nat.{ℕ}
+use mathlib.Core.Path.{_≡_, refl}
+use mathlib.Core.Bool.{false, cond}
+use mathlib.Core.List.{List, [], _∷_}
+use lib.Dec.{eqb}
+use lib.Ieee.{Float}
+use Rattle.base.specs.Refusals.{number}
+use Rattle.base.specs.declared.refusal.Refusal.{Refusal}
+use Rattle.base.specs.declared.refusal.Refusal.the-variants.{Ragged, Oversize, LooseCorner, ShortStore, Unsound, NoPlace, Vacant, Unfinished, ShortList, BadMatrix, FlatPivot, Exponent, BadLine}
+use Rattle.store.specs.Calls.{Reply}
+use Rattle.store.specs.declared.open.Opened.{Opened}
+use Rattle.store.specs.declared.open.Opened.the-variants as opening
+use Rattle.store.specs.OpenAnswer.{opened}
+use Rattle.put.specs.declared.Placed.{Placed}
+use Rattle.put.specs.declared.Placed.the-variants as placing
+use Rattle.put.specs.PutAnswer.{placed}
+use Rattle.advance.specs.declared.advance.Advanced.{Advanced}
+use Rattle.advance.specs.declared.advance.Advanced.the-variants as advancing
+use Rattle.advance.specs.AdvanceAnswer.{advanced}
+use Rattle.readings.specs.Readings.{reported}
+use Rattle.reads.specs.declared.at_point.DensityRead.{DensityRead}
+use Rattle.reads.specs.declared.at_point.DensityRead.the-variants as density
+use Rattle.reads.specs.Checks.{densityRead}
+use Rattle.reads.specs.declared.reports.Reported.{Reported}
+use Rattle.reads.specs.declared.reports.Reported.the-variants as reporting
+use Rattle.reads.specs.ReportAnswer.{reportRead}
+use Rattle.reads.specs.declared.listing.ListRead.{ListRead}
+use Rattle.reads.specs.declared.listing.ListRead.the-variants as listing
+use Rattle.reads.specs.ListAnswer.{listRead}
+use Rattle.cauchy.specs.StoreCrossing.{openedFrom, placedFrom, stepsFrom, valueFrom, reportFrom, listedFrom}
+
+pub never-zero : (r : Refusal) → eqb (number r) 0 ≡ false
+never-zero Ragged = refl
+never-zero Oversize = refl
+never-zero LooseCorner = refl
+never-zero ShortStore = refl
+never-zero Unsound = refl
+never-zero NoPlace = refl
+never-zero Vacant = refl
+never-zero Unfinished = refl
+never-zero ShortList = refl
+never-zero BadMatrix = refl
+never-zero FlatPivot = refl
+never-zero Exponent = refl
+never-zero BadLine = refl
+
+-- the reply of a number and values, which count where the number is 0
+abbrev pub told : ℕ → List ℕ → List Float → Reply
+told n ns xs = cond (eqb n 0) (record { refusal = 0; counts = ns; floats = xs }) (record { refusal = n; counts = []; floats = [] })
+
+pub opens : (o : Opened) → let c = openedFrom (opened o) in told (c .no) (c .verts ∷ c .faces ∷ []) [] ≡ opened o
+opens (opening.Mesh verts faces) = refl
+opens (opening.Refused r) = rw (never-zero r) refl
+
+pub places : (p : Placed) → let c = placedFrom (placed p) in told (c .no) (c .pieces ∷ c .need ∷ []) [] ≡ placed p
+places (placing.Needs pieces need) = refl
+places (placing.Refused r) = rw (never-zero r) refl
+
+pub advances : (a : Advanced) → let c = stepsFrom (advanced a) in told (c .no) (c .done ∷ c .left ∷ []) [] ≡ advanced a
+advances (advancing.Steps done left) = refl
+advances (advancing.Refused r) = rw (never-zero r) refl
+
+pub values : (d : DensityRead) → let c = valueFrom (densityRead d) in told (c .no) [] (c .value ∷ []) ≡ densityRead d
+values (density.Value x) = refl
+values (density.Refused r) = rw (never-zero r) refl
+
+pub reports : (d : Reported) → let c = reportFrom (reportRead d) in let s = reported (c .report) (c .kernels) (c .pieces) (c .error) in told (c .no) (s .counts) (s .floats) ≡ reportRead d
+reports (reporting.Report mass filled pieces error) = refl
+reports (reporting.Refused r) = rw (never-zero r) refl
+
+pub lists : (d : ListRead) → let c = listedFrom (listRead d) in told (c .no) (c .pieces ∷ []) [] ≡ listRead d
+lists (listing.Pieces n) = refl
+lists (listing.Refused r) = rw (never-zero r) refl

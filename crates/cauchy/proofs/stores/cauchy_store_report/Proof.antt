@@ -1,0 +1,14 @@
+-- `cauchy::stores::cauchy_store_report` meets its contract. Assumes nothing.
+use borrow.Author.Needs.{needs}
+use mathlib.Core.Path.{ap}
+use Rattle.readings.specs.Readings.{Outcome}
+use Rattle.cauchy.specs.StoreCrossing.{reportFrom}
+use Rattle.cauchy.proofs.stores.cauchy_store_report.Statement.{statement}
+use Rattle.cauchy.proofs.stores.cauchy_store_report.Tie as tie
+
+returns : tie.Need-returns
+returns c = rw (c .report-of .ensures, ← c .before .before .convention-of .ensures) (ap (λ (o : Outcome). reportFrom (o .reply)) (c .before .report .ensures))
+
+pub cauchy-store-report-spec : {M : Type 1} → statement M
+cauchy-store-report-spec =
+    tie.close (tie.spec (λ c κs. search needs) (λ c κs. search needs) (λ c κs. search needs) returns)

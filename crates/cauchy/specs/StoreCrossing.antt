@@ -1,0 +1,92 @@
+-- What crosses to C of a store's reply: 01's number, then each value, 0 where the reply has none, beside both runs. Definitions only.
+use Prim.Native.Nat.{ℕ}
+use mathlib.Core.Bool.{cond}
+use mathlib.Core.List.{List}
+use lib.Dec.{eqb}
+use lib.ListN.{getD}
+use lib.Ieee.{Float}
+use Rattle.base.specs.Floats.{+0}
+use Rattle.density.specs.declared.convention.Convention.{Convention}
+use Rattle.density.specs.declared.convention.Convention.the-variants.{Raw, Rho0, Mass}
+use Rattle.store.specs.Calls.{Reply, After}
+use Rattle.readings.specs.Readings.{Outcome}
+use Rattle.cauchy.specs.declared.stores.CauchyOpened.{CauchyOpened}
+use Rattle.cauchy.specs.declared.stores.CauchyPlaced.{CauchyPlaced}
+use Rattle.cauchy.specs.declared.stores.CauchySteps.{CauchySteps}
+use Rattle.cauchy.specs.declared.stores.CauchyConvention.{CauchyConvention}
+use Rattle.cauchy.specs.declared.volumes.CauchyValue.{CauchyValue}
+use Rattle.cauchy.specs.declared.stores.CauchyStoreReport.{CauchyStoreReport}
+use Rattle.cauchy.specs.declared.stores.CauchyListed.{CauchyListed}
+
+-- ---- what C gets, with the runs as they are then
+pub record Crossed (A : Type 0) : Type 0 where
+  pub answer : A
+  pub floats : List Float
+  pub words : List ℕ
+
+abbrev pub crossed : {A : Type 0} → A → List Float → List ℕ → Crossed A
+crossed r fs ws = record { answer = r; floats = fs; words = ws }
+
+-- what a call leaves, its reply as C gets it
+abbrev pub across : {A : Type 0} → (Reply → A) → After → Crossed A
+across answer a = crossed (answer (a .reply)) (a .floats) (a .words)
+
+-- ---- each reply as C gets it
+
+-- open: "vertices and faces"
+abbrev pub openedFrom : Reply → CauchyOpened
+openedFrom a = record { no = a .refusal; verts = getD (a .counts) 0 0; faces = getD (a .counts) 1 0 }
+
+-- put: "pieces and need"
+abbrev pub placedFrom : Reply → CauchyPlaced
+placedFrom a = record { no = a .refusal; pieces = getD (a .counts) 0 0; need = getD (a .counts) 1 0 }
+
+-- advance: "done, beside left"
+abbrev pub stepsFrom : Reply → CauchySteps
+stepsFrom a = record { no = a .refusal; done = getD (a .counts) 0 0; left = getD (a .counts) 1 0 }
+
+-- clear and reweigh, which answer no value
+abbrev pub numberFrom : Reply → ℕ
+numberFrom a = a .refusal
+
+-- density
+abbrev pub valueFrom : Reply → CauchyValue
+valueFrom a = record { no = a .refusal; value = getD (a .floats) 0 +0 }
+
+-- report: "the first seven in `MassReport` order", then "filled count, pieces, greatest error"
+abbrev pub reportFrom : Reply → CauchyStoreReport
+reportFrom a =
+    record {
+      no = a .refusal;
+      report = record {
+        «raw_mass» = getD (a .floats) 0 +0;
+        «rho0_scale» = getD (a .floats) 1 +0;
+        «rho0_mass» = getD (a .floats) 2 +0;
+        «applied_scale» = getD (a .floats) 3 +0;
+        «applied_mass» = getD (a .floats) 4 +0;
+        «target_mass» = getD (a .floats) 5 +0;
+        volume = getD (a .floats) 6 +0;
+      };
+      kernels = getD (a .counts) 0 0;
+      pieces = getD (a .counts) 1 0;
+      error = getD (a .floats) 7 +0;
+    }
+
+-- list: "the piece count"
+abbrev pub listedFrom : Reply → CauchyListed
+listedFrom a = record { no = a .refusal; pieces = getD (a .counts) 0 0 }
+
+-- and the run that it writes, as it is then
+pub record Wrote : Type 0 where
+  pub answer : CauchyListed
+  pub out : List Float
+
+abbrev pub wrote : CauchyListed → List Float → Wrote
+wrote r out = record { answer = r; out = out }
+
+abbrev pub wroteFrom : Outcome → Wrote
+wroteFrom o = wrote (listedFrom (o .reply)) (o .out)
+
+-- ---- "raw, rho0 with a bulk density, or mass with target and bulk", by a kind: 0, 1, any other
+abbrev pub conventionOf : CauchyConvention → Convention
+conventionOf v = cond (eqb (v .kind) 0) Raw (cond (eqb (v .kind) 1) (Rho0 (v .bulk)) (Mass (v .target) (v .bulk)))

@@ -1,0 +1,35 @@
+-- What crosses to C of a call's answer: 01's number, then each value, +0 where the answer has none. Definitions only.
+use lib.ListN.{getD}
+use Rattle.base.specs.Floats.{+0}
+use Rattle.base.specs.Answers.{Answer}
+use Rattle.cauchy.specs.declared.volumes.CauchyValue.{CauchyValue}
+use Rattle.cauchy.specs.declared.volumes.CauchyPoint.{CauchyPoint}
+use Rattle.cauchy.specs.declared.volumes.CauchyReport.{CauchyReport}
+
+-- an answer of one float
+abbrev pub valueFrom : Answer → CauchyValue
+valueFrom a = record { no = a .refusal; value = getD (a .values) 0 +0 }
+
+-- an answer of a point's three
+abbrev pub pointFrom : Answer → CauchyPoint
+pointFrom a =
+    record {
+      no = a .refusal;
+      at = record { x = getD (a .values) 0 +0; y = getD (a .values) 1 +0; z = getD (a .values) 2 +0 };
+    }
+
+-- an answer of a report's seven
+abbrev pub reportFrom : Answer → CauchyReport
+reportFrom a =
+    record {
+      no = a .refusal;
+      report = record {
+        «raw_mass» = getD (a .values) 0 +0;
+        «rho0_scale» = getD (a .values) 1 +0;
+        «rho0_mass» = getD (a .values) 2 +0;
+        «applied_scale» = getD (a .values) 3 +0;
+        «applied_mass» = getD (a .values) 4 +0;
+        «target_mass» = getD (a .values) 5 +0;
+        volume = getD (a .values) 6 +0;
+      };
+    }

@@ -1,0 +1,326 @@
+// The store for C callers: two lent runs, floats and u32 words, in 01's layout. Each function states what
+// C gets and every run that it may write: 01's number, 0 where the call is not refused, and values that are
+// 0 where it is; a refused call changes nothing. The runs may have any length and hold anything.
+//
+// The host guarantees for every call: a run of n > 0 words is n initialised, aligned words that no one else
+// writes meanwhile (a run of 0 words may be NULL); a run that is written overlaps no other run of the call;
+// the floating-point state is the default one (nearest even, subnormals kept).
+ghost use mathlib.Core.Path.{_≡_};
+ghost use Rattle.layout.specs.Layout.{width};
+ghost use Rattle.store.specs.Calls.{openStep, clearStep, reweighStep};
+ghost use Rattle.store.specs.OpenAnswer.{opened};
+ghost use Rattle.store.specs.EditAnswer.{edited};
+ghost use Rattle.put.specs.Puts.{putStep};
+ghost use Rattle.put.specs.PutAnswer.{placed};
+ghost use Rattle.advance.specs.Steps.{advanceStep};
+ghost use Rattle.advance.specs.AdvanceAnswer.{advanced};
+ghost use Rattle.mass.specs.Calls.{pointValues};
+ghost use Rattle.readings.specs.Readings.{readStep};
+ghost use Rattle.readings.specs.Readings;
+ghost use Rattle.reads.specs.Checks.{densityRead};
+ghost use Rattle.reads.specs.ListAnswer.{listRead};
+ghost use Rattle.reads.specs.ReportAnswer.{reportRead};
+ghost use Rattle.cauchy.specs.StoreCrossing.{crossed, across, openedFrom, placedFrom, stepsFrom, numberFrom, conventionOf, valueFrom, reportFrom, wrote, wroteFrom, listedFrom};
+use crate::volumes::CauchyValue;
+use advance::advance::Advanced;
+use advance::advance::advance;
+use base::refusal::refusal_number;
+use density::convention::Convention;
+use density::report::MassReport;
+use kernel::kernel::Kernel;
+use mesh::vectors::V3;
+use put::Placed;
+use put::put;
+use reads::at_point::DensityRead;
+use reads::at_point::density;
+use reads::listing::ListRead;
+use reads::listing::list;
+use reads::reports::Reported;
+use reads::reports::report;
+use store::edit::Edited;
+use store::edit::clear;
+use store::edit::reweigh;
+use store::open::Opened;
+use store::open::open;
+
+// 01's number, then the vertices and faces of the mesh.
+#[repr(C)]
+pub struct CauchyOpened {
+    pub no: u32,
+    pub verts: u32,
+    pub faces: u32,
+}
+
+// 01's number, then the kernel's pieces and the steps that they need.
+#[repr(C)]
+pub struct CauchyPlaced {
+    pub no: u32,
+    pub pieces: u32,
+    pub need: u32,
+}
+
+// 01's number, then the steps done and left.
+#[repr(C)]
+pub struct CauchySteps {
+    pub no: u32,
+    pub done: u64,
+    pub left: u64,
+}
+
+fn opened_of(o: Opened) -> CauchyOpened
+    ensures { λ r. ⌜ r ≡ openedFrom (opened o) ⌝ }
+{
+    match o {
+        Opened::Mesh(verts, faces) => CauchyOpened {
+            no: 0,
+            verts,
+            faces,
+        },
+        Opened::Refused(r) => CauchyOpened {
+            no: refusal_number(r),
+            verts: 0,
+            faces: 0,
+        },
+    }
+}
+
+// Makes two runs a store of this radius and mesh, every place empty: 1, 2, 3, or 4 below 1,761 + 3V floats or
+// 98 + 3F words. What the runs held does not matter, and words past these stay.
+#[no_mangle]
+pub extern "C" fn cauchy_store_open(
+    floats: &mut [f64],
+    words: &mut [u32],
+    radius: f64,
+    xyz: &[f64],
+    faces: &[u32],
+) -> CauchyOpened
+    ensures { λ r. ⌜ crossed r (now (floats .exit)) (now (words .exit)) ≡ across openedFrom (openStep width (now (floats .entry)) (now (words .entry)) radius (now (xyz .entry)) (now (faces .entry))) ⌝ }
+{
+    opened_of(open(floats, words, radius, xyz, faces))
+}
+
+fn placed_of(p: Placed) -> CauchyPlaced
+    ensures { λ r. ⌜ r ≡ placedFrom (placed p) ⌝ }
+{
+    match p {
+        Placed::Needs(pieces, need) => CauchyPlaced {
+            no: 0,
+            pieces,
+            need,
+        },
+        Placed::Refused(r) => CauchyPlaced {
+            no: refusal_number(r),
+            pieces: 0,
+            need: 0,
+        },
+    }
+}
+
+// Puts a kernel, in metres, into a place, whatever it held: 4, 5 or 6.
+#[no_mangle]
+pub extern "C" fn cauchy_store_put(
+    floats: &mut [f64],
+    words: &mut [u32],
+    place: u32,
+    k: Kernel,
+) -> CauchyPlaced
+    ensures { λ r. ⌜ crossed r (now (floats .exit)) (now (words .exit)) ≡ across placedFrom (putStep width (now (floats .entry)) (now (words .entry)) place k) ⌝ }
+{
+    placed_of(put(floats, words, place, k))
+}
+
+fn edit_number(e: Edited) -> u32
+    ensures { λ r. ⌜ r ≡ numberFrom (edited e) ⌝ }
+{
+    match e {
+        Edited::Done => 0,
+        Edited::Refused(r) => refusal_number(r),
+    }
+}
+
+// Empties a place; answers 0, 4, 5, 6 or 7.
+#[no_mangle]
+pub extern "C" fn cauchy_store_clear(floats: &mut [f64], words: &mut [u32], place: u32) -> u32
+    ensures { λ r. ⌜ crossed r (now (floats .exit)) (now (words .exit)) ≡ across numberFrom (clearStep width (now (floats .entry)) (now (words .entry)) place) ⌝ }
+{
+    edit_number(clear(floats, words, place))
+}
+
+// Gives the kernel of a place the weight w, its work kept; answers 0, 4, 5, 6 or 7.
+#[no_mangle]
+pub extern "C" fn cauchy_store_reweigh(
+    floats: &mut [f64],
+    words: &mut [u32],
+    place: u32,
+    w: f64,
+) -> u32
+    ensures { λ r. ⌜ crossed r (now (floats .exit)) (now (words .exit)) ≡ across numberFrom (reweighStep width (now (floats .entry)) (now (words .entry)) place w) ⌝ }
+{
+    edit_number(reweigh(floats, words, place, w))
+}
+
+fn steps_of(a: Advanced) -> CauchySteps
+    ensures { λ r. ⌜ r ≡ stepsFrom (advanced a) ⌝ }
+{
+    match a {
+        Advanced::Steps { done, left } => CauchySteps { no: 0, done, left },
+        Advanced::Refused(r) => CauchySteps {
+            no: refusal_number(r),
+            done: 0,
+            left: 0,
+        },
+    }
+}
+
+// Does up to `budget` steps of the work left, one face of one piece each: 4 or 5. A process killed inside
+// the call leaves its runs half written.
+#[no_mangle]
+pub extern "C" fn cauchy_store_advance(
+    floats: &mut [f64],
+    words: &mut [u32],
+    budget: u64,
+) -> CauchySteps
+    ensures { λ r. ⌜ crossed r (now (floats .exit)) (now (words .exit)) ≡ across stepsFrom (advanceStep width (now (floats .entry)) (now (words .entry)) budget) ⌝ }
+{
+    steps_of(advance(floats, words, budget))
+}
+
+// A convention by its kind: 0 raw; 1 rho0, with the bulk density; any other is mass, with the target and
+// the bulk density.
+#[repr(C)]
+pub struct CauchyConvention {
+    pub kind: u32,
+    pub target: f64,
+    pub bulk: f64,
+}
+
+// 01's number, then the report of masses, the filled places, the pieces and the greatest error of a fit.
+#[repr(C)]
+pub struct CauchyStoreReport {
+    pub no: u32,
+    pub report: MassReport,
+    pub kernels: u32,
+    pub pieces: u32,
+    pub error: f64,
+}
+
+// 01's number, then the pieces written.
+#[repr(C)]
+pub struct CauchyListed {
+    pub no: u32,
+    pub pieces: u32,
+}
+
+fn convention_of(v: CauchyConvention) -> Convention
+    ensures { λ r. ⌜ r ≡ conventionOf v ⌝ }
+{
+    if v.kind == 0 {
+        return Convention::Raw;
+    }
+    if v.kind == 1 {
+        return Convention::Rho0(v.bulk);
+    }
+    Convention::Mass(v.target, v.bulk)
+}
+
+fn density_value(d: DensityRead) -> CauchyValue
+    ensures { λ r. ⌜ r ≡ valueFrom (densityRead d) ⌝ }
+{
+    match d {
+        DensityRead::Value(value) => CauchyValue { no: 0, value },
+        DensityRead::Refused(r) => CauchyValue {
+            no: refusal_number(r),
+            value: 0.0,
+        },
+    }
+}
+
+// The density at a point, in metres: 4, 5, or 8 where the kind is mass and the target above 0.
+#[no_mangle]
+pub extern "C" fn cauchy_store_density(
+    floats: &[f64],
+    words: &[u32],
+    convention: CauchyConvention,
+    point: V3,
+) -> CauchyValue
+    ensures { λ r. ⌜ r ≡ valueFrom (readStep width (now (floats .entry)) (now (words .entry)) (Readings.density (conventionOf convention) (pointValues point)) .reply) ⌝ }
+{
+    density_value(density(
+        floats,
+        words,
+        convention_of(convention),
+        [point.x, point.y, point.z],
+    ))
+}
+
+fn report_of(d: Reported) -> CauchyStoreReport
+    ensures { λ r. ⌜ r ≡ reportFrom (reportRead d) ⌝ }
+{
+    match d {
+        Reported::Report {
+            mass,
+            filled,
+            pieces,
+            error,
+        } => CauchyStoreReport {
+            no: 0,
+            report: mass,
+            kernels: filled,
+            pieces,
+            error,
+        },
+        Reported::Refused(r) => CauchyStoreReport {
+            no: refusal_number(r),
+            report: MassReport {
+                raw_mass: 0.0,
+                rho0_scale: 0.0,
+                rho0_mass: 0.0,
+                applied_scale: 0.0,
+                applied_mass: 0.0,
+                target_mass: 0.0,
+                volume: 0.0,
+            },
+            kernels: 0,
+            pieces: 0,
+            error: 0.0,
+        },
+    }
+}
+
+// The report of the store: 4, 5 or 8.
+#[no_mangle]
+pub extern "C" fn cauchy_store_report(
+    floats: &[f64],
+    words: &[u32],
+    convention: CauchyConvention,
+) -> CauchyStoreReport
+    ensures { λ r. ⌜ r ≡ reportFrom (readStep width (now (floats .entry)) (now (words .entry)) (Readings.report (conventionOf convention)) .reply) ⌝ }
+{
+    report_of(report(floats, words, convention_of(convention)))
+}
+
+fn listed_of(d: ListRead) -> CauchyListed
+    ensures { λ r. ⌜ r ≡ listedFrom (listRead d) ⌝ }
+{
+    match d {
+        ListRead::Pieces(pieces) => CauchyListed { no: 0, pieces },
+        ListRead::Refused(r) => CauchyListed {
+            no: refusal_number(r),
+            pieces: 0,
+        },
+    }
+}
+
+// Writes the store's pieces as kernels of six floats each, weights rescaled: 4, 5, 8 or 9. Floats of `out`
+// past them stay.
+#[no_mangle]
+pub extern "C" fn cauchy_store_list(
+    floats: &[f64],
+    words: &[u32],
+    convention: CauchyConvention,
+    out: &mut [f64],
+) -> CauchyListed
+    ensures { λ r. ⌜ wrote r (now (out .exit)) ≡ wroteFrom (readStep width (now (floats .entry)) (now (words .entry)) (Readings.list (conventionOf convention) (now (out .entry)))) ⌝ }
+{
+    listed_of(list(floats, words, convention_of(convention), out))
+}

@@ -1,0 +1,34 @@
+-- 01, "Remainder", program `bench`: the forms of the lines that it prints. Definitions only.
+use Rattle.text.specs.Form.{Form, end, real, say, u32, u64, three}
+
+-- "prints vertices and faces, then pieces and need, the density, done and left"
+abbrev pub openAnswer : Form
+openAnswer = say "(open (verts " (u32 (say ") (faces " (u32 (say "))" end))))
+
+abbrev pub putAnswer : Form
+putAnswer = say "(put " (u32 (say " (pieces " (u32 (say ") (steps " (u32 (say "))" end))))))
+
+abbrev pub densityAnswer : Form
+densityAnswer = say "(density " (real (say ")" end))
+
+abbrev pub advanceAnswer : Form
+advanceAnswer = say "(advance (done " (u64 (say ") (left " (u64 (say "))" end))))
+
+-- "(clear P), (reweigh P) echo"
+abbrev pub clearAnswer : Form
+clearAnswer = say "(clear " (u32 (say ")" end))
+
+abbrev pub reweighAnswer : Form
+reweighAnswer = say "(reweigh " (u32 (say ")" end))
+
+-- "the first seven in `MassReport` order", and then
+abbrev pub masses : Form → Form
+masses f = say "(report " (three (say " " (three (say " " (real f)))))
+
+-- "(report h h h h h h h (kernels N) (pieces N) (error h))"
+abbrev pub reportAnswer : Form
+reportAnswer = masses (say " (kernels " (u32 (say ") (pieces " (u32 (say ") (error " (real (say "))" end)))))))
+
+-- "any refusal (no N)"
+abbrev pub noAnswer : Form
+noAnswer = say "(no " (u32 (say ")" end))

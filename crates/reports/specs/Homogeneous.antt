@@ -1,0 +1,36 @@
+-- 01, "Remainder": `homogeneous` of native density.rs, on a mesh. Definitions only.
+use Prim.Native.Nat.{ℕ}
+use mathlib.Core.List.{List, [], _∷_}
+use lib.ListN.{length}
+use lib.Ieee.{Float}
+use Rattle.base.specs.Answers.{Answer, accepted, refused, answered}
+use Rattle.mesh.specs.Triangles.{triangleAt, faceCount}
+use Rattle.mesh.specs.Checks.{meshCheck}
+use Rattle.mass.specs.Centroid.{bodyVolume}
+use Rattle.density.specs.declared.report.MassReport.{MassReport}
+use Rattle.density.specs.Reports.{homogeneousOf}
+use Rattle.reports.specs.declared.Reported.{Reported}
+use Rattle.reports.specs.declared.Reported.the-variants.{Report, Refused}
+
+-- a report's values, "in `MassReport` order"
+abbrev pub reportValues : MassReport → List Float
+reportValues m =
+    m .«raw_mass»
+    ∷ m .«rho0_scale»
+    ∷ m .«rho0_mass»
+    ∷ m .«applied_scale»
+    ∷ m .«applied_mass»
+    ∷ m .«target_mass»
+    ∷ m .volume
+    ∷ []
+
+-- number and values of each case
+abbrev pub reportedAs : Reported → Answer
+reportedAs (Report m) = accepted (reportValues m)
+reportedAs (Refused r) = refused r
+
+-- refusals 1 to 3 of the mesh; else the report of the bulk density and the enclosed volume
+unfoldable pub homogeneousCall : Float → List Float → List ℕ → Answer
+homogeneousCall bulk xyz corners =
+    answered (meshCheck (length xyz) corners)
+    (reportValues (homogeneousOf bulk (bodyVolume (triangleAt xyz corners) (faceCount corners))))

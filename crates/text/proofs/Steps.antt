@@ -1,0 +1,96 @@
+-- One step of a token at a position: what `rest` is there, and what the token's definition makes of it. Assumes nothing.
+use mathlib.Core.Path.{_≡_, refl, sym, ap, _∙_}
+use mathlib.Core.List.{List, [], _∷_}
+use mathlib.Core.Bool.{Bool, true, false, cond}
+use Prim.Native.Nat.{ℕ, zero, suc, _+_, _-_, _*_, _^_, _<_, _≤_}
+use native.Mathlib.Nat.{pow-suc, pow-le-pow-right, lt-of-lt-of-le}
+use native.Mathlib.Numerals.{add-one}
+use native.Mathlib.Omega.{arith}
+use lib.ListN.{length, drop, getD}
+use lib.Seq.{drop-cons, drop-length}
+use lib.Dec.{leb, lit<}
+use borrow.Author.Tests.{le-leb, lt-leb, eq-eqb, ne-eqb, lt-ltb, le-ltb}
+use Rattle.text.specs.Text.{Text, lost, left, rest, literal, digit, patternFrom, decimalFrom, decimal, missing, Got}
+use Rattle.text.specs.TextLaws.{rest-in, rest-past, rest-whole, rest-cons, rest-next, rest-none}
+
+module _ (p s : List ℕ) (i k : ℕ) (hi : i < length p) where
+  pub literal-same : k < length s → getD s k 0 ≡ getD p i 0 → literal (drop i p) (rest s k) ≡ literal (drop (i + 1) p) (rest s (k + 1))
+  literal-same hk e = rw (drop-cons p i 0 hi, rest-cons s k hk, rest-next s k hk, eq-eqb _ _ e, add-one i)
+
+  pub literal-other : k < length s → (getD s k 0 ≡ getD p i 0 → ⊥) → literal (drop i p) (rest s k) ≡ lost
+  literal-other hk e = rw (drop-cons p i 0 hi, rest-cons s k hk, ne-eqb _ _ e)
+
+  pub literal-short : length s ≤ k → literal (drop i p) (rest s k) ≡ lost
+  literal-short hk = rw (drop-cons p i 0 hi) (rest-none (λ t. literal (getD p i 0 ∷ drop (suc i) p) t ≡ lost) s k hk refl refl)
+
+pub literal-all : (t : Text) → literal [] t ≡ t
+literal-all lost = refl
+literal-all (left l) = refl
+
+-- where a token is not there, what comes back is one past the end, with 0
+pub missed : (s : List ℕ) {g : Got ℕ} → missing ≡ g → record { val = 0; text = rest s (length s + 1) } ≡ g
+missed s e = rw (rest-past s) e
+
+-- a digit more
+pub pattern-room : (i : ℕ) {v d : ℕ} → v < 16 ^ i → d < 16 → v * 16 + d < 16 ^ (i + 1)
+pattern-room i {v} {d} hv hd = rw (add-one i, pow-suc) (let h : v * 16 + 16 ≤ 16 ^ i * 16 = omega arith in omega arith)
+
+pub pattern-word : (i : ℕ) {v : ℕ} → i ≤ 16 → v < 16 ^ i → v < 2 ^ 64
+pattern-word i hi hv = lt-of-lt-of-le hv (pow-le-pow-right (lit< tt) hi)
+
+pub pattern-done : (v : ℕ) (t : Text) → patternFrom 0 v t ≡ record { val = v; text = t }
+unfolding patternFrom
+pattern-done v t = refl
+
+module _ (s : List ℕ) (i k v : ℕ) (hi : i < 16) where
+  more : 16 - i ≡ suc (16 - (i + 1))
+  more = omega arith
+
+  pub pattern-same : k < length s → digit (getD s k 0) < 16
+      → patternFrom (16 - i) v (rest s k) ≡ patternFrom (16 - (i + 1)) (v * 16 + digit (getD s k 0)) (rest s (k + 1))
+  unfolding patternFrom
+  pattern-same hk h = rw (more, rest-cons s k hk, rest-next s k hk, lt-ltb _ _ h)
+
+  pub pattern-other : k < length s → 16 ≤ digit (getD s k 0) → patternFrom (16 - i) v (rest s k) ≡ missing
+  unfolding patternFrom
+  pattern-other hk h = rw (more, rest-cons s k hk, le-ltb _ _ h)
+
+  pub pattern-short : length s ≤ k → patternFrom (16 - i) v (rest s k) ≡ missing
+  unfolding patternFrom
+  pattern-short hk = rw more (rest-none (λ t. patternFrom (suc (16 - (i + 1))) v t ≡ missing) s k hk refl refl)
+
+module _ (s : List ℕ) (most k v : ℕ) (hk : k < length s) where
+  decimal-cons : decimalFrom most v (drop k s) ≡ decimalFrom most v (getD s k 0 ∷ drop (suc k) s)
+  decimal-cons = ap (decimalFrom most v) (drop-cons s k 0 hk)
+
+  pub decimal-same : digit (getD s k 0) < 10 → v * 10 + digit (getD s k 0) ≤ most
+      → decimalFrom most v (drop k s) ≡ decimalFrom most (v * 10 + digit (getD s k 0)) (drop (k + 1) s)
+  decimal-same h m = decimal-cons ∙ rw (add-one k, lt-ltb _ _ h, le-leb _ _ m)
+
+  pub decimal-past : digit (getD s k 0) < 10 → most < v * 10 + digit (getD s k 0) → decimalFrom most v (drop k s) ≡ missing
+  decimal-past h m = decimal-cons ∙ rw (lt-ltb _ _ h, lt-leb _ _ m)
+
+  pub decimal-other : 10 ≤ digit (getD s k 0) → decimalFrom most v (drop k s) ≡ record { val = v; text = rest s k }
+  decimal-other h = decimal-cons ∙ rw (rest-cons s k hk, le-ltb _ _ h)
+
+pub decimal-end : (s : List ℕ) (most k v : ℕ) → k ≡ length s → decimalFrom most v (drop k s) ≡ record { val = v; text = rest s k }
+decimal-end s most k v e = rw (e, drop-length, rest-whole)
+
+-- the first digit
+module _ (s : List ℕ) (most k : ℕ) where
+  pub decimal-none : length s ≤ k → decimal most (rest s k) ≡ missing
+  unfolding decimal
+  decimal-none h = rest-none (λ t. decimal most t ≡ missing) s k h refl refl
+
+  pub decimal-not : k < length s → 10 ≤ digit (getD s k 0) → decimal most (rest s k) ≡ missing
+  unfolding decimal
+  decimal-not hk h = rw (rest-cons s k hk, le-ltb _ _ h)
+
+  pub decimal-zero : k < length s → digit (getD s k 0) ≡ 0 → decimal most (rest s k) ≡ record { val = 0; text = rest s (k + 1) }
+  unfolding decimal
+  decimal-zero hk h = rw (rest-cons s k hk, rest-next s k hk, h)
+
+  pub decimal-first : k < length s → digit (getD s k 0) < 10 → (digit (getD s k 0) ≡ 0 → ⊥)
+      → decimal most (rest s k) ≡ decimalFrom most (digit (getD s k 0)) (drop (k + 1) s)
+  unfolding decimal
+  decimal-first hk h z = rw (rest-cons s k hk, lt-ltb _ _ h, ne-eqb _ _ z, add-one k)

@@ -1,0 +1,7 @@
+pub mod Text
+pub mod Print
+pub mod TextLaws
+pub mod WriteLaws
+pub mod Tokens
+pub mod Form
+pub mod FormLaws

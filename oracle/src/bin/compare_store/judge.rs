@@ -1,0 +1,254 @@
+//! One call on the store beside the same call on a model, and histories of them.
+use oracle::cases;
+use oracle::held::Held;
+use oracle::histories::{self, Answer, Call, Model, Places};
+use oracle::inputs::Rng;
+use oracle::machine::{self, Machine};
+use oracle::pattern;
+use oracle::store;
+use oracle::tally::Tally;
+use oracle::text::ByArchive;
+
+pub const READINGS: bool = cfg!(feature = "readings");
+
+/// The two runs that the archive's store lives in.
+#[derive(Clone)]
+pub struct Runs {
+    pub floats: Vec<f64>,
+    pub words: Vec<u32>,
+}
+
+impl Runs {
+    /// The archive's answer.
+    pub fn answer(&mut self, call: Call, out: &mut [f64]) -> Answer {
+        let (f, w) = (&mut self.floats[..], &mut self.words[..]);
+        let edited = |no| if no == 0 { Answer::Edited } else { Answer::Refused(no) };
+        match call {
+            Call::Put(place, k) => match store::put(f, w, place, k) {
+                store::Placed { no: 0, pieces, need } => Answer::Placed(pieces, need),
+                store::Placed { no, pieces: 0, need: 0 } => Answer::Refused(no),
+                told => panic!("a refusal with values: {told:?}"),
+            },
+            Call::Clear(place) => edited(store::clear(f, w, place)),
+            Call::Reweigh(place, weight) => edited(store::reweigh(f, w, place, weight)),
+            Call::Advance(n) => match store::advance(f, w, n) {
+                store::Steps { no: 0, done, left } => Answer::Steps(done, left),
+                store::Steps { no, done: 0, left: 0 } => Answer::Refused(no),
+                told => panic!("a refusal with values: {told:?}"),
+            },
+            _ => self.reading(call, out),
+        }
+    }
+
+    #[cfg(feature = "readings")]
+    fn reading(&self, call: Call, out: &mut [f64]) -> Answer {
+        // beside a refusal's number every value is 0
+        let told = |no, values: &[f64], answer| match no {
+            0 => answer,
+            _ if values.iter().all(|x| x.to_bits() == 0) => Answer::Refused(no),
+            _ => panic!("a refusal with values: {no}, {answer:?}"),
+        };
+        match call {
+            Call::Density(by, at) => {
+                let (no, value) = store::density(&self.floats, &self.words, by, at);
+                told(no, &[value], Answer::Value(value))
+            }
+            Call::Report(by) => {
+                let (no, report) = store::report(&self.floats, &self.words, by);
+                let more = [report.kernels.into(), report.pieces.into(), report.error];
+                told(no, &[&report.mass[..], &more].concat(), Answer::Report(report))
+            }
+            Call::List(by, _) => {
+                let (no, pieces) = store::list(&self.floats, &self.words, by, out);
+                told(no, &[pieces.into()], Answer::Listed(pieces))
+            }
+            _ => unreachable!("no reading"),
+        }
+    }
+
+    #[cfg(not(feature = "readings"))]
+    fn reading(&self, _: Call, _: &mut [f64]) -> Answer {
+        unreachable!("the archive's readings are not linked")
+    }
+}
+
+/// What was seen of answers: accepted and refused, by number.
+#[derive(Default)]
+pub struct Seen {
+    accepted: u64,
+    refused: [u64; 14],
+}
+
+impl Seen {
+    pub fn add(&mut self, answer: Answer) {
+        match answer {
+            Answer::Refused(no) => self.refused[no as usize] += 1,
+            _ => self.accepted += 1,
+        }
+    }
+
+    pub fn text(&self) -> String {
+        let refused = self.refused.iter().enumerate().filter(|(_, n)| **n > 0).map(|(no, n)| format!(", {n} refused as {no}"));
+        format!("{} accepted{}", self.accepted, refused.collect::<String>())
+    }
+}
+
+fn same(a: Answer, b: Answer) -> bool {
+    let floats = |x: &[f64], y: &[f64]| x.iter().zip(y).all(|(x, y)| pattern(*x) == pattern(*y));
+    match (a, b) {
+        (Answer::Refused(x), Answer::Refused(y)) => x == y,
+        (Answer::Placed(a, b), Answer::Placed(x, y)) => (a, b) == (x, y),
+        (Answer::Edited, Answer::Edited) => true,
+        (Answer::Steps(a, b), Answer::Steps(x, y)) => (a, b) == (x, y),
+        (Answer::Value(x), Answer::Value(y)) => floats(&[x], &[y]),
+        (Answer::Listed(x), Answer::Listed(y)) => x == y,
+        (Answer::Report(x), Answer::Report(y)) => {
+            floats(&x.mass, &y.mass) && (x.kernels, x.pieces) == (y.kernels, y.pieces) && floats(&[x.error], &[y.error])
+        }
+        _ => false,
+    }
+}
+
+/// The first float that differs: as numbers up to `alike`, bit for bit past it.
+fn float_differs(is: &[f64], want: &[f64], alike: usize) -> Option<usize> {
+    let equal = |i: usize| if i < alike { pattern(is[i]) == pattern(want[i]) } else { is[i].to_bits() == want[i].to_bits() };
+    if is.len() != want.len() { Some(is.len()) } else { (0..is.len()).find(|i| !equal(*i)) }
+}
+
+/// One call on both: the answer, the list, and the runs, which `fields` then says of the model. A refused call and a reading leave every
+/// bit; the model's answer is handed on.
+pub fn differs<M: Model>(
+    runs: &mut Runs,
+    model: &mut M,
+    call: Call,
+    lent: &[f64],
+    fields: impl Fn(&M) -> (Vec<f64>, Vec<u32>),
+) -> (Option<String>, Answer, Answer) {
+    let before = runs.clone();
+    let (mut out, mut want_out) = (lent.to_vec(), lent.to_vec());
+    let (told, want) = (runs.answer(call, &mut out), model.answer(call, &mut want_out));
+    let written = if let Answer::Listed(n) = want { 6 * n as usize } else { 0 };
+    let stays = matches!(want, Answer::Refused(_)) || matches!(call, Call::Density(..) | Call::Report(_) | Call::List(..));
+    let (floats, words) = fields(model);
+    let (own_floats, own_words) = (floats.len(), words.len());
+    let want_floats: Vec<f64> = floats.into_iter().chain(before.floats[own_floats..].iter().copied()).collect();
+    let want_words: Vec<u32> = words.into_iter().chain(before.words[own_words..].iter().copied()).collect();
+    let told_of = |what: &str, at: usize, is: &[f64], want: &[f64]| {
+        Some(format!("{what} {at}: {:016x}, not {:016x}", is.get(at).map_or(0, |x| x.to_bits()), want.get(at).map_or(0, |x| x.to_bits())))
+    };
+    let difference = if !same(told, want) {
+        Some(format!("{told:?}, not {want:?}"))
+    } else if let Some(at) = float_differs(&out, &want_out, written) {
+        told_of("list", at, &out, &want_out)
+    } else if let Some(at) = float_differs(&runs.floats, &want_floats, own_floats) {
+        told_of("float", at, &runs.floats, &want_floats)
+    } else if runs.words != want_words {
+        let at = (0..want_words.len()).find(|i| runs.words[*i] != want_words[*i]).unwrap();
+        Some(format!("word {at}: {}, not {}", runs.words[at], want_words[at]))
+    } else if stays && (float_differs(&runs.floats, &before.floats, 0).is_some() || runs.words != before.words) {
+        Some("a refusal or a reading wrote into the store".into())
+    } else {
+        None
+    };
+    (difference, told, want)
+}
+
+/// A run for a list; no other call is lent one.
+pub fn lent(r: &mut Rng, call: Call) -> Vec<f64> {
+    if let Call::List(_, room) = call { cases::garbage(r, room) } else { Vec::new() }
+}
+
+pub fn histories(count: u64, r: Rng) -> Tally {
+    of_machine("histories of 50 calls", count, 50, r)
+}
+
+pub fn long_histories(count: u64, r: Rng) -> Tally {
+    of_machine("histories of 1,000 calls", count, 1_000, r)
+}
+
+fn of_machine(name: &str, count: u64, calls: usize, mut r: Rng) -> Tally {
+    let (mut tally, mut seen) = (Tally::new(), Seen::default());
+    let (mut charged, mut dropped) = (0, 0);
+    for i in 0..count {
+        let machine = history(&mut r, i, calls, &mut tally, &mut seen);
+        charged += machine.charged;
+        dropped += machine.dropped;
+    }
+    tally.line("store", &format!("{count} {name}"), &format!("{}; charged {charged}, dropped {dropped}", seen.text()));
+    tally
+}
+
+/// One history: an accepted opening, then calls; the claim about its sums is one more comparison.
+fn history(r: &mut Rng, i: u64, calls: usize, tally: &mut Tally, seen: &mut Seen) -> Machine<ByArchive> {
+    let body = histories::body(r);
+    let (floats, words) = machine::room(body.xyz.len() / 3, body.faces.len() / 3);
+    let (more_floats, more_words) = (r.below(9) as usize, r.below(9) as usize);
+    let mut runs =
+        Runs { floats: cases::garbage(r, floats + more_floats), words: (0..words + more_words).map(|_| r.word() as u32).collect() };
+    let before = runs.clone();
+    let opened = store::open(&mut runs.floats, &mut runs.words, body.radius, &body.xyz, &body.faces);
+    let mut machine = Machine::<ByArchive>::open(&body.xyz, &body.faces, body.radius);
+    let (want_floats, want_words) = machine.fields();
+    let as_asked = (opened.no, opened.verts as usize, opened.faces as usize) == (0, body.xyz.len() / 3, body.faces.len() / 3)
+        && float_differs(&runs.floats[..floats], &want_floats, floats).is_none()
+        && runs.words[..words] == want_words
+        && float_differs(&runs.floats[floats..], &before.floats[floats..], 0).is_none()
+        && runs.words[words..] == before.words[words..];
+    tally.count(!as_asked, || format!("history {i}, open {body:?}: {opened:?}"));
+    let places = Places::draw(r);
+    let (mut charged, mut done) = (0, 0);
+    for n in 0..calls {
+        let call = histories::call(r, &machine, &places, READINGS);
+        let lent = lent(r, call);
+        let (difference, told, want) = differs(&mut runs, &mut machine, call, &lent, Machine::fields);
+        seen.add(want);
+        match told {
+            Answer::Placed(_, need) => charged += u64::from(need),
+            Answer::Steps(steps, _) => done += steps,
+            _ => {}
+        }
+        let bad = difference.is_some();
+        tally.count(bad, || format!("history {i}, call {n} {call:?} on {body:?}: {}", difference.unwrap()));
+        if bad {
+            return machine;
+        }
+    }
+    let left = match runs.answer(Call::Advance(0), &mut []) {
+        Answer::Steps(0, left) => left,
+        told => panic!("an advance of 0 answers {told:?}"),
+    };
+    let sums = done + left + machine.dropped == charged && charged == machine.charged;
+    tally.count(!sums, || format!("history {i}: done {done} + left {left} + dropped {} is not charged {charged}", machine.dropped));
+    machine
+}
+
+/// Histories of sound stores that nobody opened, by the fields they hold.
+pub fn unopened(count: u64, mut r: Rng) -> Tally {
+    let (mut tally, mut seen) = (Tally::new(), Seen::default());
+    for i in 0..count {
+        let body = histories::body(&mut r);
+        let mut held = histories::unopened(&mut r, &body);
+        let mut runs = Runs { floats: held.floats.clone(), words: held.words.clone() };
+        let excess = r.below(4) as usize;
+        runs.floats.extend(cases::garbage(&mut r, excess));
+        runs.words.extend((0..r.below(4)).map(|_| r.word() as u32));
+        let places = Places::draw(&mut r);
+        for n in 0..25 {
+            let call = histories::call(&mut r, &held, &places, READINGS);
+            let lent = lent(&mut r, call);
+            let (difference, _, want) = differs(&mut runs, &mut held, call, &lent, fields);
+            seen.add(want);
+            let bad = difference.is_some();
+            tally.count(bad, || format!("store {i}, call {n} {call:?}: {}", difference.unwrap()));
+            if bad {
+                break;
+            }
+        }
+    }
+    tally.line("store", &format!("{count} sound, never opened, 25 calls"), &seen.text());
+    tally
+}
+
+pub fn fields(held: &Held) -> (Vec<f64>, Vec<u32>) {
+    (held.floats.clone(), held.words.clone())
+}

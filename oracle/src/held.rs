@@ -1,0 +1,193 @@
+//! The calls on two runs that may come from anywhere: 01's soundness and, on a sound store, what 01 asks of a call by the fields that
+//! the store holds ("Readings use pieces and volumes as the store holds them"). Written from 01's text, sharing nothing with the proved
+//! code but the powers.
+use crate::conventions::{Convention, Reading, Report, write_list};
+use crate::pieces::Kernel;
+use crate::text::{ByArchive, Text, volume_on};
+
+/// Rows 4 and 5, of a store given to a call; 0 where it is sound.
+pub fn store_number(floats: &[f64], words: &[u32]) -> u32 {
+    if words.len() < 98 {
+        return 4;
+    }
+    let (v, f) = (u64::from(words[0]), u64::from(words[1]));
+    if (floats.len() as u64) < 1_761 + 3 * v || (words.len() as u64) < 98 + 3 * f {
+        return 4;
+    }
+    let in_limit = v <= 1_048_576 && f <= 2_097_152;
+    let places = || words[2..98].chunks(3).all(|s| place_sound(s[0], s[1], s[2], words[1]));
+    let corners = || words[98..98 + 3 * f as usize].iter().all(|i| *i < words[0]);
+    if in_limit && places() && corners() { 0 } else { 5 }
+}
+
+/// "status ≤ 17, empty means two zeros, finished ≤ pieces, faces done 0 if all are finished and else below F".
+fn place_sound(status: u32, finished: u32, done: u32, faces: u32) -> bool {
+    match status {
+        0 => finished == 0 && done == 0,
+        1..=17 if finished == status - 1 => done == 0,
+        1..=17 if finished < status - 1 => done < faces,
+        _ => false,
+    }
+}
+
+/// A store's two runs, as a call finds them.
+#[derive(Clone)]
+pub struct Held {
+    pub floats: Vec<f64>,
+    pub words: Vec<u32>,
+}
+
+impl Held {
+    fn sound(&self) -> Result<(), u32> {
+        match store_number(&self.floats, &self.words) {
+            0 => Ok(()),
+            no => Err(no),
+        }
+    }
+
+    fn place(&self, place: u32) -> Result<usize, u32> {
+        self.sound()?;
+        if place >= 32 { Err(6) } else { Ok(place as usize) }
+    }
+
+    fn filled(&self, place: u32) -> Result<usize, u32> {
+        let i = self.place(place)?;
+        if self.words[2 + 3 * i] == 0 { Err(7) } else { Ok(i) }
+    }
+
+    /// Status, pieces finished, faces done.
+    fn state(&self, i: usize) -> [usize; 3] {
+        [0, 1, 2].map(|k| self.words[2 + 3 * i + k] as usize)
+    }
+
+    pub fn face_count(&self) -> usize {
+        self.words[1] as usize
+    }
+
+    fn mesh(&self) -> (&[f64], &[u32]) {
+        (&self.floats[1_761..][..3 * self.words[0] as usize], &self.words[98..][..3 * self.face_count()])
+    }
+
+    /// need - p over the places: a sound store's, else 0.
+    pub fn left(&self) -> u64 {
+        let owed = |i| {
+            let [status, finished, done] = self.state(i);
+            (status.saturating_sub(1) * self.face_count() - (finished * self.face_count() + done)) as u64
+        };
+        if self.sound().is_ok() { (0..32).map(owed).sum() } else { 0 }
+    }
+
+    pub fn put(&mut self, place: u32, k: Kernel) -> Result<(u32, u32), u32> {
+        let i = self.place(place)?;
+        let (pieces, error) = ByArchive::decompose(&[Kernel { w: 1.0, ..k }], self.floats[0]);
+        let count = pieces.len() as u32;
+        self.floats[1 + 7 * i..][..7].copy_from_slice(&[k.c[0], k.c[1], k.c[2], k.sigma, k.w, k.alpha, error]);
+        self.floats[225 + 48 * i..][..48].fill(0.0);
+        for (j, piece) in pieces.iter().enumerate() {
+            self.floats[225 + 48 * i + 3 * j] = piece.sigma;
+            self.floats[225 + 48 * i + 3 * j + 1] = piece.w;
+        }
+        let finished = if self.words[1] == 0 { count } else { 0 };
+        self.words[2 + 3 * i..][..3].copy_from_slice(&[1 + count, finished, 0]);
+        Ok((count, count * self.words[1]))
+    }
+
+    pub fn clear(&mut self, place: u32) -> Result<(), u32> {
+        let i = self.filled(place)?;
+        self.floats[1 + 7 * i..][..7].fill(0.0);
+        self.floats[225 + 48 * i..][..48].fill(0.0);
+        self.words[2 + 3 * i..][..3].fill(0);
+        Ok(())
+    }
+
+    pub fn reweigh(&mut self, place: u32, w: f64) -> Result<(), u32> {
+        let i = self.filled(place)?;
+        self.floats[1 + 7 * i + 4] = w;
+        Ok(())
+    }
+
+    pub fn advance(&mut self, n: u64) -> Result<(u64, u64), u32> {
+        self.sound()?;
+        let (all, done) = (self.face_count(), n.min(self.left()));
+        let mut rest = done;
+        for i in 0..32 {
+            let [status, mut finished, mut at] = self.state(i);
+            while rest > 0 && finished + 1 < status {
+                let by = rest.min((all - at) as u64);
+                self.bring_on(i, finished, at, by as usize);
+                rest -= by;
+                at += by as usize;
+                if at == all {
+                    (finished, at) = (finished + 1, 0);
+                }
+            }
+            self.words[2 + 3 * i + 1] = finished as u32;
+            self.words[2 + 3 * i + 2] = at as u32;
+        }
+        Ok((done, self.left()))
+    }
+
+    /// A piece's held volume, brought on by so many faces.
+    fn bring_on(&mut self, i: usize, piece: usize, from: usize, by: usize) {
+        let slot = 225 + 48 * i + 3 * piece;
+        let c = [0, 1, 2].map(|k| self.floats[1 + 7 * i + k]);
+        let (xyz, faces) = self.mesh();
+        self.floats[slot + 2] = volume_on(xyz, faces, c, self.floats[slot], from..from + by, self.floats[slot + 2]);
+    }
+
+    /// The filled places' pieces with their held volumes: "a piece's alpha is the kernel's if that kernel stays, else 1, and its weight is w
+    /// times the coefficient".
+    fn pieces(&self) -> (Vec<Kernel>, Vec<f64>) {
+        let (mut pieces, mut volumes) = (Vec::new(), Vec::new());
+        for i in 0..32 {
+            let k = &self.floats[1 + 7 * i..][..7];
+            let stays = (k[5] - 1.0).abs() <= 1e-9;
+            for j in 0..self.state(i)[0].saturating_sub(1) {
+                let p = &self.floats[225 + 48 * i + 3 * j..][..3];
+                pieces.push(Kernel { c: [k[0], k[1], k[2]], sigma: p[0], w: k[4] * p[1], alpha: if stays { k[5] } else { 1.0 } });
+                volumes.push(p[2]);
+            }
+        }
+        (pieces, volumes)
+    }
+
+    fn finished_for(&self, reading: Reading, by: Convention) -> Result<(), u32> {
+        self.sound()?;
+        if by.needs_work(reading) && self.left() > 0 { Err(8) } else { Ok(()) }
+    }
+
+    fn rescaled(&self, by: Convention) -> Vec<Kernel> {
+        let (pieces, volumes) = self.pieces();
+        by.rescaled::<ByArchive>(&pieces, || raw_mass(&pieces, &volumes))
+    }
+
+    pub fn density(&self, by: Convention, at: [f64; 3]) -> Result<f64, u32> {
+        self.finished_for(Reading::Density, by)?;
+        Ok(ByArchive::densitize(&self.rescaled(by), at))
+    }
+
+    /// The greatest error is the greatest of the held ones above +0.
+    pub fn report(&self, by: Convention) -> Result<Report, u32> {
+        self.finished_for(Reading::Report, by)?;
+        let (pieces, volumes) = self.pieces();
+        let (xyz, faces) = self.mesh();
+        let mass = by.mass::<ByArchive>(&pieces, raw_mass(&pieces, &volumes), ByArchive::body_volume(xyz, faces));
+        let filled: Vec<usize> = (0..32).filter(|i| self.state(*i)[0] > 0).collect();
+        let error = filled.iter().map(|i| self.floats[1 + 7 * i + 6]).fold(0.0, |most, e| if e > most { e } else { most });
+        Ok(Report { mass, kernels: filled.len() as u32, pieces: pieces.len() as u32, error })
+    }
+
+    pub fn list(&self, by: Convention, out: &mut [f64]) -> Result<u32, u32> {
+        self.finished_for(Reading::List, by)?;
+        write_list(&self.rescaled(by), out)
+    }
+
+    pub fn piece_count(&self) -> usize {
+        if self.sound().is_ok() { self.pieces().0.len() } else { 0 }
+    }
+}
+
+/// `kernel_field_mass`'s sum, over the held volumes.
+fn raw_mass(pieces: &[Kernel], volumes: &[f64]) -> f64 {
+    pieces.iter().zip(volumes).fold(0.0, |sum, (k, v)| sum + k.w * v)
+}

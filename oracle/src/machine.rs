@@ -1,0 +1,235 @@
+//! 01's machine ("The store"), written from its sentences. It is fed the calls' arguments alone, never a store's runs; what a kernel's
+//! pieces and volumes are the original's own text says. [`Machine::fields`] writes out the two runs that 01 then asks for.
+use crate::conventions::{Convention, Reading, Report, write_list};
+use crate::pieces::Kernel;
+use crate::text::Text;
+use std::cell::RefCell;
+use std::collections::HashMap;
+use std::marker::PhantomData;
+use std::rc::Rc;
+
+pub const PLACES: usize = 32;
+pub const VERTS: usize = 1_048_576;
+pub const FACES: usize = 2_097_152;
+
+/// The floats and words that a store of so many vertices and faces takes.
+pub fn room(verts: usize, faces: usize) -> (usize, usize) {
+    (1_761 + 3 * verts, 98 + 3 * faces)
+}
+
+/// Rows 1 to 4, of an opening into runs of so many floats and words; 0 where it is not refused.
+pub fn open_number(xyz: &[f64], faces: &[u32], floats: usize, words: usize) -> u32 {
+    let (v, f) = (xyz.len() / 3, faces.len() / 3);
+    let (need_floats, need_words) = room(v, f);
+    let rows = [
+        (1, !xyz.len().is_multiple_of(3) || !faces.len().is_multiple_of(3)),
+        (2, v > VERTS || f > FACES),
+        (3, faces.iter().any(|i| *i as usize >= v)),
+        (4, floats < need_floats || words < need_words),
+    ];
+    rows.into_iter().find(|row| row.1).map_or(0, |row| row.0)
+}
+
+/// A filled place: its kernel and the steps done on it.
+#[derive(Clone, Copy, Debug)]
+struct Filled {
+    kernel: Kernel,
+    p: u64,
+}
+
+/// What a kernel's decomposition is, whatever its w: the pieces with their coefficients as w, and the error. The volumes are those over
+/// a piece's first faces, where they have been asked for.
+struct Known {
+    pieces: Vec<Kernel>,
+    error: f64,
+    volumes: RefCell<HashMap<(usize, usize), f64>>,
+}
+
+pub struct Machine<T> {
+    xyz: Vec<f64>,
+    faces: Vec<u32>,
+    radius: f64,
+    places: [Option<Filled>; PLACES],
+    pub charged: u64,
+    pub dropped: u64,
+    /// Decompositions already worked: they depend on the kernel and the radius alone.
+    known: RefCell<HashMap<[u64; 5], Rc<Known>>>,
+    text: PhantomData<T>,
+}
+
+impl<T: Text> Machine<T> {
+    /// "Open copies a mesh and radius; all empty, charged = dropped = 0."
+    pub fn open(xyz: &[f64], faces: &[u32], radius: f64) -> Machine<T> {
+        Machine {
+            xyz: xyz.to_vec(),
+            faces: faces.to_vec(),
+            radius,
+            places: [None; PLACES],
+            charged: 0,
+            dropped: 0,
+            known: RefCell::default(),
+            text: PhantomData,
+        }
+    }
+
+    /// F.
+    pub fn face_count(&self) -> usize {
+        self.faces.len() / 3
+    }
+
+    fn known(&self, k: &Kernel) -> Rc<Known> {
+        let key = [k.c[0], k.c[1], k.c[2], k.sigma, k.alpha].map(f64::to_bits);
+        let work = || {
+            let (pieces, error) = T::decompose(&[Kernel { w: 1.0, ..*k }], self.radius);
+            Rc::new(Known { pieces, error, volumes: RefCell::default() })
+        };
+        self.known.borrow_mut().entry(key).or_insert_with(work).clone()
+    }
+
+    /// "pieces is how many its decomposition gives, need = pieces times F".
+    fn need(&self, k: &Kernel) -> u64 {
+        self.known(k).pieces.len() as u64 * self.face_count() as u64
+    }
+
+    /// The steps that a place has left.
+    fn owed(&self, place: usize) -> u64 {
+        self.places[place].map_or(0, |at| self.need(&at.kernel) - at.p)
+    }
+
+    /// "left, the sum of need - p".
+    pub fn left(&self) -> u64 {
+        (0..PLACES).map(|i| self.owed(i)).sum()
+    }
+
+    /// Row 6.
+    fn place(&self, place: u32) -> Result<usize, u32> {
+        if place >= 32 { Err(6) } else { Ok(place as usize) }
+    }
+
+    /// Rows 6 and 7.
+    fn filled(&mut self, place: u32) -> Result<(usize, &mut Filled), u32> {
+        let i = self.place(place)?;
+        self.places[i].as_mut().map(|at| (i, at)).ok_or(7)
+    }
+
+    /// "charged += need, dropped += the old need - p (0 for an empty place), p = 0. Answers pieces and need."
+    pub fn put(&mut self, place: u32, kernel: Kernel) -> Result<(u32, u32), u32> {
+        let i = self.place(place)?;
+        let need = self.need(&kernel);
+        self.charged += need;
+        self.dropped += self.owed(i);
+        self.places[i] = Some(Filled { kernel, p: 0 });
+        Ok((self.known(&kernel).pieces.len() as u32, need as u32))
+    }
+
+    /// "dropped += need - p; empty."
+    pub fn clear(&mut self, place: u32) -> Result<(), u32> {
+        let (i, _) = self.filled(place)?;
+        self.dropped += self.owed(i);
+        self.places[i] = None;
+        Ok(())
+    }
+
+    /// "new w, p kept."
+    pub fn reweigh(&mut self, place: u32, w: f64) -> Result<(), u32> {
+        self.filled(place)?.1.kernel.w = w;
+        Ok(())
+    }
+
+    /// "does min(n, left) steps, lowest unfinished place first, one face of one piece each": done and left.
+    pub fn advance(&mut self, n: u64) -> (u64, u64) {
+        let done = n.min(self.left());
+        let mut owed: Vec<u64> = (0..PLACES).map(|i| self.owed(i)).collect();
+        for _ in 0..done {
+            let lowest = (0..PLACES).find(|i| owed[*i] > 0).unwrap();
+            owed[lowest] -= 1;
+            self.places[lowest].as_mut().unwrap().p += 1;
+        }
+        (done, self.left())
+    }
+
+    /// The filled places' kernels, in order.
+    fn kernels(&self) -> Vec<Kernel> {
+        self.places.iter().flatten().map(|at| at.kernel).collect()
+    }
+
+    /// Row 8.
+    fn finished_for(&self, reading: Reading, by: Convention) -> Result<(), u32> {
+        if by.needs_work(reading) && self.left() > 0 { Err(8) } else { Ok(()) }
+    }
+
+    /// The rescaled pieces, afresh.
+    fn rescaled(&self, by: Convention) -> Vec<Kernel> {
+        let (pieces, _) = T::decompose(&self.kernels(), self.radius);
+        by.rescaled::<T>(&pieces, || T::kernel_field_mass(&self.xyz, &self.faces, &pieces))
+    }
+
+    pub fn density(&self, by: Convention, at: [f64; 3]) -> Result<f64, u32> {
+        self.finished_for(Reading::Density, by)?;
+        Ok(T::densitize(&self.rescaled(by), at))
+    }
+
+    pub fn report(&self, by: Convention) -> Result<Report, u32> {
+        self.finished_for(Reading::Report, by)?;
+        let kernels = self.kernels();
+        let (pieces, error) = T::decompose(&kernels, self.radius);
+        let raw_mass = T::kernel_field_mass(&self.xyz, &self.faces, &pieces);
+        let mass = by.mass::<T>(&pieces, raw_mass, T::body_volume(&self.xyz, &self.faces));
+        Ok(Report { mass, kernels: kernels.len() as u32, pieces: pieces.len() as u32, error })
+    }
+
+    /// Writes c, sigma, rescaled w, alpha per piece; answers the piece count.
+    pub fn list(&self, by: Convention, out: &mut [f64]) -> Result<u32, u32> {
+        self.finished_for(Reading::List, by)?;
+        write_list(&self.rescaled(by), out)
+    }
+
+    /// How many pieces the filled places have.
+    pub fn piece_count(&self) -> usize {
+        self.kernels().iter().map(|k| self.known(k).pieces.len()).sum()
+    }
+
+    /// The volume so far: `kernel_volume` over a piece's first faces.
+    fn volume(&self, known: &Known, piece: usize, faces: usize) -> f64 {
+        let k = known.pieces[piece];
+        let work = || T::kernel_volume(&self.xyz, &self.faces[..3 * faces], k.c, k.sigma);
+        *known.volumes.borrow_mut().entry((piece, faces)).or_insert_with(work)
+    }
+
+    /// 01's fields of both runs, without excess.
+    pub fn fields(&self) -> (Vec<f64>, Vec<u32>) {
+        let (mut floats, mut words) = (vec![0.0; 1_761], vec![0; 98]);
+        floats[0] = self.radius;
+        words[0] = (self.xyz.len() / 3) as u32;
+        words[1] = self.face_count() as u32;
+        for (i, at) in self.places.iter().enumerate() {
+            if let Some(at) = at {
+                self.place_fields(i, at, &mut floats, &mut words);
+            }
+        }
+        floats.extend_from_slice(&self.xyz);
+        words.extend_from_slice(&self.faces);
+        (floats, words)
+    }
+
+    fn place_fields(&self, i: usize, at: &Filled, floats: &mut [f64], words: &mut [u32]) {
+        let (k, known, all) = (at.kernel, self.known(&at.kernel), self.face_count());
+        let count = known.pieces.len();
+        // with no face every piece is finished
+        let (finished, done) = match all {
+            0 => (count, 0),
+            _ => (at.p as usize / all, at.p as usize % all),
+        };
+        floats[1 + 7 * i..][..7].copy_from_slice(&[k.c[0], k.c[1], k.c[2], k.sigma, k.w, k.alpha, known.error]);
+        for (j, piece) in known.pieces.iter().enumerate() {
+            let faces = match j {
+                j if j < finished => all,
+                j if j == finished => done,
+                _ => 0,
+            };
+            let so_far = self.volume(&known, j, faces);
+            floats[225 + 48 * i + 3 * j..][..3].copy_from_slice(&[piece.sigma, piece.w, so_far]);
+        }
+        words[2 + 3 * i..][..3].copy_from_slice(&[1 + count as u32, finished as u32, done as u32]);
+    }
+}

@@ -1,0 +1,140 @@
+//! The archive's calls on a store. A store is two lent runs, floats and words.
+use crate::pieces::Kernel;
+
+/// What an opening answers: 01's number of a refusal or 0, vertices, faces.
+#[repr(C)]
+#[derive(Clone, Copy, Debug, PartialEq, Eq)]
+pub struct Opened {
+    pub no: u32,
+    pub verts: u32,
+    pub faces: u32,
+}
+
+/// What a put answers: a number, pieces, the steps that they need.
+#[repr(C)]
+#[derive(Clone, Copy, Debug, PartialEq, Eq)]
+pub struct Placed {
+    pub no: u32,
+    pub pieces: u32,
+    pub need: u32,
+}
+
+/// What an advance answers: a number, steps done, steps left.
+#[repr(C)]
+#[derive(Clone, Copy, Debug, PartialEq, Eq)]
+pub struct Steps {
+    pub no: u32,
+    pub done: u64,
+    pub left: u64,
+}
+
+unsafe extern "C" {
+    fn cauchy_store_open(
+        floats: *mut f64,
+        floats_len: usize,
+        words: *mut u32,
+        words_len: usize,
+        radius: f64,
+        xyz: *const f64,
+        xyz_len: usize,
+        faces: *const u32,
+        faces_len: usize,
+    ) -> Opened;
+    fn cauchy_store_put(floats: *mut f64, floats_len: usize, words: *mut u32, words_len: usize, place: u32, k: Kernel) -> Placed;
+    fn cauchy_store_clear(floats: *mut f64, floats_len: usize, words: *mut u32, words_len: usize, place: u32) -> u32;
+    fn cauchy_store_reweigh(floats: *mut f64, floats_len: usize, words: *mut u32, words_len: usize, place: u32, w: f64) -> u32;
+    fn cauchy_store_advance(floats: *mut f64, floats_len: usize, words: *mut u32, words_len: usize, budget: u64) -> Steps;
+}
+
+// SAFETY, of every call below: runs of these lengths, and no other holds one that is written.
+
+pub fn open(floats: &mut [f64], words: &mut [u32], radius: f64, xyz: &[f64], faces: &[u32]) -> Opened {
+    let (f, w) = (floats.as_mut_ptr(), words.as_mut_ptr());
+    unsafe { cauchy_store_open(f, floats.len(), w, words.len(), radius, xyz.as_ptr(), xyz.len(), faces.as_ptr(), faces.len()) }
+}
+
+pub fn put(floats: &mut [f64], words: &mut [u32], place: u32, k: Kernel) -> Placed {
+    unsafe { cauchy_store_put(floats.as_mut_ptr(), floats.len(), words.as_mut_ptr(), words.len(), place, k) }
+}
+
+pub fn clear(floats: &mut [f64], words: &mut [u32], place: u32) -> u32 {
+    unsafe { cauchy_store_clear(floats.as_mut_ptr(), floats.len(), words.as_mut_ptr(), words.len(), place) }
+}
+
+pub fn reweigh(floats: &mut [f64], words: &mut [u32], place: u32, w: f64) -> u32 {
+    unsafe { cauchy_store_reweigh(floats.as_mut_ptr(), floats.len(), words.as_mut_ptr(), words.len(), place, w) }
+}
+
+pub fn advance(floats: &mut [f64], words: &mut [u32], budget: u64) -> Steps {
+    unsafe { cauchy_store_advance(floats.as_mut_ptr(), floats.len(), words.as_mut_ptr(), words.len(), budget) }
+}
+
+#[cfg(feature = "readings")]
+pub use reading::{density, list, report};
+
+/// The three readings; an archive that does not have them yet links without the feature `readings`.
+#[cfg(feature = "readings")]
+mod reading {
+    use crate::conventions::{Convention, Report};
+
+    #[repr(C)]
+    #[derive(Clone, Copy)]
+    struct Point {
+        x: f64,
+        y: f64,
+        z: f64,
+    }
+
+    #[repr(C)]
+    struct Value {
+        no: u32,
+        value: f64,
+    }
+
+    #[repr(C)]
+    struct StoreReport {
+        no: u32,
+        report: [f64; 7],
+        kernels: u32,
+        pieces: u32,
+        error: f64,
+    }
+
+    #[repr(C)]
+    struct Listed {
+        no: u32,
+        pieces: u32,
+    }
+
+    unsafe extern "C" {
+        fn cauchy_store_density(f: *const f64, f_len: usize, w: *const u32, w_len: usize, by: Convention, at: Point) -> Value;
+        fn cauchy_store_report(f: *const f64, f_len: usize, w: *const u32, w_len: usize, by: Convention) -> StoreReport;
+        fn cauchy_store_list(
+            f: *const f64,
+            f_len: usize,
+            w: *const u32,
+            w_len: usize,
+            by: Convention,
+            out: *mut f64,
+            out_len: usize,
+        ) -> Listed;
+    }
+
+    /// A number, and the density where it is 0.
+    pub fn density(floats: &[f64], words: &[u32], by: Convention, [x, y, z]: [f64; 3]) -> (u32, f64) {
+        let told = unsafe { cauchy_store_density(floats.as_ptr(), floats.len(), words.as_ptr(), words.len(), by, Point { x, y, z }) };
+        (told.no, told.value)
+    }
+
+    pub fn report(floats: &[f64], words: &[u32], by: Convention) -> (u32, Report) {
+        let told = unsafe { cauchy_store_report(floats.as_ptr(), floats.len(), words.as_ptr(), words.len(), by) };
+        (told.no, Report { mass: told.report, kernels: told.kernels, pieces: told.pieces, error: told.error })
+    }
+
+    /// A number, and the count of pieces.
+    pub fn list(floats: &[f64], words: &[u32], by: Convention, out: &mut [f64]) -> (u32, u32) {
+        let (f, w) = (floats.as_ptr(), words.as_ptr());
+        let told = unsafe { cauchy_store_list(f, floats.len(), w, words.len(), by, out.as_mut_ptr(), out.len()) };
+        (told.no, told.pieces)
+    }
+}
