@@ -3,4 +3,5 @@ pub mod Density
 pub mod Volumes
 pub mod Weights
 pub mod Calibration
+pub mod Laws
 pub mod Rows
