@@ -11,12 +11,13 @@ use lib.Ieee.{Float}
 use lib.ListN.{length, getD, set, take, drop, length-set}
 use lib.Seq.{getD-set-other, drop-set-lt, getD-drop}
 use borrow.Author.Tests.{ltb-true}
+use Rattle.base.specs.Loops.{iterate}
 use Rattle.mesh.specs.declared.vectors.V3.{V3}
 use Rattle.mesh.specs.declared.triangles.Triangle.{Triangle}
 use Rattle.mesh.specs.Checks.{faceLimit}
 use Rattle.layout.specs.Layout.{width, coordsFrom, cornersFrom, statusOf, finishedOf, doneOf}
 use Rattle.layout.specs.SoundLaws.{Meshed, Ready, Worded}
-use Rattle.advance.specs.Steps.{iterate, held, Work, work, oneFace, Whole, whole, slotWork, stored, slotsRun}
+use Rattle.advance.specs.Steps.{held, Work, work, oneFace, Whole, whole, slotWork, stored, slotsRun}
 
 -- ---- the work left at a place, by values that equal its words
 work-bound : (q m : ℕ) → q ≤ 16 → m ≤ faceLimit → q * m ≤ 33554432

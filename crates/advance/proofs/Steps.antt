@@ -10,20 +10,16 @@ use lib.Ieee.{Float, nan}
 use lib.ListN.{length, getD, set, take, drop, length-set, length-take, length-drop}
 use lib.Seq.{getD-set-same, getD-set-other, set-set, set-getD, getD-take, getD-drop, drop-set-lt}
 use borrow.Author.Tests.{lt-ltb, eq-eqb, ne-eqb}
-use Rattle.base.specs.Loops.{times}
-use Rattle.base.specs.LoopLaws.{times-suc}
+use Rattle.base.specs.Loops.{times, iterate}
+use Rattle.base.specs.LoopLaws.{times-suc, iterate-add}
 use Rattle.runs.specs.RunLaws.{length-part}
 use Rattle.mesh.specs.declared.vectors.V3.{V3}
 use Rattle.mesh.specs.declared.triangles.Triangle.{Triangle}
 use Rattle.mesh.specs.Triangles.{Sound}
 use Rattle.mass.specs.Volume.{faceStep, volumeFrom}
-use Rattle.layout.specs.Layout.{width, coordsFrom, cornersFrom}
+use Rattle.layout.specs.Layout.{centreAt, width, coordsFrom, cornersFrom}
 use Rattle.layout.specs.SoundLaws.{Meshed, Ready}
-use Rattle.advance.specs.Steps.{iterate, held, centreAt, Work, work, oneFace}
-
-pub iterate-add : {A : Type 0} (f : A → A) (m n : ℕ) (a : A) → iterate f (m + n) a ≡ iterate f n (iterate f m a)
-iterate-add f m zero a = rw add-zero refl
-iterate-add f m (suc n) a = rw add-suc (ap f (iterate-add f m n a))
+use Rattle.advance.specs.Steps.{held, Work, work, oneFace}
 
 module _ (t : ℕ → Triangle) (c : V3) (m base p : ℕ) where
   -- what k faces of one piece, from d on, leave in the floats

@@ -5,26 +5,19 @@ use Prim.Native.Nat.{ℕ, zero, suc, _+_, _*_, _-_}
 use lib.Dec.{ltb, eqb}
 use lib.ListN.{getD, set, take, drop}
 use lib.Ieee.{Float, nan}
+use Rattle.base.specs.Answers.{counted}
+use Rattle.base.specs.Loops.{iterate}
 use Rattle.mesh.specs.declared.vectors.V3.{V3}
 use Rattle.mesh.specs.declared.triangles.Triangle.{Triangle}
 use Rattle.mesh.specs.Triangles.{triangleAt}
 use Rattle.mass.specs.Volume.{faceSum}
-use Rattle.layout.specs.Layout.{slotLimit, piecesFrom, coordsFrom, cornersFrom, vertsOf, facesOf, statusOf, finishedOf, doneOf}
+use Rattle.layout.specs.Layout.{slotLimit, centreAt, piecesFrom, coordsFrom, cornersFrom, vertsOf, facesOf, statusOf, finishedAt, finishedOf, doneAt, doneOf}
 use Rattle.layout.specs.Soundness.{storeCheck}
-use Rattle.store.specs.Calls.{After, after, guarded, counted}
-
--- f, n times over
-abbrev pub iterate : {A : Type 0} → (A → A) → ℕ → A → A
-iterate f zero a = a
-iterate f (suc n) a = f (iterate f n a)
+use Rattle.store.specs.Calls.{After, after, guarded}
 
 -- the triangles of the mesh that the runs hold
 abbrev pub held : ℕ → List Float → List ℕ → ℕ → ℕ → ℕ → Triangle
 held q fs ws verts faces = triangleAt (take (3 * verts) (drop coordsFrom fs)) (take (3 * faces) (drop (cornersFrom q) ws))
-
--- the centre that place i holds
-abbrev pub centreAt : List Float → ℕ → V3
-centreAt fs i = record { x = getD fs (1 + 7 * i) nan; y = getD fs (2 + 7 * i) nan; z = getD fs (3 + 7 * i) nan }
 
 -- ---- "one face of one piece each"
 
@@ -70,7 +63,7 @@ slotWork q t m i s =
 
 -- with its words written back
 abbrev pub stored : ℕ → List ℕ → ℕ → Work → Whole
-stored q ws i r = whole (r .floats) (set (set ws (3 + q * i) (r .finished)) (4 + q * i) (r .done)) (r .budget)
+stored q ws i r = whole (r .floats) (set (set ws (finishedAt q i) (r .finished)) (doneAt q i) (r .done)) (r .budget)
 
 -- the places below k, one after the other
 unfoldable pub slotsRun : ℕ → (ℕ → Triangle) → ℕ → ℕ → Whole → Whole

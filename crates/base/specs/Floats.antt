@@ -3,7 +3,7 @@
 use Prim.Native.Nat.{ℕ, _*_, _/_, _^_}
 use lib.IntN.{pos}
 use mathlib.Core.Bool.{Bool, false, cond}
-use lib.Ieee.{Float, nan, inf, fin, Format, low, up, down, binary64, add, sub, mul, div, neg, ofBits, ofInt, round}
+use lib.Ieee.{Float, nan, inf, fin, Format, low, up, down, binary64, add, sub, mul, div, neg, lt, ofBits, ofInt, round}
 
 infixl 65 _⊕_ _⊖_
 infixl 70 _⊗_ _⊘_
@@ -41,7 +41,7 @@ sign nan = false
 sign (inf s) = s
 sign (fin s m e) = s
 
--- r with the sign of x put upon it
+-- r, its sign turned where that of x is minus: x's sign put upon an r that has none of its own
 unfoldable pub signed : Float → Float → Float
 signed x r = cond (sign x) (neg r) r
 
@@ -50,6 +50,10 @@ unfoldable pub abs : Float → Float
 abs nan = nan
 abs (inf s) = inf false
 abs (fin s m e) = fin false m e
+
+-- Rust's `max` of an a that is no NaN and any b: a NaN is passed over. Of equal zeros it is a, which is never at stake here
+unfoldable pub greater : Float → Float → Float
+greater a b = cond (lt a b) b a
 
 -- the size of a finite value that the format holds, in units of its smallest value, 2 ^ -low: a whole number
 unfoldable pub unitsIn : Format → Float → ℕ

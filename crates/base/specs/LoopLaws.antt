@@ -6,7 +6,7 @@ use mathlib.Core.List.{List}
 use lib.ListN.{set}
 use native.Mathlib.Omega.{arith}
 use native.Mathlib.Nat.{sub-zero, zero-add, add-zero, suc-add, add-suc}
-use Rattle.base.specs.Loops.{times, down}
+use Rattle.base.specs.Loops.{times, iterate, down}
 
 -- ---- counting up: at i, of n, with the state s
 pub record Left {S : Type 0} (f : ℕ → S → S) (n i : ℕ) (s w : S) : Type 0 where
@@ -63,6 +63,15 @@ module _ {S : Type 0} (f : ℕ → S → S) where
   pub times-suc : (k i : ℕ) (s : S) → times f (suc k) i s ≡ f (i + k) (times f k i s)
   unfolding times
   times-suc k i s = rw add-one at (times-more k 1 i s)
+
+-- ---- n turns more, and one turn first
+pub iterate-add : {S : Type 0} (f : S → S) (m n : ℕ) (s : S) → iterate f (m + n) s ≡ iterate f n (iterate f m s)
+iterate-add f m zero s = rw add-zero refl
+iterate-add f m (suc n) s = rw add-suc (ap f (iterate-add f m n s))
+
+pub iterate-inner : {S : Type 0} (f : S → S) (n : ℕ) (s : S) → iterate f (suc n) s ≡ iterate f n (f s)
+iterate-inner f zero s = refl
+iterate-inner f (suc n) s = ap f (iterate-inner f n s)
 
 -- ---- counting down: k turns are left
 pub record Lower {S : Type 0} (f : ℕ → S → S) (k : ℕ) (s w : S) : Type 0 where

@@ -6,6 +6,11 @@ unfoldable pub times : {S : Type 0} → (ℕ → S → S) → ℕ → ℕ → S 
 times f zero i s = s
 times f (suc k) i s = times f k (suc i) (f i s)
 
+-- f, n times over
+abbrev pub iterate : {S : Type 0} → (S → S) → ℕ → S → S
+iterate f zero s = s
+iterate f (suc n) s = f (iterate f n s)
+
 -- `f` at k - 1, then at k - 2, and so on down to 0
 unfoldable pub down : {S : Type 0} → (ℕ → S → S) → ℕ → S → S
 down f zero s = s

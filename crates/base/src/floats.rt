@@ -1,7 +1,7 @@
 // A float's sign, absolute value and bits. No function here has a `requires`.
 ghost use mathlib.Core.Path.{_≡_};
 ghost use lib.Ieee.{binary64, ofBits, toBits};
-ghost use Rattle.base.specs.Floats.{sign, signed, abs};
+ghost use Rattle.base.specs.Floats.{sign, signed, abs, greater};
 
 // Whether the sign is minus; a NaN has none.
 pub fn is_negative(x: f64) -> bool
@@ -13,7 +13,7 @@ pub fn is_negative(x: f64) -> bool
     f64::to_bits(x) >= 0x8000_0000_0000_0000
 }
 
-// r with the sign of x put upon it.
+// r, its sign turned where that of x is minus.
 pub fn signed(x: f64, r: f64) -> f64
     ensures { λ q. ⌜ q ≡ signed x r ⌝ }
 {
@@ -25,6 +25,16 @@ pub fn abs(x: f64) -> f64
     ensures { λ r. ⌜ r ≡ abs x ⌝ }
 {
     signed(x, x)
+}
+
+// The greater of a, which is no NaN, and b, which is passed over if it is one.
+pub fn greater_of(a: f64, b: f64) -> f64
+    ensures { λ r. ⌜ r ≡ greater a b ⌝ }
+{
+    if a < b {
+        return b;
+    }
+    a
 }
 
 // The bits of a float, 7FF8000000000000 for a NaN.

@@ -38,6 +38,12 @@ pub enum Checked {
     Failed(Refusal),
 }
 
+// What a call answers whose value is a float.
+pub enum Measured {
+    Value(f64),
+    Refused(Refusal),
+}
+
 // 01's number of a refusal.
 pub fn refusal_number(refusal: Refusal) -> u32
     ensures { λ r. ⌜ r ≡ number refusal ⌝ }

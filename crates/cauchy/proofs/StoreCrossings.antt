@@ -5,10 +5,12 @@ use mathlib.Core.Bool.{false, cond}
 use mathlib.Core.List.{List, [], _∷_}
 use lib.Dec.{eqb}
 use lib.Ieee.{Float}
+use Rattle.base.specs.Answers.{Answer, measuredAs}
+use Rattle.base.specs.declared.refusal.Measured.{Measured}
+use Rattle.base.specs.declared.refusal.Measured.the-variants as measured
 use Rattle.base.specs.Refusals.{number}
 use Rattle.base.specs.declared.refusal.Refusal.{Refusal}
 use Rattle.base.specs.declared.refusal.Refusal.the-variants.{Ragged, Oversize, LooseCorner, ShortStore, Unsound, NoPlace, Vacant, Unfinished, ShortList, BadMatrix, FlatPivot, Exponent, BadLine}
-use Rattle.store.specs.Calls.{Reply}
 use Rattle.store.specs.declared.open.Opened.{Opened}
 use Rattle.store.specs.declared.open.Opened.the-variants as opening
 use Rattle.store.specs.OpenAnswer.{opened}
@@ -19,16 +21,14 @@ use Rattle.advance.specs.declared.advance.Advanced.{Advanced}
 use Rattle.advance.specs.declared.advance.Advanced.the-variants as advancing
 use Rattle.advance.specs.AdvanceAnswer.{advanced}
 use Rattle.readings.specs.Readings.{reported}
-use Rattle.reads.specs.declared.at_point.DensityRead.{DensityRead}
-use Rattle.reads.specs.declared.at_point.DensityRead.the-variants as density
-use Rattle.reads.specs.Checks.{densityRead}
-use Rattle.reads.specs.declared.reports.Reported.{Reported}
-use Rattle.reads.specs.declared.reports.Reported.the-variants as reporting
-use Rattle.reads.specs.ReportAnswer.{reportRead}
-use Rattle.reads.specs.declared.listing.ListRead.{ListRead}
-use Rattle.reads.specs.declared.listing.ListRead.the-variants as listing
-use Rattle.reads.specs.ListAnswer.{listRead}
-use Rattle.cauchy.specs.StoreCrossing.{openedFrom, placedFrom, stepsFrom, valueFrom, reportFrom, listedFrom}
+use Rattle.readings.specs.declared.reports.Reported.{Reported}
+use Rattle.readings.specs.declared.reports.Reported.the-variants as reporting
+use Rattle.readings.specs.ReportAnswer.{reportRead}
+use Rattle.readings.specs.declared.listing.ListRead.{ListRead}
+use Rattle.readings.specs.declared.listing.ListRead.the-variants as listing
+use Rattle.readings.specs.ListAnswer.{listRead}
+use Rattle.cauchy.specs.Volumes.{valueFrom}
+use Rattle.cauchy.specs.StoreCrossing.{openedFrom, placedFrom, stepsFrom, reportFrom, listedFrom}
 
 pub never-zero : (r : Refusal) → eqb (number r) 0 ≡ false
 never-zero Ragged = refl
@@ -46,7 +46,7 @@ never-zero Exponent = refl
 never-zero BadLine = refl
 
 -- the reply of a number and values, which count where the number is 0
-abbrev pub told : ℕ → List ℕ → List Float → Reply
+abbrev pub told : ℕ → List ℕ → List Float → Answer
 told n ns xs = cond (eqb n 0) (record { refusal = 0; counts = ns; floats = xs }) (record { refusal = n; counts = []; floats = [] })
 
 pub opens : (o : Opened) → let c = openedFrom (opened o) in told (c .no) (c .verts ∷ c .faces ∷ []) [] ≡ opened o
@@ -61,9 +61,9 @@ pub advances : (a : Advanced) → let c = stepsFrom (advanced a) in told (c .no)
 advances (advancing.Steps done left) = refl
 advances (advancing.Refused r) = rw (never-zero r) refl
 
-pub values : (d : DensityRead) → let c = valueFrom (densityRead d) in told (c .no) [] (c .value ∷ []) ≡ densityRead d
-values (density.Value x) = refl
-values (density.Refused r) = rw (never-zero r) refl
+pub values : (d : Measured) → let c = valueFrom (measuredAs d) in told (c .no) [] (c .value ∷ []) ≡ measuredAs d
+values (measured.Value x) = refl
+values (measured.Refused r) = rw (never-zero r) refl
 
 pub reports : (d : Reported) → let c = reportFrom (reportRead d) in let s = reported (c .report) (c .kernels) (c .pieces) (c .error) in told (c .no) (s .counts) (s .floats) ≡ reportRead d
 reports (reporting.Report mass filled pieces error) = refl

@@ -5,16 +5,16 @@ use mathlib.Core.List.{List}
 use lib.Dec.{eqb}
 use lib.ListN.{getD}
 use lib.Ieee.{Float}
+use Rattle.base.specs.Answers.{Answer}
 use Rattle.base.specs.Floats.{+0}
 use Rattle.density.specs.declared.convention.Convention.{Convention}
 use Rattle.density.specs.declared.convention.Convention.the-variants.{Raw, Rho0, Mass}
-use Rattle.store.specs.Calls.{Reply, After}
+use Rattle.store.specs.Calls.{After}
 use Rattle.readings.specs.Readings.{Outcome}
 use Rattle.cauchy.specs.declared.stores.CauchyOpened.{CauchyOpened}
 use Rattle.cauchy.specs.declared.stores.CauchyPlaced.{CauchyPlaced}
 use Rattle.cauchy.specs.declared.stores.CauchySteps.{CauchySteps}
 use Rattle.cauchy.specs.declared.stores.CauchyConvention.{CauchyConvention}
-use Rattle.cauchy.specs.declared.volumes.CauchyValue.{CauchyValue}
 use Rattle.cauchy.specs.declared.stores.CauchyStoreReport.{CauchyStoreReport}
 use Rattle.cauchy.specs.declared.stores.CauchyListed.{CauchyListed}
 
@@ -28,33 +28,29 @@ abbrev pub crossed : {A : Type 0} → A → List Float → List ℕ → Crossed 
 crossed r fs ws = record { answer = r; floats = fs; words = ws }
 
 -- what a call leaves, its reply as C gets it
-abbrev pub across : {A : Type 0} → (Reply → A) → After → Crossed A
+abbrev pub across : {A : Type 0} → (Answer → A) → After → Crossed A
 across answer a = crossed (answer (a .reply)) (a .floats) (a .words)
 
 -- ---- each reply as C gets it
 
 -- open: "vertices and faces"
-abbrev pub openedFrom : Reply → CauchyOpened
+abbrev pub openedFrom : Answer → CauchyOpened
 openedFrom a = record { no = a .refusal; verts = getD (a .counts) 0 0; faces = getD (a .counts) 1 0 }
 
 -- put: "pieces and need"
-abbrev pub placedFrom : Reply → CauchyPlaced
+abbrev pub placedFrom : Answer → CauchyPlaced
 placedFrom a = record { no = a .refusal; pieces = getD (a .counts) 0 0; need = getD (a .counts) 1 0 }
 
 -- advance: "done, beside left"
-abbrev pub stepsFrom : Reply → CauchySteps
+abbrev pub stepsFrom : Answer → CauchySteps
 stepsFrom a = record { no = a .refusal; done = getD (a .counts) 0 0; left = getD (a .counts) 1 0 }
 
 -- clear and reweigh, which answer no value
-abbrev pub numberFrom : Reply → ℕ
+abbrev pub numberFrom : Answer → ℕ
 numberFrom a = a .refusal
 
--- density
-abbrev pub valueFrom : Reply → CauchyValue
-valueFrom a = record { no = a .refusal; value = getD (a .floats) 0 +0 }
-
 -- report: "the first seven in `MassReport` order", then "filled count, pieces, greatest error"
-abbrev pub reportFrom : Reply → CauchyStoreReport
+abbrev pub reportFrom : Answer → CauchyStoreReport
 reportFrom a =
     record {
       no = a .refusal;
@@ -73,7 +69,7 @@ reportFrom a =
     }
 
 -- list: "the piece count"
-abbrev pub listedFrom : Reply → CauchyListed
+abbrev pub listedFrom : Answer → CauchyListed
 listedFrom a = record { no = a .refusal; pieces = getD (a .counts) 0 0 }
 
 -- and the run that it writes, as it is then

@@ -8,14 +8,14 @@ use Rattle.cauchy.specs.declared.volumes.CauchyReport.{CauchyReport}
 
 -- an answer of one float
 abbrev pub valueFrom : Answer → CauchyValue
-valueFrom a = record { no = a .refusal; value = getD (a .values) 0 +0 }
+valueFrom a = record { no = a .refusal; value = getD (a .floats) 0 +0 }
 
 -- an answer of a point's three
 abbrev pub pointFrom : Answer → CauchyPoint
 pointFrom a =
     record {
       no = a .refusal;
-      at = record { x = getD (a .values) 0 +0; y = getD (a .values) 1 +0; z = getD (a .values) 2 +0 };
+      at = record { x = getD (a .floats) 0 +0; y = getD (a .floats) 1 +0; z = getD (a .floats) 2 +0 };
     }
 
 -- an answer of a report's seven
@@ -24,12 +24,12 @@ reportFrom a =
     record {
       no = a .refusal;
       report = record {
-        «raw_mass» = getD (a .values) 0 +0;
-        «rho0_scale» = getD (a .values) 1 +0;
-        «rho0_mass» = getD (a .values) 2 +0;
-        «applied_scale» = getD (a .values) 3 +0;
-        «applied_mass» = getD (a .values) 4 +0;
-        «target_mass» = getD (a .values) 5 +0;
-        volume = getD (a .values) 6 +0;
+        «raw_mass» = getD (a .floats) 0 +0;
+        «rho0_scale» = getD (a .floats) 1 +0;
+        «rho0_mass» = getD (a .floats) 2 +0;
+        «applied_scale» = getD (a .floats) 3 +0;
+        «applied_mass» = getD (a .floats) 4 +0;
+        «target_mass» = getD (a .floats) 5 +0;
+        volume = getD (a .floats) 6 +0;
       };
     }

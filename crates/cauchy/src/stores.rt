@@ -17,11 +17,12 @@ ghost use Rattle.advance.specs.AdvanceAnswer.{advanced};
 ghost use Rattle.mass.specs.Calls.{pointValues};
 ghost use Rattle.readings.specs.Readings.{readStep};
 ghost use Rattle.readings.specs.Readings;
-ghost use Rattle.reads.specs.Checks.{densityRead};
-ghost use Rattle.reads.specs.ListAnswer.{listRead};
-ghost use Rattle.reads.specs.ReportAnswer.{reportRead};
-ghost use Rattle.cauchy.specs.StoreCrossing.{crossed, across, openedFrom, placedFrom, stepsFrom, numberFrom, conventionOf, valueFrom, reportFrom, wrote, wroteFrom, listedFrom};
+ghost use Rattle.readings.specs.ListAnswer.{listRead};
+ghost use Rattle.readings.specs.ReportAnswer.{reportRead};
+ghost use Rattle.cauchy.specs.Volumes.{valueFrom};
+ghost use Rattle.cauchy.specs.StoreCrossing.{crossed, across, openedFrom, placedFrom, stepsFrom, numberFrom, conventionOf, reportFrom, wrote, wroteFrom, listedFrom};
 use crate::volumes::CauchyValue;
+use crate::volumes::value_of;
 use advance::advance::Advanced;
 use advance::advance::advance;
 use base::refusal::refusal_number;
@@ -31,12 +32,11 @@ use kernel::kernel::Kernel;
 use mesh::vectors::V3;
 use put::Placed;
 use put::put;
-use reads::at_point::DensityRead;
-use reads::at_point::density;
-use reads::listing::ListRead;
-use reads::listing::list;
-use reads::reports::Reported;
-use reads::reports::report;
+use readings::at_point::density;
+use readings::listing::ListRead;
+use readings::listing::list;
+use readings::reports::Reported;
+use readings::reports::report;
 use store::edit::Edited;
 use store::edit::clear;
 use store::edit::reweigh;
@@ -223,18 +223,6 @@ fn convention_of(v: CauchyConvention) -> Convention
     Convention::Mass(v.target, v.bulk)
 }
 
-fn density_value(d: DensityRead) -> CauchyValue
-    ensures { λ r. ⌜ r ≡ valueFrom (densityRead d) ⌝ }
-{
-    match d {
-        DensityRead::Value(value) => CauchyValue { no: 0, value },
-        DensityRead::Refused(r) => CauchyValue {
-            no: refusal_number(r),
-            value: 0.0,
-        },
-    }
-}
-
 // The density at a point, in metres: 4, 5, or 8 where the kind is mass and the target above 0.
 #[no_mangle]
 pub extern "C" fn cauchy_store_density(
@@ -245,7 +233,7 @@ pub extern "C" fn cauchy_store_density(
 ) -> CauchyValue
     ensures { λ r. ⌜ r ≡ valueFrom (readStep width (now (floats .entry)) (now (words .entry)) (Readings.density (conventionOf convention) (pointValues point)) .reply) ⌝ }
 {
-    density_value(density(
+    value_of(density(
         floats,
         words,
         convention_of(convention),

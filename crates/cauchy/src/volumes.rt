@@ -2,16 +2,16 @@
 // coordinates and a run of corners, a list of kernels as a run of six floats each. Each function states
 // its answer whole: 01's number, 0 where it is not refused, and values that are 0 where it is.
 ghost use mathlib.Core.Path.{_≡_};
-ghost use Rattle.mass.specs.Calls.{measuredAs, locatedAs, pointValues, kernelVolumeCall, bodyVolumeCall, volumeCentroidCall, fieldMassCall};
-ghost use Rattle.density.specs.Densitize.{densityAs, densitized};
+ghost use Rattle.base.specs.Answers.{measuredAs};
+ghost use Rattle.mass.specs.Calls.{locatedAs, pointValues, kernelVolumeCall, bodyVolumeCall, volumeCentroidCall, fieldMassCall};
+ghost use Rattle.density.specs.Densitize.{densitized};
 ghost use Rattle.reports.specs.Homogeneous.{reportedAs, homogeneousCall};
 ghost use Rattle.cauchy.specs.Volumes.{valueFrom, pointFrom, reportFrom};
+use base::refusal::Measured;
 use base::refusal::refusal_number;
-use density::densitize::Density;
 use density::densitize::densitize;
 use density::report::MassReport;
 use mass::calls::Located;
-use mass::calls::Measured;
 use mass::calls::body_volume;
 use mass::calls::kernel_field_mass;
 use mass::calls::kernel_volume;
@@ -101,24 +101,12 @@ pub extern "C" fn cauchy_field_mass(xyz: &[f64], faces: &[u32], kernels: &[f64])
     value_of(kernel_field_mass(xyz, faces, kernels))
 }
 
-fn density_value(d: Density) -> CauchyValue
-    ensures { λ r. ⌜ r ≡ valueFrom (densityAs d) ⌝ }
-{
-    match d {
-        Density::Value(value) => CauchyValue { no: 0, value },
-        Density::Refused(r) => CauchyValue {
-            no: refusal_number(r),
-            value: 0.0,
-        },
-    }
-}
-
 // The density of a list of kernels at a point.
 #[no_mangle]
 pub extern "C" fn cauchy_densitize(kernels: &[f64], point: V3) -> CauchyValue
     ensures { λ r. ⌜ r ≡ valueFrom (densitized (now (kernels .entry)) (pointValues point)) ⌝ }
 {
-    density_value(densitize(kernels, [point.x, point.y, point.z]))
+    value_of(densitize(kernels, [point.x, point.y, point.z]))
 }
 
 fn report_from(d: Reported) -> CauchyReport

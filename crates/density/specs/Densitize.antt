@@ -7,12 +7,10 @@ use lib.Ieee.{Float, nan, neg, lt}
 use Rattle.base.specs.Floats.{_⊕_, _⊖_, _⊗_, _⊘_, +0, abs}
 use Rattle.base.specs.Constants.{one, stayLimit}
 use Rattle.base.specs.Loops.{times}
-use Rattle.base.specs.Answers.{Answer, accepted, refused, answered}
+use Rattle.base.specs.Answers.{Answer, answered}
 use Rattle.powers.specs.Power.{power}
 use Rattle.kernel.specs.declared.kernel.Kernel.{Kernel}
 use Rattle.kernel.specs.Kernels.{kernelAt, listCheck}
-use Rattle.density.specs.declared.densitize.Density.{Density}
-use Rattle.density.specs.declared.densitize.Density.the-variants.{Value, Refused}
 
 -- ---- the density of kernels at a point x
 
@@ -40,8 +38,3 @@ densitizeOf k n x = times (densityTo k x) n 0 +0
 -- the density of a list of six floats each
 unfoldable pub densitized : List Float → List Float → Answer
 densitized ks x = answered (listCheck ks) (densitizeOf (kernelAt ks) (length ks / 6) x ∷ [])
-
--- 01's number and value for each case of the code's answer
-abbrev pub densityAs : Density → Answer
-densityAs (Value x) = accepted (x ∷ [])
-densityAs (Refused r) = refused r

@@ -2,21 +2,16 @@
 ghost use mathlib.Core.Path.{_≡_};
 ghost use Prim.Native.Nat.{_*_, _≤_};
 ghost use lib.ListN.{length};
+ghost use Rattle.base.specs.Answers.{measuredAs};
 ghost use Rattle.kernel.specs.Kernels.{kernelAt};
-ghost use Rattle.density.specs.Densitize.{baseAt, densityOf, densitizeOf, densitized, densityAs};
+ghost use Rattle.density.specs.Densitize.{baseAt, densityOf, densitizeOf, densitized};
 use base::floats::abs;
 use base::refusal::Checked;
-use base::refusal::Refusal;
+use base::refusal::Measured;
 use kernel::kernel::Kernel;
 use kernel::kernel::check_list;
 use kernel::kernel::kernel_at;
 use powers::power::power;
-
-// The density of a list of kernels, or a refusal.
-pub enum Density {
-    Value(f64),
-    Refused(Refusal),
-}
 
 // What a kernel's exponent is put on: 1 + sigma² * |x - c|².
 fn base_at(k: Kernel, x: [f64; 3]) -> f64
@@ -55,12 +50,12 @@ fn density_sum(kernels: &[f64], n: usize, x: [f64; 3]) -> f64
 }
 
 // The density of a list of kernels at a point.
-pub fn densitize(kernels: &[f64], point: [f64; 3]) -> Density
-    ensures { λ r. ⌜ densityAs r ≡ densitized (now (kernels .entry)) point ⌝ }
+pub fn densitize(kernels: &[f64], point: [f64; 3]) -> Measured
+    ensures { λ r. ⌜ measuredAs r ≡ densitized (now (kernels .entry)) point ⌝ }
 {
     let checked = check_list(kernels);
     match checked {
-        Checked::Passed => Density::Value(density_sum(kernels, kernels.len() / 6, point)),
-        Checked::Failed(refusal) => Density::Refused(refusal),
+        Checked::Passed => Measured::Value(density_sum(kernels, kernels.len() / 6, point)),
+        Checked::Failed(refusal) => Measured::Refused(refusal),
     }
 }

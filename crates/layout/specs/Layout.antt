@@ -3,6 +3,7 @@ use mathlib.Core.List.{List, [], _∷_}
 use Prim.Native.Nat.{ℕ, _+_, _*_}
 use lib.ListN.{getD, take, drop}
 use lib.Ieee.{Float, nan}
+use Rattle.mesh.specs.declared.vectors.V3.{V3}
 
 -- "places 0 to 31", "its 16 pieces"
 abbrev pub slotLimit : ℕ
@@ -23,6 +24,10 @@ kernelFrom i = 1 + 7 * i
 
 abbrev pub centreOf : List Float → ℕ → List Float
 centreOf fs i = getD fs (1 + 7 * i) nan ∷ getD fs (2 + 7 * i) nan ∷ getD fs (3 + 7 * i) nan ∷ []
+
+-- the same as a point
+abbrev pub centreAt : List Float → ℕ → V3
+centreAt fs i = record { x = getD fs (1 + 7 * i) nan; y = getD fs (2 + 7 * i) nan; z = getD fs (3 + 7 * i) nan }
 
 abbrev pub weightAt : ℕ → ℕ
 weightAt i = 5 + 7 * i
@@ -67,11 +72,17 @@ stateFrom q i = 2 + q * i
 abbrev pub statusOf : ℕ → List ℕ → ℕ → ℕ
 statusOf q ws i = getD ws (2 + q * i) 0
 
+abbrev pub finishedAt : ℕ → ℕ → ℕ
+finishedAt q i = 3 + q * i
+
 abbrev pub finishedOf : ℕ → List ℕ → ℕ → ℕ
-finishedOf q ws i = getD ws (3 + q * i) 0
+finishedOf q ws i = getD ws (finishedAt q i) 0
+
+abbrev pub doneAt : ℕ → ℕ → ℕ
+doneAt q i = 4 + q * i
 
 abbrev pub doneOf : ℕ → List ℕ → ℕ → ℕ
-doneOf q ws i = getD ws (4 + q * i) 0
+doneOf q ws i = getD ws (doneAt q i) 0
 
 -- "from 98 corners"
 abbrev pub cornersFrom : ℕ → ℕ

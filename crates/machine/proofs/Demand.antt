@@ -9,14 +9,14 @@ use lib.ListN.{length}
 use lib.Ieee.{Float}
 use borrow.Author.Tests.{lt-ltb, ltb-true}
 use Rattle.base.specs.Refusals.{number}
-use Rattle.base.specs.Answers.{andThen}
+use Rattle.base.specs.Answers.{andThen, Answer, refused, counted}
 use Rattle.base.specs.declared.refusal.Refusal.{Refusal}
 use Rattle.base.specs.declared.refusal.Refusal.the-variants.{Ragged, Oversize, LooseCorner, ShortStore, Unfinished, ShortList}
 use Rattle.base.specs.declared.refusal.Checked.the-variants.{Passed, Failed}
 use Rattle.runs.specs.Runs.{write}
 use Rattle.mesh.specs.Checks.{ragged, oversize, allBelow, meshCheck}
 use Rattle.layout.specs.Layout.{coordsFrom, cornersFrom}
-use Rattle.store.specs.Calls.{Reply, refused, counted, After, after, openCheck, openStep}
+use Rattle.store.specs.Calls.{After, after, openCheck, openStep}
 use Rattle.readings.specs.Readings.{Reading, density, report, list, needsWork, bare, applied, rescaled, sixes, Seen, Outcome, outcome, answerOf, refusing}
 use Rattle.machine.specs.Machine.{leftSum, Machine, opened}
 use Rattle.machine.specs.Holding.{Form, excessF, excessW}
@@ -33,11 +33,11 @@ listed-not true n o out e = omega arith
 listed-not false n o out e = omega arith
 
 not-eight : (r : Reading) (s : Seen) → answerOf r s .reply ≡ refused Unfinished → ⊥
-not-eight (density v x) s e = let z : _≡_ {A = ℕ} 0 8 = ap (λ (a : Reply). a .refusal) e in omega arith
-not-eight (report v) s e = let z : _≡_ {A = ℕ} 0 8 = ap (λ (a : Reply). a .refusal) e in omega arith
+not-eight (density v x) s e = let z : _≡_ {A = ℕ} 0 8 = ap (λ (a : Answer). a .refusal) e in omega arith
+not-eight (report v) s e = let z : _≡_ {A = ℕ} 0 8 = ap (λ (a : Answer). a .refusal) e in omega arith
 not-eight (list v out) s e =
     let ks = map bare (s .parts) in
-    listed-not (leb (6 * length ks) (length out)) (length ks) (write out 0 (sixes (map (rescaled (applied v (s .parts))) ks))) out (ap (λ (a : Reply). a .refusal) e)
+    listed-not (leb (6 * length ks) (length out)) (length ks) (write out 0 (sixes (map (rescaled (applied v (s .parts))) ks))) out (ap (λ (a : Answer). a .refusal) e)
 
 eight : (r : Reading) → refusing r Unfinished .reply ≡ refused Unfinished
 eight (density v x) = refl

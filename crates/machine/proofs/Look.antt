@@ -9,7 +9,7 @@ use lib.Seq.{take-suc, take-all}
 use lib.Dec.{ltb, eqb}
 use lib.Ieee.{Float, nan, lt, ofBits}
 use borrow.Author.Tests.{ltb-false, ne-eqb}
-use Rattle.base.specs.Floats.{+0}
+use Rattle.base.specs.Floats.{+0, greater}
 use Rattle.base.specs.declared.refusal.Refusal.the-variants.{Unfinished}
 use Rattle.mass.specs.Centroid.{bodyVolume}
 use Rattle.kernel.specs.declared.kernel.Kernel.{Kernel}
@@ -19,7 +19,7 @@ use Rattle.density.specs.declared.convention.Convention.the-variants.{Raw, Rho0
 use Rattle.density.specs.Conventions.{bulkOf, targetOf, rho0Scale, massScale, appliedScale}
 use Rattle.layout.specs.Layout.{vertsOf, facesOf}
 use Rattle.advance.specs.Steps.{held}
-use Rattle.readings.specs.Readings.{Reading, density, report, list, byMass, needsWork, Part, bare, densityAt, rawMass, origin, applied, rescaled, Seen, seeing, outcome, listing, answerOf, refusing, readingOf, heldFilled, greater, heldWorst, heldSeen, readStep}
+use Rattle.readings.specs.Readings.{Reading, density, report, list, byMass, needsWork, Part, bare, densityAt, rawMass, origin, applied, rescaled, Seen, seeing, outcome, listing, answerOf, refusing, readingOf, heldFilled, heldWorst, heldSeen, readStep}
 use Rattle.machine.specs.Machine.{Mesh, Slot, empty, full, leftSum}
 use Rattle.machine.specs.Holding.{Form, triangles, placeRow, floatsOf, wordsOf}
 use Rattle.machine.specs.Fresh.{filledOne, freshFilled, worseOne, worstFrom, freshSeen}

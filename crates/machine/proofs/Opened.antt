@@ -6,11 +6,12 @@ use native.Mathlib.Nat.{mul-suc, mul-zero, div-add-mod'}
 use native.Mathlib.Omega.{arith}
 use lib.ListN.{length, drop, getD, replicate, length-append, length-replicate, replicate-append-replicate}
 use lib.Ieee.{Float}
+use Rattle.base.specs.Answers.{counted}
 use Rattle.base.specs.Floats.{+0}
 use Rattle.base.specs.declared.refusal.Checked.the-variants.{Passed}
 use Rattle.runs.specs.Runs.{write}
 use Rattle.layout.specs.Layout.{coordsFrom, cornersFrom}
-use Rattle.store.specs.Calls.{after, counted, openCheck, openFloats, openWords, openStep}
+use Rattle.store.specs.Calls.{after, openCheck, openFloats, openWords, openStep}
 use Rattle.store.specs.OpenLaws.{open-passes}
 use Rattle.machine.specs.Machine.{Mesh, Slot, empty, meshOf}
 use Rattle.machine.specs.Holding.{Form, form3, flat, placeRow, floats7, floats48, floatsOf, wordsOf, excessF, excessW}

@@ -12,12 +12,13 @@ use lib.Seq.{getD-append-add, set-set, getD-set-same, set-getD}
 use lib.Dec.{eqb}
 use lib.Ieee.{Float, nan}
 use borrow.Author.Tests.{lt-ltb, le-ltb, ne-eqb, eqb-true, eqb-false}
+use Rattle.base.specs.Loops.{iterate}
 use Rattle.mass.specs.Volume.{faceSum, volumeTo}
 use Rattle.mass.specs.Laws.{volume-suc}
 use Rattle.mass.specs.Total.{centreOf}
 use Rattle.kernel.specs.declared.kernel.Kernel.{Kernel}
 use Rattle.pieces.specs.declared.pieces.Pieces.{Pieces}
-use Rattle.advance.specs.Steps.{iterate, Work, work, oneFace}
+use Rattle.advance.specs.Steps.{Work, work, oneFace}
 use Rattle.machine.specs.Machine.{Mesh, Slot, empty, full, need}
 use Rattle.machine.specs.Holding.{Form, triangles, finished, cells, floatsOf}
 use Rattle.machine.proofs.Rows.{set-append-add}

@@ -10,10 +10,13 @@ use lib.ListN.{length, take, drop, getD, set, length-append, length-drop, drop-o
 use lib.Seq.{set-getD, take-suc, drop-cons, take-all, set-at, getD-at, length-take-le}
 use lib.Dec.{eqb}
 use lib.Ieee.{Float}
+use Rattle.base.specs.Loops.{iterate}
+use Rattle.base.specs.LoopLaws.{iterate-inner}
 use Rattle.mass.specs.Total.{centreOf}
 use Rattle.kernel.specs.declared.kernel.Kernel.{Kernel}
 use Rattle.pieces.specs.declared.pieces.Pieces.{Pieces}
-use Rattle.advance.specs.Steps.{centreAt, work, iterate, Whole, whole, slotWork, stored, slotsRun, leftOf}
+use Rattle.layout.specs.Layout.{centreAt}
+use Rattle.advance.specs.Steps.{work, Whole, whole, slotWork, stored, slotsRun, leftOf}
 use Rattle.advance.proofs.Steps.{idle}
 use Rattle.machine.specs.Machine.{Mesh, Slot, empty, full, need, leftSlot, leftSum, adv, bump}
 use Rattle.machine.specs.Holding.{Form, triangles, finished, placeRow, floatsOf, wordsOf}
@@ -173,10 +176,6 @@ sub-add w p x = omega arith
 
 both-left : (n a s : ℕ) → a - n + (s - (n - a)) ≡ a + s - n
 both-left n a s = omega arith
-
-iterate-inner : {A : Type 0} (f : A → A) (t : ℕ) (a : A) → iterate f (suc t) a ≡ iterate f t (f a)
-iterate-inner f zero a = refl
-iterate-inner f (suc t) a = ap f (iterate-inner f t a)
 
 module _ (m : Mesh) where
   spread-none : (n : ℕ) (ss : List Slot) → min n (leftSum m ss) ≡ 0 → spread m n ss ≡ ss

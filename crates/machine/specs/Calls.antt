@@ -5,11 +5,12 @@ use Prim.Native.Nat.{ℕ, _+_}
 use lib.Dec.{ltb}
 use lib.ListN.{getD}
 use lib.Ieee.{Float}
+use Rattle.base.specs.Answers.{Answer, refused}
 use Rattle.base.specs.declared.refusal.Refusal.the-variants.{NoPlace}
 use Rattle.kernel.specs.declared.kernel.Kernel.{Kernel}
 use Rattle.pieces.specs.Pieces.{decomposed}
 use Rattle.layout.specs.Layout.{slotLimit}
-use Rattle.store.specs.Calls.{Reply, refused, After, clearStep, reweighStep}
+use Rattle.store.specs.Calls.{After, clearStep, reweighStep}
 use Rattle.advance.specs.Steps.{advanceStep}
 use Rattle.put.specs.Puts.{putStep}
 use Rattle.readings.specs.Readings.{Reading, Outcome, readingOf, readStep}
@@ -46,7 +47,7 @@ pub record Store : Type 0 where
 -- what a call on them leaves and answers
 pub record Result : Type 0 where
   pub left : Store
-  pub reply : Reply
+  pub reply : Answer
   pub out : List Float
 
 abbrev pub result : After → Result
@@ -89,7 +90,7 @@ abbrev pub shown : List Float → List ℕ → Turn → Result
 shown xs ys t = record { left = holding (t .next) xs ys; reply = t .reply; out = t .out }
 
 -- ---- the sums: "charged is the need summed over accepted puts' answers"; a refused call answers no count
-abbrev pub chargedBy : Call → Reply → ℕ
+abbrev pub chargedBy : Call → Answer → ℕ
 chargedBy (put i k) r = getD (r .counts) 1 0
 chargedBy (clear i) r = 0
 chargedBy (reweigh i v) r = 0
@@ -97,7 +98,7 @@ chargedBy (advance n) r = 0
 chargedBy (read x) r = 0
 
 -- the steps that an advance answers
-abbrev pub doneBy : Call → Reply → ℕ
+abbrev pub doneBy : Call → Answer → ℕ
 doneBy (put i k) r = 0
 doneBy (clear i) r = 0
 doneBy (reweigh i v) r = 0
@@ -105,7 +106,7 @@ doneBy (advance n) r = getD (r .counts) 0 0
 doneBy (read x) r = 0
 
 -- the left that an advance answers
-abbrev pub leftIn : Reply → ℕ
+abbrev pub leftIn : Answer → ℕ
 leftIn r = getD (r .counts) 1 0
 
 abbrev pub chargedIn : ℕ → Store → List Call → ℕ

@@ -5,11 +5,12 @@ use mathlib.Core.List.{List, [], _∷_}
 use Prim.Native.Nat.{ℕ, _+_, _/_, _≤_, _<_}
 use lib.ListN.{length}
 use lib.Ieee.{Float}
+use Rattle.base.specs.Answers.{refused, counted}
 use Rattle.base.specs.Refusals.{number}
 use Rattle.base.specs.declared.refusal.Refusal.{Refusal}
 use Rattle.base.specs.declared.refusal.Refusal.the-variants.{Unfinished}
 use Rattle.base.specs.declared.refusal.Checked.the-variants.{Passed, Failed}
-use Rattle.store.specs.Calls.{refused, counted, After, after, openCheck, openStep}
+use Rattle.store.specs.Calls.{After, after, openCheck, openStep}
 use Rattle.readings.specs.Readings.{Reading, needsWork, answerOf}
 use Rattle.machine.specs.Machine.{leftSum, Machine, opened}
 use Rattle.machine.specs.Holding.{excessF, excessW}

@@ -4,14 +4,14 @@ use mathlib.Core.List.{List, [], _∷_, _++_}
 use Prim.Native.Nat.{ℕ, zero, suc, _+_}
 use lib.ListN.{getD}
 use lib.Ieee.{Float, nan}
-use Rattle.base.specs.Floats.{_⊗_, +0}
+use Rattle.base.specs.Floats.{_⊗_, +0, greater}
 use Rattle.mass.specs.Volume.{kernelVolume}
 use Rattle.mass.specs.Centroid.{bodyVolume}
 use Rattle.mass.specs.Total.{centreOf}
 use Rattle.kernel.specs.declared.kernel.Kernel.{Kernel}
 use Rattle.pieces.specs.declared.pieces.Pieces.{Pieces}
 use Rattle.pieces.specs.Pieces.{decomposed, pieceAlpha}
-use Rattle.readings.specs.Readings.{Part, Seen, seeing, greater}
+use Rattle.readings.specs.Readings.{Part, Seen, seeing}
 use Rattle.machine.specs.Machine.{Mesh, Slot, empty, full}
 use Rattle.machine.specs.Holding.{triangles}
 

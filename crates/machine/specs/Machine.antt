@@ -5,12 +5,13 @@ use Prim.Native.Nat.{ℕ, _+_, _*_, _-_, _/_, min}
 use lib.Dec.{eqb}
 use lib.ListN.{length, getD, set, replicate}
 use lib.Ieee.{Float}
+use Rattle.base.specs.Loops.{iterate}
+use Rattle.base.specs.Answers.{Answer, refused, counted}
 use Rattle.base.specs.declared.refusal.Refusal.the-variants.{Vacant}
 use Rattle.kernel.specs.declared.kernel.Kernel.{Kernel}
 use Rattle.pieces.specs.declared.pieces.Pieces.{Pieces}
 use Rattle.layout.specs.Layout.{slotLimit}
-use Rattle.store.specs.Calls.{Reply, refused, counted, done}
-use Rattle.advance.specs.Steps.{iterate}
+use Rattle.store.specs.Calls.{done}
 
 -- the mesh and radius that an opening gave: V and F are the counts of vertices and faces
 pub record Mesh : Type 0 where
@@ -53,10 +54,10 @@ pub record Machine : Type 0 where
 -- what a call does: the machine after it, the reply, and the run lent beside the store as it is then ([] where none is lent)
 pub record Turn : Type 0 where
   pub next : Machine
-  pub reply : Reply
+  pub reply : Answer
   pub out : List Float
 
-abbrev pub turn : Machine → Reply → Turn
+abbrev pub turn : Machine → Answer → Turn
 turn m r = record { next = m; reply = r; out = [] }
 
 -- with other places, and so much more charged and dropped

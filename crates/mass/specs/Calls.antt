@@ -9,25 +9,19 @@ use Rattle.kernel.specs.Kernels.{listCheck}
 use Rattle.mesh.specs.declared.vectors.V3.{V3}
 use Rattle.mesh.specs.Triangles.{triangleAt, faceCount}
 use Rattle.mesh.specs.Checks.{meshCheck}
-use Rattle.mass.specs.declared.calls.Measured.{Measured}
-use Rattle.mass.specs.declared.calls.Measured.the-variants as measured
 use Rattle.mass.specs.declared.calls.Located.{Located}
-use Rattle.mass.specs.declared.calls.Located.the-variants as located
+use Rattle.mass.specs.declared.calls.Located.the-variants.{At, Refused}
 use Rattle.mass.specs.Volume.{kernelVolume}
 use Rattle.mass.specs.Centroid.{bodyVolume, volumeCentroid}
 use Rattle.mass.specs.Total.{fieldMass}
 
--- number and values of each case
-abbrev pub measuredAs : Measured → Answer
-measuredAs (measured.Value v) = accepted (v ∷ [])
-measuredAs (measured.Refused r) = refused r
-
 abbrev pub pointValues : V3 → List Float
 pointValues p = p .x ∷ p .y ∷ p .z ∷ []
 
+-- number and values of each case
 abbrev pub locatedAs : Located → Answer
-locatedAs (located.At p) = accepted (pointValues p)
-locatedAs (located.Refused r) = refused r
+locatedAs (At p) = accepted (pointValues p)
+locatedAs (Refused r) = refused r
 
 unfoldable pub kernelVolumeCall : List Float → List ℕ → V3 → Float → Answer
 kernelVolumeCall xyz corners c sigma =

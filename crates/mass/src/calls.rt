@@ -2,22 +2,18 @@
 // a mesh or a list that will not do is refused by its number.
 ghost use mathlib.Core.Path.{_≡_};
 ghost use lib.ListN.{length};
-ghost use Rattle.mass.specs.Calls.{measuredAs, locatedAs, kernelVolumeCall, bodyVolumeCall, volumeCentroidCall, fieldCheck, fieldMassCall};
+ghost use Rattle.base.specs.Answers.{measuredAs};
+ghost use Rattle.mass.specs.Calls.{locatedAs, kernelVolumeCall, bodyVolumeCall, volumeCentroidCall, fieldCheck, fieldMassCall};
 use crate::centroid::body_volume_of;
 use crate::centroid::centroid_of;
 use crate::total::field_mass_of;
 use crate::volume::volume_of;
 use base::refusal::Checked;
+use base::refusal::Measured;
 use base::refusal::Refusal;
 use kernel::kernel::check_list;
 use mesh::check::check_mesh;
 use mesh::vectors::V3;
-
-// A float, or the refusal.
-pub enum Measured {
-    Value(f64),
-    Refused(Refusal),
-}
 
 // A point, or the refusal.
 pub enum Located {

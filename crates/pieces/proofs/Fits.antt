@@ -4,12 +4,12 @@ use mathlib.Core.Bool.{false}
 use mathlib.Core.List.{List}
 use Prim.Native.Nat.{ℕ}
 use lib.Ieee.{Float, le}
-use Rattle.base.specs.Floats.{_⊖_, _⊗_, abs}
+use Rattle.base.specs.Floats.{_⊖_, _⊗_, abs, greater}
 use Rattle.base.specs.Constants.{one, stayLimit}
 use Rattle.powers.specs.Power.{log10}
 use Rattle.solve.specs.Elimination.{Matrix, eliminated}
 use Rattle.solve.specs.Solve.{blank}
-use Rattle.pieces.specs.Fit.{zeros, scalesOf, equations, ridged, coefficientsOf, greater, peakError}
+use Rattle.pieces.specs.Fit.{zeros, scalesOf, equations, ridged, coefficientsOf, peakError}
 use Rattle.pieces.specs.Pieces.{sizeOf, none, kept, fitted, decomposed}
 use Rattle.kernel.specs.declared.kernel.Kernel.{Kernel}
 use Rattle.pieces.specs.declared.points.Curve.{Curve}

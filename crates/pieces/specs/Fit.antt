@@ -5,7 +5,7 @@ use mathlib.Core.List.{List, []}
 use lib.Dec.{eqb}
 use lib.ListN.{getD, set, replicate}
 use lib.Ieee.{Float, nan, neg, lt}
-use Rattle.base.specs.Floats.{_⊕_, _⊖_, _⊗_, _⊘_, whole, +0, abs}
+use Rattle.base.specs.Floats.{_⊕_, _⊖_, _⊗_, _⊘_, whole, +0, abs, greater}
 use Rattle.base.specs.Constants.{one, two, four, ridge}
 use Rattle.base.specs.Loops.{times}
 use Rattle.powers.specs.Power.{power, tenTo}
@@ -98,10 +98,6 @@ approxAt scales coefs u i s = s ⊕ getD coefs i nan ⊘ (one ⊕ getD scales i 
 
 unfoldable pub approx : ℕ → List Float → List Float → Float → Float
 approx terms scales coefs u = times (approxAt scales coefs u) terms 0 +0
-
--- Rust's `max` of an a that is no NaN and any b: a NaN is passed over
-unfoldable pub greater : Float → Float → Float
-greater a b = cond (lt a b) b a
 
 -- the greatest deviation over the samples, from +0; the division by the peak, which is 1, changes nothing
 unfoldable pub errorAt : ℕ → List Float → List Float → Curve → ℕ → Float → Float

@@ -9,7 +9,7 @@ use native.Mathlib.Omega.{arith}
 use lib.ListN.{getD, set, replicate}
 use lib.Seq.{getD-set-other}
 use lib.Ieee.{Float, nan, ofBits, lt, le, eq, add, sub, mul, neg, isNan}
-use Rattle.base.specs.Floats.{_⊖_, _⊗_, bits, +0, abs}
+use Rattle.base.specs.Floats.{_⊖_, _⊗_, bits, +0, abs, greater}
 use Rattle.base.specs.Constants.{one, ridge}
 use Rattle.base.specs.Loops.{times}
 use Rattle.base.specs.ChoiceLaws.{cond-of}
@@ -19,7 +19,7 @@ use Rattle.powers.specs.Log.{log}
 use Rattle.powers.specs.Power.{power, log10}
 use Rattle.solve.specs.Elimination.{flat, eliminated}
 use Rattle.solve.specs.Solve.{answers}
-use Rattle.pieces.specs.Fit.{zeros, scalesOf, sampleOf, targetOf, coefficientsOf, approx, greater, errorAt, peakError}
+use Rattle.pieces.specs.Fit.{zeros, scalesOf, sampleOf, targetOf, coefficientsOf, approx, errorAt, peakError}
 use Rattle.pieces.specs.Pieces.{delta, stays, sizeOf, curveOf, none, itself, keep, keepAt, kept, fitted, decomposed}
 use Rattle.kernel.specs.declared.kernel.Kernel.{Kernel}
 use Rattle.pieces.specs.declared.points.Curve.{Curve}

@@ -4,13 +4,13 @@ use mathlib.Core.Bool.{Bool, cond}
 use mathlib.Core.List.{List}
 use lib.ListN.{getD, set}
 use lib.Ieee.{Float, nan, lt, le}
-use Rattle.base.specs.Floats.{_⊖_, _⊗_, +0, abs}
+use Rattle.base.specs.Floats.{_⊖_, _⊗_, +0, abs, greater}
 use Rattle.base.specs.Constants.{one, stayLimit, keepLimit}
 use Rattle.base.specs.Loops.{times}
 use Rattle.powers.specs.Power.{log10}
 use Rattle.solve.specs.Elimination.{eliminated}
 use Rattle.solve.specs.Solve.{blank}
-use Rattle.pieces.specs.Fit.{zeros, scalesOf, equations, ridged, coefficientsOf, greater, peakError}
+use Rattle.pieces.specs.Fit.{zeros, scalesOf, equations, ridged, coefficientsOf, peakError}
 use Rattle.kernel.specs.declared.kernel.Kernel.{Kernel}
 use Rattle.pieces.specs.declared.points.Curve.{Curve}
 use Rattle.pieces.specs.declared.pieces.Size.{Size}

@@ -1,11 +1,12 @@
 // The greatest deviation of the fit from its curve.
 ghost use mathlib.Core.Path.{_≡_};
 ghost use Prim.Native.Nat.{_<_, _≤_};
-ghost use Rattle.pieces.specs.Fit.{approx, greater, errorAt, peakError};
+ghost use Rattle.pieces.specs.Fit.{approx, errorAt, peakError};
 use crate::points::Curve;
 use crate::points::sample_of;
 use crate::points::target_of;
 use base::floats::abs;
+use base::floats::greater_of;
 
 // The fit's value at u, summed in the order of the terms.
 fn approximate(terms: usize, scales: &[f64; 16], coefficients: &[f64; 16], u: f64) -> f64
@@ -19,16 +20,6 @@ fn approximate(terms: usize, scales: &[f64; 16], coefficients: &[f64; 16], u: f6
         i += 1;
     }
     sum
-}
-
-// The greater of a, which is no NaN, and b, which is passed over if it is one.
-pub fn greater_of(a: f64, b: f64) -> f64
-    ensures { λ r. ⌜ r ≡ greater a b ⌝ }
-{
-    if a < b {
-        return b;
-    }
-    a
 }
 
 // The greatest deviation so far, with sample j looked at.

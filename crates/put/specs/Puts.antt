@@ -5,6 +5,7 @@ use Prim.Native.Nat.{ℕ, zero, suc, _+_, _*_}
 use lib.Dec.{eqb}
 use lib.ListN.{getD}
 use lib.Ieee.{Float, nan}
+use Rattle.base.specs.Answers.{counted}
 use Rattle.base.specs.Floats.{+0}
 use Rattle.runs.specs.Runs.{write}
 use Rattle.kernel.specs.declared.kernel.Kernel.{Kernel}
@@ -12,7 +13,7 @@ use Rattle.pieces.specs.declared.pieces.Pieces.{Pieces}
 use Rattle.pieces.specs.Pieces.{decomposed}
 use Rattle.layout.specs.Layout.{pieceLimit, radiusOf, kernelFrom, piecesFrom, stateFrom, facesOf}
 use Rattle.layout.specs.Soundness.{slotCheck}
-use Rattle.store.specs.Calls.{After, after, guarded, counted}
+use Rattle.store.specs.Calls.{After, after, guarded}
 
 -- "c, sigma, w, alpha, error"
 abbrev pub seven : Kernel → Float → List Float

@@ -5,7 +5,8 @@ use Prim.Native.Nat.{ℕ, zero, suc, _+_, _*_, _-_}
 use lib.Dec.{ltb, leb, eqb}
 use lib.ListN.{length, getD}
 use lib.Ieee.{Float, nan, lt}
-use Rattle.base.specs.Floats.{_⊕_, _⊗_, +0}
+use Rattle.base.specs.Answers.{Answer, accepted, refused, counted}
+use Rattle.base.specs.Floats.{_⊕_, _⊗_, +0, greater}
 use Rattle.base.specs.Loops.{times}
 use Rattle.base.specs.declared.refusal.Refusal.{Refusal}
 use Rattle.base.specs.declared.refusal.Refusal.the-variants.{Unfinished, ShortList}
@@ -23,7 +24,6 @@ use Rattle.density.specs.Conventions.{bulkOf, rho0Scale, appliedScale}
 use Rattle.density.specs.Reports.{reportOf}
 use Rattle.layout.specs.Layout.{slotLimit, centreOf, weightOf, alphaOf, errorOf, pieceFrom, vertsOf, facesOf, statusOf}
 use Rattle.layout.specs.Soundness.{storeCheck}
-use Rattle.store.specs.Calls.{Reply, refused, counted}
 use Rattle.advance.specs.Steps.{held, leftOf}
 
 -- ---- a reading and its convention
@@ -99,14 +99,14 @@ seeing ps body filled worst = record { parts = ps; body = body; filled = filled;
 
 -- a reply, and the run lent beside the store as it is then ([] where none is lent)
 pub record Outcome : Type 0 where
-  pub reply : Reply
+  pub reply : Answer
   pub out : List Float
 
-abbrev pub outcome : Reply → List Float → Outcome
+abbrev pub outcome : Answer → List Float → Outcome
 outcome r o = record { reply = r; out = o }
 
 -- "Report adds filled count, pieces, greatest error"; "the first seven in `MassReport` order"
-abbrev pub reported : MassReport → ℕ → ℕ → Float → Reply
+abbrev pub reported : MassReport → ℕ → ℕ → Float → Answer
 reported r filled pieces worst =
     record {
       refusal = 0;
@@ -131,7 +131,7 @@ listing s ks out =
 
 abbrev pub answerOf : Reading → Seen → Outcome
 answerOf (density v x) s =
-    outcome (record { refusal = 0; counts = []; floats = densityAt (map (rescaled (applied v (s .parts))) (map bare (s .parts))) x ∷ [] }) []
+    outcome (accepted (densityAt (map (rescaled (applied v (s .parts))) (map bare (s .parts))) x ∷ [])) []
 answerOf (report v) s =
     outcome (reported (reportOf v (rawMass (s .parts)) (densityAt (map bare (s .parts)) origin) (s .body)) (s .filled) (length (s .parts)) (s .worst)) []
 answerOf (list v out) s = listing (applied v (s .parts)) (map bare (s .parts)) out
@@ -169,9 +169,6 @@ heldFilled q ws zero = 0
 heldFilled q ws (suc k) = heldFilled q ws k + cond (eqb (statusOf q ws k) 0) 0 1
 
 -- "greatest error (+0 with no place filled)"
-abbrev pub greater : Float → Float → Float
-greater a b = cond (lt a b) b a
-
 unfoldable pub heldWorst : ℕ → List Float → List ℕ → ℕ → Float
 heldWorst q fs ws zero = +0
 heldWorst q fs ws (suc k) = cond (eqb (statusOf q ws k) 0) (heldWorst q fs ws k) (greater (heldWorst q fs ws k) (errorOf fs k))

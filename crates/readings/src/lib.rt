@@ -1,1 +1,8 @@
-// The definitions of the readings; their code is in the crate `reads`.
+// The readings of a store: density, report and list. No exported reading has a `requires`, and none changes the store.
+pub mod at_point;
+pub mod counts;
+pub mod held;
+pub mod listing;
+pub mod lists;
+pub mod reports;
+pub mod sums;

@@ -4,7 +4,7 @@ use mathlib.Core.Bool.{cond}
 use mathlib.Core.List.{List}
 use lib.ListN.{length}
 use lib.Ieee.{Float, lt, le}
-use Rattle.base.specs.Floats.{_⊗_, _⊘_, +0}
+use Rattle.base.specs.Floats.{_⊗_, _⊘_, +0, greater}
 use Rattle.base.specs.Constants.{one, ten, meshRadius}
 use Rattle.base.specs.Loops.{times}
 use Rattle.mesh.specs.declared.vectors.V3.{V3}
@@ -20,9 +20,9 @@ use Rattle.source.specs.Weights.{kernelsOf, writtenOf, callCheck, normal
 
 -- ---- the mesh's reach, the Rust's max_r: the greatest distance of a face's corner from the origin
 
--- `f64::max` on a reach that is no NaN: a NaN is passed over
+-- `f64::max` on a reach that is no NaN
 unfoldable pub farther : Float → V3 → Float
-farther reach v = cond (lt reach (norm v)) (norm v) reach
+farther reach v = greater reach (norm v)
 
 unfoldable pub fartherFace : Float → Triangle → Float
 fartherFace reach t = farther (farther (farther reach (t .a)) (t .b)) (t .c)

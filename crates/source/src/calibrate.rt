@@ -12,6 +12,7 @@ use crate::weights::check_call;
 use crate::weights::normalize;
 use crate::weights::write_all;
 use base::floats::abs;
+use base::floats::greater_of;
 use base::refusal::Checked;
 use mesh::triangles::Triangle;
 use mesh::triangles::triangle_at;
@@ -28,8 +29,7 @@ pub enum Mean {
 fn farther(reach: f64, v: V3) -> f64
     ensures { λ r. ⌜ r ≡ farther reach v ⌝ }
 {
-    let far = norm(v);
-    if reach < far { far } else { reach }
+    greater_of(reach, norm(v))
 }
 
 // The greatest of a distance and those of a face's corners.

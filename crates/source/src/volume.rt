@@ -2,12 +2,12 @@
 // `mesh_enclosed_volume` have no `requires`.
 ghost use mathlib.Core.Path.{_≡_};
 ghost use lib.ListN.{length};
-ghost use Rattle.mass.specs.Calls.{measuredAs};
+ghost use Rattle.base.specs.Answers.{measuredAs};
 ghost use Rattle.mesh.specs.Triangles.{triangleAt, faceCount, Sound};
 ghost use Rattle.source.specs.Volumes.{radialG, flux, threeFluxes, faceSum, kernelVolume, centroidOf, pyramid, signedVolume, volumeAnswer, enclosedAnswer};
 use base::floats::abs;
 use base::refusal::Checked;
-use mass::calls::Measured;
+use base::refusal::Measured;
 use mass::dunavant::INNER_ONE;
 use mass::dunavant::INNER_TWO;
 use mass::dunavant::INNER_WEIGHT;

@@ -6,8 +6,7 @@ use lib.Dec.{leb}
 use lib.ListN.{length, set, replicate}
 use lib.Ieee.{Float}
 use Rattle.base.specs.Floats.{+0}
-use Rattle.base.specs.Refusals.{number}
-use Rattle.base.specs.Answers.{andThen}
+use Rattle.base.specs.Answers.{Answer, counted, refused, andThen}
 use Rattle.base.specs.declared.refusal.Refusal.{Refusal}
 use Rattle.base.specs.declared.refusal.Refusal.the-variants.{ShortStore}
 use Rattle.base.specs.declared.refusal.Checked.{Checked}
@@ -17,31 +16,17 @@ use Rattle.mesh.specs.Checks.{meshCheck}
 use Rattle.layout.specs.Layout.{slotLimit, kernelFrom, weightAt, piecesFrom, coordsFrom, stateFrom, cornersFrom}
 use Rattle.layout.specs.Soundness.{filledCheck}
 
--- ---- what a call answers
-
--- 01's number of the refusal, 0 where there is none; the whole numbers and the floats that are answered
-pub record Reply : Type 0 where
-  pub refusal : ℕ
-  pub counts : List ℕ
-  pub floats : List Float
-
-abbrev pub refused : Refusal → Reply
-refused r = record { refusal = number r; counts = []; floats = [] }
-
-abbrev pub counted : List ℕ → Reply
-counted ns = record { refusal = 0; counts = ns; floats = [] }
-
 -- clear and reweigh answer no value
-abbrev pub done : Reply
+abbrev pub done : Answer
 done = counted []
 
 -- ---- what a call leaves: its reply, the float run fs and the u32 run ws
 pub record After : Type 0 where
-  pub reply : Reply
+  pub reply : Answer
   pub floats : List Float
   pub words : List ℕ
 
-abbrev pub after : Reply → List Float → List ℕ → After
+abbrev pub after : Answer → List Float → List ℕ → After
 after r fs ws = record { reply = r; floats = fs; words = ws }
 
 -- "a refused call changes nothing"

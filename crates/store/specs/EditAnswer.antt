@@ -1,8 +1,9 @@
 -- 01's number and values for each case of the answer of clear and reweigh. Definitions only.
-use Rattle.store.specs.Calls.{Reply, refused, done}
+use Rattle.base.specs.Answers.{Answer, refused}
+use Rattle.store.specs.Calls.{done}
 use Rattle.store.specs.declared.edit.Edited.{Edited}
 use Rattle.store.specs.declared.edit.Edited.the-variants.{Done, Refused}
 
-abbrev pub edited : Edited → Reply
+abbrev pub edited : Edited → Answer
 edited Done = done
 edited (Refused r) = refused r

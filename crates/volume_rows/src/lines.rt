@@ -1,11 +1,10 @@
 // The parts of a line, and the lines of answers.
 use base::floats::to_pattern;
+use base::refusal::Measured;
 use base::refusal::Refusal;
 use base::refusal::refusal_number;
-use density::densitize::Density;
 use libc::STDOUT_FILENO;
 use mass::calls::Located;
-use mass::calls::Measured;
 use reports::Reported;
 use source::weights::Outcome;
 
@@ -52,18 +51,6 @@ pub fn put_measured(m: Measured) {
             put_end();
         }
         Measured::Refused(refusal) => put_refusal(refusal),
-    }
-}
-
-// Ends the line of a density.
-pub fn put_density(d: Density) {
-    match d {
-        Density::Value(value) => {
-            put_number(0);
-            put_float(value);
-            put_end();
-        }
-        Density::Refused(refusal) => put_refusal(refusal),
     }
 }
 

@@ -1,6 +1,5 @@
 // The lists of kernels, places and values of the tables, and the density of each list at each place.
 ghost use Prim.Native.Nat.{_≤_, _<_};
-use crate::lines::put_density;
 use crate::lines::put_measured;
 use crate::lines::put_pair;
 use crate::tables::KERNELS;
@@ -69,7 +68,7 @@ fn put_densities(k: usize, p: usize, list: &[f64])
 {
     let x = place(p);
     put_pair(b"density", k, p);
-    put_density(densitize(list, [x.x, x.y, x.z]));
+    put_measured(densitize(list, [x.x, x.y, x.z]));
     put_pair(b"source-density", k, p);
     put_measured(density_at(list, x));
 }

@@ -3,9 +3,10 @@ use mathlib.Core.Path.{_≡_, sym, ap, _∙_}
 use mathlib.Core.List.{[], _∷_}
 use Prim.Native.Nat.{_-_}
 use native.Mathlib.Omega.{arith}
+use Rattle.base.specs.Answers.{counted}
 use Rattle.layout.specs.Layout.{width, slotLimit, facesOf}
 use Rattle.layout.specs.SoundLaws.{fine}
-use Rattle.store.specs.Calls.{after, counted}
+use Rattle.store.specs.Calls.{after}
 use Rattle.advance.specs.Steps.{Whole, whole, leftOf, spentAll, advanceStep}
 use borrow.Author.Needs.{needs}
 use Rattle.advance.proofs.advance.advance.Statement.{statement}

@@ -2,12 +2,12 @@
 use borrow.Author.Needs.{needs}
 use mathlib.Core.Path.{ap}
 use Rattle.readings.specs.Readings.{Outcome}
-use Rattle.cauchy.specs.StoreCrossing.{valueFrom}
+use Rattle.cauchy.specs.Volumes.{valueFrom}
 use Rattle.cauchy.proofs.stores.cauchy_store_density.Statement.{statement}
 use Rattle.cauchy.proofs.stores.cauchy_store_density.Tie as tie
 
 returns : tie.Need-returns
-returns c = rw (c .density-value .ensures, ← c .before .before .convention-of .ensures) (ap (λ (o : Outcome). valueFrom (o .reply)) (c .before .density .ensures))
+returns c = rw (c .value-of .ensures, ← c .before .before .convention-of .ensures) (ap (λ (o : Outcome). valueFrom (o .reply)) (c .before .density .ensures))
 
 pub cauchy-store-density-spec : {M : Type 1} → statement M
 cauchy-store-density-spec =

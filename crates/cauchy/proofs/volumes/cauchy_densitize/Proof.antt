@@ -6,7 +6,7 @@ use Rattle.cauchy.proofs.volumes.cauchy_densitize.Statement.{statement}
 use Rattle.cauchy.proofs.volumes.cauchy_densitize.Tie as tie
 
 returns : tie.Need-returns
-returns c = rw (c .density-value .ensures) (ap valueFrom (c .before .densitize .ensures))
+returns c = rw (c .value-of .ensures) (ap valueFrom (c .before .densitize .ensures))
 
 pub cauchy-densitize-spec : {M : Type 1} → statement M
 cauchy-densitize-spec =

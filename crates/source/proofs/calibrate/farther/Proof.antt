@@ -1,16 +1,14 @@
--- `farther` meets its contract: its test is the definition's. Assumes nothing.
+-- `farther` meets its contract. Assumes nothing.
 use borrow.Author.Needs.{needs}
+use mathlib.Core.Path.{_∙_, ap}
+use Rattle.base.specs.Floats.{greater}
 use Rattle.source.specs.Calibration.{farther}
 use Rattle.source.proofs.calibrate.farther.Statement.{statement}
 use Rattle.source.proofs.calibrate.farther.Tie as tie
 
 returns : tie.Need-returns
 unfolding farther
-returns c = rw (← c .before .norm .ensures, c .if1 .taken)
-
-returns-2 : tie.Need-returns-2
-unfolding farther
-returns-2 c = rw (← c .before .norm .ensures, c .if1 .left)
+returns c = rw (c .greater-of .ensures, c .before .norm .ensures)
 
 pub farther-spec : {M : Type 1} → statement M
-farther-spec = tie.close (tie.spec (λ c κs. search needs) returns returns-2)
+farther-spec = tie.close (tie.spec (λ c κs. search needs) (λ c κs. search needs) returns)

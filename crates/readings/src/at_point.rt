@@ -1,0 +1,77 @@
+// The density of a store at a point.
+ghost use mathlib.Core.Path.{_≡_};
+ghost use mathlib.Core.List.{[]};
+ghost use Prim.Native.Nat.{_≤_};
+ghost use lib.ListN.{length};
+ghost use Rattle.base.specs.Answers.{measuredAs};
+ghost use Rattle.layout.specs.Layout.{width, slotLimit, coordsFrom};
+ghost use Rattle.layout.specs.SoundLaws.{Worded};
+ghost use Rattle.readings.specs.Readings.{byMass, applied, heldAll, outcome, readStep};
+ghost use Rattle.readings.specs.Readings;
+ghost use Rattle.readings.specs.Checks.{readCheck};
+use crate::sums::density_sum;
+use crate::sums::origin_density;
+use crate::sums::raw_mass;
+use advance::left::left;
+use base::refusal::Checked;
+use base::refusal::Measured;
+use base::refusal::Refusal;
+use density::convention::Convention;
+use density::convention::applied_scale;
+use density::convention::bulk_of;
+use density::convention::rho0_scale;
+use layout::check::check_store;
+use runs::word;
+
+// Whether a convention is by mass with a target above 0.
+pub fn by_mass(v: Convention) -> bool
+    ensures { λ r. ⌜ r ≡ byMass v ⌝ }
+{
+    match v {
+        Convention::Raw => false,
+        Convention::Rho0(_) => false,
+        Convention::Mass(target, _) => target > 0.0,
+    }
+}
+
+// Refusal 4, 5 or 8 of a reading that needs the work done, or not.
+pub fn check_read(f: &[f64], w: &[u32], needs: bool) -> Checked
+    ensures { λ r. ⌜ r ≡ readCheck width (now (f .entry)) (now (w .entry)) needs ⌝ }
+{
+    match check_store(f, w) {
+        Checked::Failed(r) => Checked::Failed(r),
+        Checked::Passed => {
+            let total = left(w, word(w, 1));
+            let early = needs & (0 < total);
+            if early {
+                Checked::Failed(Refusal::Unfinished)
+            } else {
+                Checked::Passed
+            }
+        }
+    }
+}
+
+// The scale that a convention puts on every weight.
+pub fn scale_of(v: Convention, f: &[f64], w: &[u32], faces: usize) -> f64
+    requires { ⌜ coordsFrom ≤ length (now f) ⌝ ∗ ⌜ Worded width (now w) faces ⌝ }
+    ensures { λ r. ⌜ r ≡ applied v (heldAll width (now (f .entry)) (now (w .entry)) slotLimit) ⌝ }
+{
+    let rho0 = origin_density(f, w, faces);
+    let mass = raw_mass(f, w, faces);
+    applied_scale(v, mass, rho0_scale(bulk_of(v), rho0))
+}
+
+// The density at a point, under a convention.
+pub fn density(f: &[f64], w: &[u32], v: Convention, point: [f64; 3]) -> Measured
+    ensures { λ r. ⌜ outcome (measuredAs r) [] ≡ readStep width (now (f .entry)) (now (w .entry)) (Readings.density v point) ⌝ }
+{
+    match check_read(f, w, by_mass(v)) {
+        Checked::Failed(r) => Measured::Refused(r),
+        Checked::Passed => {
+            let faces = word(w, 1);
+            let s = scale_of(v, f, w, faces);
+            Measured::Value(density_sum(f, w, faces, s, point))
+        }
+    }
+}

@@ -1,0 +1,77 @@
+// Counts over the places of a sound store, and the greatest error of its fits.
+ghost use mathlib.Core.Path.{_≡_};
+ghost use mathlib.Core.Bool.{cond};
+ghost use lib.Dec.{eqb};
+ghost use Prim.Native.Nat.{_*_, _≤_};
+ghost use lib.ListN.{length};
+ghost use Rattle.base.specs.Floats.{greater};
+ghost use Rattle.layout.specs.Layout.{width, slotLimit, coordsFrom};
+ghost use Rattle.layout.specs.SoundLaws.{Worded};
+ghost use Rattle.readings.specs.Readings.{heldFilled, heldWorst};
+ghost use Rattle.readings.specs.Counts.{pieceCount};
+use advance::left::pieces;
+use base::floats::greater_of;
+use layout::offsets::KERNEL;
+use layout::offsets::KERNEL_SIZE;
+use layout::offsets::SLOTS;
+use layout::offsets::STATE;
+use layout::offsets::WIDTH;
+
+// The pieces of all places.
+pub fn count_pieces(w: &[u32], faces: usize) -> usize
+    requires { ⌜ Worded width (now w) faces ⌝ }
+    ensures { λ r. ⌜ (r ≡ pieceCount width (now (w .entry)) slotLimit) × (r ≤ 512) ⌝ }
+{
+    let mut sum: usize = 0;
+    let mut i: usize = 0;
+    while i < SLOTS {
+        sum += pieces(w[STATE + WIDTH * i]);
+        i += 1;
+    }
+    sum
+}
+
+// 1 for a filled place.
+fn filled_one(status: u32) -> usize
+    ensures { λ r. ⌜ (r ≡ cond (eqb status 0) 0 1) × (r ≤ 1) ⌝ }
+{
+    if status == 0 { 0 } else { 1 }
+}
+
+// The filled places.
+pub fn count_filled(w: &[u32], faces: usize) -> usize
+    requires { ⌜ Worded width (now w) faces ⌝ }
+    ensures { λ r. ⌜ (r ≡ heldFilled width (now (w .entry)) slotLimit) × (r ≤ 32) ⌝ }
+{
+    let mut sum: usize = 0;
+    let mut i: usize = 0;
+    while i < SLOTS {
+        sum += filled_one(w[STATE + WIDTH * i]);
+        i += 1;
+    }
+    sum
+}
+
+// The greater of two errors, where the place of the second is filled.
+fn worse(status: u32, a: f64, b: f64) -> f64
+    ensures { λ r. ⌜ r ≡ cond (eqb status 0) a (greater a b) ⌝ }
+{
+    if status == 0 {
+        return a;
+    }
+    greater_of(a, b)
+}
+
+// The greatest error of the filled places, +0 with none.
+pub fn worst_error(f: &[f64], w: &[u32], faces: usize) -> f64
+    requires { ⌜ coordsFrom ≤ length (now f) ⌝ ∗ ⌜ Worded width (now w) faces ⌝ }
+    ensures { λ r. ⌜ r ≡ heldWorst width (now (f .entry)) (now (w .entry)) slotLimit ⌝ }
+{
+    let mut e = 0.0;
+    let mut i: usize = 0;
+    while i < SLOTS {
+        e = worse(w[STATE + WIDTH * i], e, f[KERNEL + 6 + KERNEL_SIZE * i]);
+        i += 1;
+    }
+    e
+}

@@ -1,0 +1,50 @@
+// The list of a store's pieces, rescaled.
+ghost use mathlib.Core.Path.{_≡_};
+ghost use mathlib.Core.List.{map};
+ghost use Prim.Native.Nat.{_≤_};
+ghost use lib.ListN.{length};
+ghost use Rattle.layout.specs.Layout.{width, slotLimit, coordsFrom};
+ghost use Rattle.layout.specs.SoundLaws.{Worded};
+ghost use Rattle.readings.specs.Readings.{bare, applied, heldAll, outcome, readStep};
+ghost use Rattle.readings.specs.Readings;
+ghost use Rattle.readings.specs.ListAnswer.{listRead};
+use crate::at_point::by_mass;
+use crate::at_point::check_read;
+use crate::at_point::scale_of;
+use crate::counts::count_pieces;
+use crate::lists::write_list;
+use base::refusal::Checked;
+use base::refusal::Refusal;
+use density::convention::Convention;
+use runs::word;
+
+// The answer of a list: how many pieces were written.
+pub enum ListRead {
+    Pieces(u32),
+    Refused(Refusal),
+}
+
+// Writes the pieces of a sound store, if the run has room for them.
+fn list_pieces(v: Convention, f: &[f64], w: &[u32], faces: usize, out: &mut [f64]) -> ListRead
+    requires { ⌜ coordsFrom ≤ length (now f) ⌝ ∗ ⌜ Worded width (now w) faces ⌝ }
+    ensures { λ r. ⌜ outcome (listRead r) (now (out .exit)) ≡ Readings.listing (applied v (heldAll width (now (f .entry)) (now (w .entry)) slotLimit)) (map bare (heldAll width (now (f .entry)) (now (w .entry)) slotLimit)) (now (out .entry)) ⌝ }
+{
+    let count = count_pieces(w, faces);
+    if 6 * count <= out.len() {
+        let s = scale_of(v, f, w, faces);
+        write_list(out, f, w, faces, s);
+        ListRead::Pieces(count as u32)
+    } else {
+        ListRead::Refused(Refusal::ShortList)
+    }
+}
+
+// Writes the pieces into a lent run, six floats each, under a convention.
+pub fn list(f: &[f64], w: &[u32], v: Convention, out: &mut [f64]) -> ListRead
+    ensures { λ r. ⌜ outcome (listRead r) (now (out .exit)) ≡ readStep width (now (f .entry)) (now (w .entry)) (Readings.list v (now (out .entry))) ⌝ }
+{
+    match check_read(f, w, by_mass(v)) {
+        Checked::Failed(r) => ListRead::Refused(r),
+        Checked::Passed => list_pieces(v, f, w, word(w, 1), out),
+    }
+}

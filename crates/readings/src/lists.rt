@@ -1,0 +1,59 @@
+// The pieces of a sound store written into a lent run, six floats each.
+ghost use mathlib.Core.Path.{_≡_};
+ghost use Prim.Native.Nat.{_+_, _*_, _≤_, _<_};
+ghost use lib.ListN.{length};
+ghost use Rattle.runs.specs.Runs.{write};
+ghost use Rattle.layout.specs.Layout.{width, slotLimit, pieceLimit, coordsFrom};
+ghost use Rattle.layout.specs.SoundLaws.{Worded};
+ghost use Rattle.readings.specs.Readings.{six, heldAt, heldAll};
+ghost use Rattle.readings.specs.Counts.{pieceCount};
+ghost use Rattle.readings.specs.Lists.{rows};
+use crate::held::piece_at;
+use crate::held::rescale;
+use advance::left::pieces;
+use kernel::kernel::Kernel;
+use layout::offsets::SLOTS;
+use layout::offsets::STATE;
+use layout::offsets::WIDTH;
+
+// A kernel's six floats.
+fn write_six(out: &mut [f64], at: usize, k: Kernel)
+    requires { ⌜ at + 6 ≤ length (now out) ⌝ }
+    ensures { λ _. ⌜ now (out .exit) ≡ write (now (out .entry)) at (six k) ⌝ }
+{
+    let c = k.c;
+    out[at] = c[0];
+    out[at + 1] = c[1];
+    out[at + 2] = c[2];
+    out[at + 3] = k.sigma;
+    out[at + 4] = k.w;
+    out[at + 5] = k.alpha;
+}
+
+// The first `count` pieces of place i, by a scale.
+fn slot_list(out: &mut [f64], at: usize, f: &[f64], i: usize, count: usize, s: f64)
+    requires { ⌜ (coordsFrom ≤ length (now f)) × (i < slotLimit) × (count ≤ pieceLimit) × (at + 6 * count ≤ length (now out)) ⌝ }
+    ensures { λ _. ⌜ now (out .exit) ≡ write (now (out .entry)) at (rows s (heldAt (now (f .entry)) i count)) ⌝ }
+{
+    let mut j: usize = 0;
+    while j < count {
+        let k = rescale(piece_at(f, i, j), s);
+        write_six(out, at + 6 * j, k);
+        j += 1;
+    }
+}
+
+// The pieces of all places, by a scale.
+pub fn write_list(out: &mut [f64], f: &[f64], w: &[u32], faces: usize, s: f64)
+    requires { ⌜ coordsFrom ≤ length (now f) ⌝ ∗ ⌜ Worded width (now w) faces ⌝ ∗ ⌜ 6 * pieceCount width (now w) slotLimit ≤ length (now out) ⌝ }
+    ensures { λ _. ⌜ now (out .exit) ≡ write (now (out .entry)) 0 (rows s (heldAll width (now (f .entry)) (now (w .entry)) slotLimit)) ⌝ }
+{
+    let mut at: usize = 0;
+    let mut i: usize = 0;
+    while i < SLOTS {
+        let count = pieces(w[STATE + WIDTH * i]);
+        slot_list(out, at, f, i, count, s);
+        at += 6 * count;
+        i += 1;
+    }
+}

@@ -1,0 +1,95 @@
+// The report of a store.
+ghost use mathlib.Core.Path.{_≡_};
+ghost use mathlib.Core.List.{[], map};
+ghost use Prim.Native.Nat.{_≤_};
+ghost use lib.ListN.{length};
+ghost use Rattle.mass.specs.Centroid.{bodyVolume};
+ghost use Rattle.density.specs.Reports.{reportOf};
+ghost use Rattle.layout.specs.Layout.{width, slotLimit};
+ghost use Rattle.layout.specs.SoundLaws.{Meshed, Worded};
+ghost use Rattle.advance.specs.Steps.{held};
+ghost use Rattle.readings.specs.Readings.{bare, densityAt, rawMass, origin, heldAll, outcome, readStep};
+ghost use Rattle.readings.specs.Readings;
+ghost use Rattle.readings.specs.ReportAnswer.{reportRead};
+use crate::at_point::check_read;
+use crate::counts::count_filled;
+use crate::counts::count_pieces;
+use crate::counts::worst_error;
+use crate::sums::origin_density;
+use crate::sums::raw_mass;
+use base::refusal::Checked;
+use base::refusal::Refusal;
+use density::convention::Convention;
+use density::report::MassReport;
+use density::report::report_of;
+use layout::offsets::COORDS;
+use layout::offsets::CORNERS;
+use mass::volume::volume_from;
+use mesh::vectors::V3;
+use runs::word;
+
+// The answer of a report: the masses, the filled places, the pieces, and the greatest error.
+pub enum Reported {
+    Report {
+        mass: MassReport,
+        filled: u32,
+        pieces: u32,
+        error: f64,
+    },
+    Refused(Refusal),
+}
+
+// The volume of the mesh that a store holds.
+fn body_of(f: &[f64], w: &[u32], verts: usize, faces: usize) -> f64
+    requires { ⌜ Meshed width (now f) (now w) verts faces ⌝ }
+    ensures { λ r. ⌜ r ≡ bodyVolume (held width (now (f .entry)) (now (w .entry)) verts faces) faces ⌝ }
+{
+    let coords_end = COORDS + 3 * verts;
+    let corners_end = CORNERS + 3 * faces;
+    let o = V3 {
+        x: 0.0,
+        y: 0.0,
+        z: 0.0,
+    };
+    volume_from(
+        0.0,
+        &f[COORDS..coords_end],
+        &w[CORNERS..corners_end],
+        o,
+        0.0,
+        0,
+        faces,
+    )
+}
+
+// The masses of a sound store.
+fn mass_report(v: Convention, f: &[f64], w: &[u32], verts: usize, faces: usize) -> MassReport
+    requires { ⌜ Meshed width (now f) (now w) verts faces ⌝ ∗ ⌜ Worded width (now w) faces ⌝ }
+    ensures { λ r. ⌜ r ≡ reportOf v (rawMass (heldAll width (now (f .entry)) (now (w .entry)) slotLimit)) (densityAt (map bare (heldAll width (now (f .entry)) (now (w .entry)) slotLimit)) origin) (bodyVolume (held width (now (f .entry)) (now (w .entry)) verts faces) faces) ⌝ }
+{
+    let mass = raw_mass(f, w, faces);
+    let rho0 = origin_density(f, w, faces);
+    report_of(v, mass, rho0, body_of(f, w, verts, faces))
+}
+
+// The masses of a store with no work left, under a convention.
+pub fn report(f: &[f64], w: &[u32], v: Convention) -> Reported
+    ensures { λ r. ⌜ outcome (reportRead r) [] ≡ readStep width (now (f .entry)) (now (w .entry)) (Readings.report v) ⌝ }
+{
+    match check_read(f, w, true) {
+        Checked::Failed(r) => Reported::Refused(r),
+        Checked::Passed => {
+            let faces = word(w, 1);
+            let mass = mass_report(v, f, w, word(w, 0), faces);
+            let filled = count_filled(w, faces) as u32;
+            let pieces = count_pieces(w, faces) as u32;
+            let error = worst_error(f, w, faces);
+            Reported::Report {
+                mass,
+                filled,
+                pieces,
+                error,
+            }
+        }
+    }
+}

@@ -1,0 +1,103 @@
+// Sums over the pieces of a sound store, the filled places in order.
+ghost use mathlib.Core.Path.{_≡_};
+ghost use Prim.Native.Nat.{_-_, _≤_, _<_};
+ghost use lib.ListN.{length};
+ghost use Rattle.base.specs.Floats.{+0};
+ghost use Rattle.layout.specs.Layout.{width, slotLimit, pieceLimit, coordsFrom, statusOf};
+ghost use Rattle.layout.specs.SoundLaws.{Worded};
+ghost use Rattle.readings.specs.Readings.{bare, heldPart, heldAt, heldAll, rescaled, origin};
+ghost use Rattle.readings.specs.Folds.{fold, scaledStep, originStep, massStep};
+use crate::held::piece_at;
+use crate::held::rescale;
+use advance::left::pieces;
+use density::densitize::density_of;
+use layout::offsets::PIECE;
+use layout::offsets::PIECES_SIZE;
+use layout::offsets::SLOTS;
+use layout::offsets::STATE;
+use layout::offsets::WIDTH;
+
+// The density at x with the first `count` pieces of place i added, by a scale.
+fn slot_density(f: &[f64], i: usize, count: usize, s: f64, x: [f64; 3], start: f64) -> f64
+    requires { ⌜ (coordsFrom ≤ length (now f)) × (i < slotLimit) × (count ≤ pieceLimit) ⌝ }
+    ensures { λ r. ⌜ r ≡ fold (scaledStep s x) (heldAt (now (f .entry)) i count) start ⌝ }
+{
+    let mut rho = start;
+    let mut j: usize = 0;
+    while j < count {
+        rho += density_of(rescale(piece_at(f, i, j), s), x);
+        j += 1;
+    }
+    rho
+}
+
+// The density at x of all pieces, by a scale.
+pub fn density_sum(f: &[f64], w: &[u32], faces: usize, s: f64, x: [f64; 3]) -> f64
+    requires { ⌜ coordsFrom ≤ length (now f) ⌝ ∗ ⌜ Worded width (now w) faces ⌝ }
+    ensures { λ r. ⌜ r ≡ fold (scaledStep s x) (heldAll width (now (f .entry)) (now (w .entry)) slotLimit) +0 ⌝ }
+{
+    let mut rho = 0.0;
+    let mut i: usize = 0;
+    while i < SLOTS {
+        rho = slot_density(f, i, pieces(w[STATE + WIDTH * i]), s, x, rho);
+        i += 1;
+    }
+    rho
+}
+
+// The density at the origin with the first `count` pieces of place i added, their weights as they are.
+fn slot_origin(f: &[f64], i: usize, count: usize, start: f64) -> f64
+    requires { ⌜ (coordsFrom ≤ length (now f)) × (i < slotLimit) × (count ≤ pieceLimit) ⌝ }
+    ensures { λ r. ⌜ r ≡ fold originStep (heldAt (now (f .entry)) i count) start ⌝ }
+{
+    let mut rho = start;
+    let mut j: usize = 0;
+    while j < count {
+        rho += density_of(piece_at(f, i, j), [0.0, 0.0, 0.0]);
+        j += 1;
+    }
+    rho
+}
+
+// The density at the origin of all pieces.
+pub fn origin_density(f: &[f64], w: &[u32], faces: usize) -> f64
+    requires { ⌜ coordsFrom ≤ length (now f) ⌝ ∗ ⌜ Worded width (now w) faces ⌝ }
+    ensures { λ r. ⌜ r ≡ fold originStep (heldAll width (now (f .entry)) (now (w .entry)) slotLimit) +0 ⌝ }
+{
+    let mut rho = 0.0;
+    let mut i: usize = 0;
+    while i < SLOTS {
+        rho = slot_origin(f, i, pieces(w[STATE + WIDTH * i]), rho);
+        i += 1;
+    }
+    rho
+}
+
+// The mass with the first `count` pieces of place i added.
+fn slot_mass(f: &[f64], i: usize, count: usize, start: f64) -> f64
+    requires { ⌜ (coordsFrom ≤ length (now f)) × (i < slotLimit) × (count ≤ pieceLimit) ⌝ }
+    ensures { λ r. ⌜ r ≡ fold massStep (heldAt (now (f .entry)) i count) start ⌝ }
+{
+    let mut total = start;
+    let mut j: usize = 0;
+    while j < count {
+        let k = piece_at(f, i, j);
+        total += k.w * f[PIECE + PIECES_SIZE * i + 3 * j + 2];
+        j += 1;
+    }
+    total
+}
+
+// The mass of all pieces, by the volumes that the store holds.
+pub fn raw_mass(f: &[f64], w: &[u32], faces: usize) -> f64
+    requires { ⌜ coordsFrom ≤ length (now f) ⌝ ∗ ⌜ Worded width (now w) faces ⌝ }
+    ensures { λ r. ⌜ r ≡ fold massStep (heldAll width (now (f .entry)) (now (w .entry)) slotLimit) +0 ⌝ }
+{
+    let mut total = 0.0;
+    let mut i: usize = 0;
+    while i < SLOTS {
+        total = slot_mass(f, i, pieces(w[STATE + WIDTH * i]), total);
+        i += 1;
+    }
+    total
+}

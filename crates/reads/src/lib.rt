@@ -1,8 +1,0 @@
-// The readings of a store: density, report and list. No exported reading has a `requires`, and none changes the store.
-pub mod at_point;
-pub mod counts;
-pub mod held;
-pub mod listing;
-pub mod lists;
-pub mod reports;
-pub mod sums;
