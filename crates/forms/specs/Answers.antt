@@ -21,13 +21,13 @@ clearAnswer = say "(clear " (u32 (say ")" end))
 abbrev pub reweighAnswer : Form
 reweighAnswer = say "(reweigh " (u32 (say ")" end))
 
--- "the first seven in `MassReport` order", and then
-abbrev pub masses : Form → Form
-masses f = say "(report " (three (say " " (three (say " " (real f)))))
+-- the report's counts and error, after its masses
+abbrev pub counts : Form
+counts = say " (kernels " (u32 (say ") (pieces " (u32 (say ") (error " (real (say "))" end))))))
 
--- "(report h h h h h h h (kernels N) (pieces N) (error h))"
+-- "(report h h h h h h h (kernels N) (pieces N) (error h))", "the first seven in `MassReport` order"
 abbrev pub reportAnswer : Form
-reportAnswer = masses (say " (kernels " (u32 (say ") (pieces " (u32 (say ") (error " (real (say "))" end)))))))
+reportAnswer = say "(report " (three (say " " (three (say " " (real counts)))))
 
 -- "any refusal (no N)"
 abbrev pub noAnswer : Form

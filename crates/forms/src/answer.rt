@@ -1,10 +1,12 @@
-// The program's answers, each written as a line without its newline at a position of a run with room for 256 bytes from there; each
-// answers the position after it, and leaves all other words as they were.
+// The program's answers, each written as a line without its newline at a position of a run; each answers the position after it, and
+// leaves all other words as they were. These functions are internal (each has a `requires`): a line wants room for 256 bytes from its
+// position, and takes 255 at most.
 ghost use Prim.Native.Nat.{_+_, _≤_};
 ghost use lib.ListN.{length};
 ghost use Rattle.text.specs.Print.{Wrote};
-ghost use Rattle.text.specs.Form.{print, _&_};
-ghost use Rattle.forms.specs.Answers.{openAnswer, putAnswer, densityAnswer, advanceAnswer, clearAnswer, reweighAnswer, noAnswer};
+ghost use Rattle.text.specs.Form.{end, print, three, _&_};
+ghost use Rattle.forms.specs.Answers.{openAnswer, putAnswer, densityAnswer, advanceAnswer, clearAnswer, reweighAnswer, counts, reportAnswer, noAnswer};
+use density::report::MassReport;
 use text::write::write_bytes;
 use text::write::write_decimal;
 use text::write::write_float;
@@ -81,6 +83,56 @@ pub fn write_reweigh(out: &mut [u8], at: usize, place: u32) -> usize
     let a = write_bytes(out, at, b"(reweigh ");
     let b = write_decimal(out, a, place as u64);
     write_bytes(out, b, b")")
+}
+
+// h h h
+fn write_three(out: &mut [u8], at: usize, x: f64, y: f64, z: f64) -> usize
+    requires { ⌜ at + 50 ≤ length (now out) ⌝ }
+    ensures { λ r. ⌜ r ≤ at + 50 ⌝ }
+    ensures { λ r. ⌜ Wrote (now (out .entry)) at (print (three end) (x & y & z & tt)) r (now (out .exit)) ⌝ }
+{
+    let a = write_float(out, at, x);
+    let b = write_bytes(out, a, b" ");
+    let c = write_float(out, b, y);
+    let d = write_bytes(out, c, b" ");
+    write_float(out, d, z)
+}
+
+// The end of a report: (kernels N) (pieces N) (error h)) after a space.
+fn write_counts(out: &mut [u8], at: usize, kernels: u32, pieces: u32, error: f64) -> usize
+    requires { ⌜ at + 87 ≤ length (now out) ⌝ }
+    ensures { λ r. ⌜ r ≤ at + 87 ⌝ }
+    ensures { λ r. ⌜ Wrote (now (out .entry)) at (print counts (kernels & pieces & error & tt)) r (now (out .exit)) ⌝ }
+{
+    let a = write_bytes(out, at, b" (kernels ");
+    let b = write_decimal(out, a, kernels as u64);
+    let c = write_bytes(out, b, b") (pieces ");
+    let d = write_decimal(out, c, pieces as u64);
+    let e = write_bytes(out, d, b") (error ");
+    let f = write_float(out, e, error);
+    write_bytes(out, f, b"))")
+}
+
+// (report h h h h h h h (kernels N) (pieces N) (error h))
+pub fn write_report(
+    out: &mut [u8],
+    at: usize,
+    m: MassReport,
+    kernels: u32,
+    pieces: u32,
+    error: f64,
+) -> usize
+    requires { ⌜ at + 256 ≤ length (now out) ⌝ }
+    ensures { λ r. ⌜ r ≤ at + 255 ⌝ }
+    ensures { λ r. ⌜ Wrote (now (out .entry)) at (print reportAnswer (m .«raw_mass» & m .«rho0_scale» & m .«rho0_mass» & m .«applied_scale» & m .«applied_mass» & m .«target_mass» & m .volume & kernels & pieces & error & tt)) r (now (out .exit)) ⌝ }
+{
+    let a = write_bytes(out, at, b"(report ");
+    let b = write_three(out, a, m.raw_mass, m.rho0_scale, m.rho0_mass);
+    let c = write_bytes(out, b, b" ");
+    let d = write_three(out, c, m.applied_scale, m.applied_mass, m.target_mass);
+    let e = write_bytes(out, d, b" ");
+    let f = write_float(out, e, m.volume);
+    write_counts(out, f, kernels, pieces, error)
 }
 
 // (no N)
