@@ -1,5 +1,4 @@
 pub mod Dunavant
-pub mod Radial
 pub mod Volume
 pub mod Centroid
 pub mod Total

@@ -2,6 +2,5 @@
 pub mod calls;
 pub mod centroid;
 pub mod dunavant;
-pub mod radial;
 pub mod total;
 pub mod volume;

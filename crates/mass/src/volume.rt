@@ -14,7 +14,6 @@ use crate::dunavant::OUTER_TWO;
 use crate::dunavant::OUTER_WEIGHT;
 use crate::dunavant::THIRD;
 use crate::dunavant::point_of;
-use crate::radial::radial_g;
 use mesh::triangles::Triangle;
 use mesh::triangles::triangle_at;
 use mesh::vectors::V3;
@@ -22,6 +21,7 @@ use mesh::vectors::cross;
 use mesh::vectors::dot;
 use mesh::vectors::norm;
 use mesh::vectors::sub;
+use radial::radial_g;
 
 // The normal of a triangle, as long as twice its area.
 pub fn normal_of(t: Triangle) -> V3
