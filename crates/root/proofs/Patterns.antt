@@ -117,34 +117,34 @@ pub any-root : (x : Float) (b d a : ℕ) → T (fits binary64 x) → (b ≡ 0) �
 any-root x b d a f o h e r = root-at x b a f o (h .0) (h .1) (subst (λ (z : ℕ). Rounded z a) (e ∙ ap (λ (z : ℕ). z * 2 ^ bitAnd (b / 2 ^ 52 + 51) 1) (guessed b) ∙ ap (λ (z : ℕ). (2 ^ 52 + b % 2 ^ 52) * 2 ^ z) (low-bit (b / 2 ^ 52 + 51))) r)
 
 -- ---- from 1 to 2, where d is the pattern without that of 2 ^ -1
-pub unit-least : (d a : ℕ) → 2 ^ 52 ≤ a → Rounded d a → 2 ^ 52 ≤ d
+unit-least : (d a : ℕ) → 2 ^ 52 ≤ a → Rounded d a → 2 ^ 52 ≤ d
 unit-least d a l r = go (mul-le-mul-right a l) (r .above)
   where
     go : 2 ^ 52 * a ≤ a * a → a * a < d * 2 ^ 52 + a → 2 ^ 52 ≤ d
     go h k = omega arith
 
-pub unit-most : (d a u : ℕ) → a ≤ 2 ^ 53 → Rounded d a → u < 2 ^ 64 → (u + d) % 2 ^ 64 ≡ 2 ^ 53 → u / 2 ^ 63 ≡ 0 → d ≤ 2 ^ 53
-unit-most d a u m r s e z = go (mul-le-mul m m) (r .below)
+unit-most : (d a u : ℕ) → a ≤ 2 ^ 53 → Rounded d a → (u + d) % 2 ^ 64 ≡ 2 ^ 53 → u < 2 ^ 63 → d ≤ 2 ^ 53
+unit-most d a u m r e z = go (mul-le-mul m m) (r .below)
   where
     go : a * a ≤ 2 ^ 53 * 2 ^ 53 → d * 2 ^ 52 ≤ a * a + a → d ≤ 2 ^ 53
     go h k = let w : d < 2 ^ 55 = omega arith in omega arith
 
-pub unit-root : (x : Float) (b d a : ℕ) → T (fits binary64 x) → (b ≡ 0) ⊎ (b ≡ toBits binary64 x) → (d + 4602678819172646912) % 2 ^ 64 ≡ b → 2 ^ 52 ≤ d → d ≤ 2 ^ 53 → Rounded d a → ofBits binary64 (4602678819172646912 + a) ≡ squareRoot binary64 x
-unit-root x b d a f o e l m r = elim (eq-or-lt-of-le m) [
-  | inl k ↦ at-two k
-  | inr k ↦ under-two k
-]
-  where
-    at-two : d ≡ 2 ^ 53 → ofBits binary64 (4602678819172646912 + a) ≡ squareRoot binary64 x
-    at-two k =
-        let q : b ≡ 1024 * 2 ^ 52 = omega arith in
-        root-at x (1024 * 2 ^ 52) a f (subst (λ (z : ℕ). (z ≡ 0) ⊎ (z ≡ toBits binary64 x)) q o) (le-of-lt (lit< tt)) (lit< tt) (subst (λ (z : ℕ). Rounded z a) k r)
+at-two : (x : Float) (b d a : ℕ) → T (fits binary64 x) → (b ≡ 0) ⊎ (b ≡ toBits binary64 x) → (d + 4602678819172646912) % 2 ^ 64 ≡ b → d ≡ 2 ^ 53 → Rounded d a → ofBits binary64 (4602678819172646912 + a) ≡ squareRoot binary64 x
+at-two x b d a f o e k r =
+    let q : b ≡ 1024 * 2 ^ 52 = omega arith in
+    root-at x (1024 * 2 ^ 52) a f (subst (λ (z : ℕ). (z ≡ 0) ⊎ (z ≡ toBits binary64 x)) q o) (le-of-lt (lit< tt)) (lit< tt) (subst (λ (z : ℕ). Rounded z a) k r)
 
-    under-two : d < 2 ^ 53 → ofBits binary64 (4602678819172646912 + a) ≡ squareRoot binary64 x
-    under-two k =
-        let q : b / 2 ^ 52 ≡ 1023 = omega arith in
-        let s : d ≡ 2 ^ 52 + b % 2 ^ 52 = omega arith in
-        let l' : 2 ^ 52 ≤ b = omega arith in
-        let h' : b < 9218868437227405312 = omega arith in
-        subst (λ (z : ℕ). ofBits binary64 (((z + 51) / 2 + 485) * 2 ^ 52 % 2 ^ 64 + a) ≡ squareRoot binary64 x) q
-        (root-at x b a f o l' h' (subst (λ (z : ℕ). Rounded ((2 ^ 52 + b % 2 ^ 52) * 2 ^ ((z + 51) % 2)) a) (sym q) (subst (λ (z : ℕ). Rounded z a) (s ∙ sym (mul-one (2 ^ 52 + b % 2 ^ 52))) r)))
+under-two : (x : Float) (b d a : ℕ) → T (fits binary64 x) → (b ≡ 0) ⊎ (b ≡ toBits binary64 x) → (d + 4602678819172646912) % 2 ^ 64 ≡ b → 2 ^ 52 ≤ d → d < 2 ^ 53 → Rounded d a → ofBits binary64 (4602678819172646912 + a) ≡ squareRoot binary64 x
+under-two x b d a f o e l k r =
+    let q : b / 2 ^ 52 ≡ 1023 = omega arith in
+    let s : d ≡ 2 ^ 52 + b % 2 ^ 52 = omega arith in
+    let l' : 2 ^ 52 ≤ b = omega arith in
+    let h' : b < 9218868437227405312 = omega arith in
+    subst (λ (z : ℕ). ofBits binary64 (((z + 51) / 2 + 485) * 2 ^ 52 % 2 ^ 64 + a) ≡ squareRoot binary64 x) q
+    (root-at x b a f o l' h' (subst (λ (z : ℕ). Rounded ((2 ^ 52 + b % 2 ^ 52) * 2 ^ ((z + 51) % 2)) a) (sym q) (subst (λ (z : ℕ). Rounded z a) (s ∙ sym (mul-one (2 ^ 52 + b % 2 ^ 52))) r)))
+
+pub unit-root : (x : Float) (b d a u : ℕ) → T (fits binary64 x) → (b ≡ 0) ⊎ (b ≡ toBits binary64 x) → (d + 4602678819172646912) % 2 ^ 64 ≡ b → 2 ^ 52 ≤ a → a ≤ 2 ^ 53 → (u + d) % 2 ^ 64 ≡ 2 ^ 53 → u < 2 ^ 63 → Rounded d a → ofBits binary64 (4602678819172646912 + a) ≡ squareRoot binary64 x
+unit-root x b d a u f o e l m i j r = elim (eq-or-lt-of-le (unit-most d a u m r i j)) [
+  | inl k ↦ at-two x b d a f o e k r
+  | inr k ↦ under-two x b d a f o e (unit-least d a l r) k r
+]

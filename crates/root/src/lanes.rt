@@ -21,10 +21,11 @@ pub struct Lane {
     pub flag: u64,
 }
 
-// The digits of a root, which hold where the flag is 0.
+// The digits of a root, which hold where coarse is below 2^37 and far below 2^63.
 struct Checked {
     digits: u64,
-    flag: u64,
+    coarse: u64,
+    far: u64,
 }
 
 // The greater of x and the least; the least for a NaN.
@@ -50,10 +51,10 @@ fn digits(s: f64) -> u64
 }
 
 // Whether g or g + 1 is the root of d * 2^52, rounded, by the sign of what is left of d * 2^52 without
-// g * g. It is worked out modulo 2^64; the flag is 0 if nothing was lost and if it is one of the two.
+// g * g. That is worked out modulo 2^64: coarse tells if anything was lost, far if it is neither.
 fn check(d: u64, g: u64) -> Checked
     requires { ⌜ (2 ^ 52 ≤ g) × (g < 2 ^ 53) ⌝ }
-    ensures { λ r. ⌜ (2 ^ 52 ≤ r .digits) × (r .digits ≤ 2 ^ 53) × (r .flag ≡ 0 → Rounded d (r .digits)) ⌝ }
+    ensures { λ r. ⌜ (2 ^ 52 ≤ r .digits) × (r .digits ≤ 2 ^ 53) × (r .coarse < 2 ^ 37 → r .far < 2 ^ 63 → Rounded d (r .digits)) ⌝ }
 {
     let h = g >> 26;
     let l = g & 0x3FF_FFFF;
@@ -61,12 +62,19 @@ fn check(d: u64, g: u64) -> Checked
     let b = std::num::wrapping_sub_u64(a << 26, 2 * (h * l));
     let rest = std::num::wrapping_sub_u64(b << 26, l * l);
     let short = std::num::wrapping_sub_u64(g, rest);
-    let coarse = a | std::num::wrapping_add_u64(b, 0x10_0000_0000);
-    let far = std::num::wrapping_add_u64(rest, g - 1) | std::num::wrapping_add_u64(short, 2 * g + 1);
     Checked {
         digits: g + (short >> 63),
-        flag: (coarse >> 37) | (far >> 63),
+        coarse: a | std::num::wrapping_add_u64(b, 0x10_0000_0000),
+        far: std::num::wrapping_add_u64(rest, g - 1) | std::num::wrapping_add_u64(short, 2 * g + 1),
     }
+}
+
+// One flag of both; the one shift is after all words are or-ed, since LLVM makes a comparison of a shift
+// of one, which SSE2 has not.
+fn joined(coarse: u64, far: u64) -> u64
+    ensures { λ r. ⌜ (r ≡ 0 → (coarse < 2 ^ 37) × (far < 2 ^ 63)) ⌝ }
+{
+    (coarse >> 37) | (far >> 63)
 }
 
 // sig * 2^odd. SSE2 has no shift by a count of each lane's own.
@@ -77,12 +85,12 @@ fn doubled(sig: u64, odd: u64) -> u64
     sig + (sig & std::num::wrapping_sub_u64(0, odd))
 }
 
-// 0 for the patterns of normal values above zero.
+// Below 2^63 for the patterns of normal values above zero.
 fn not_normal(b: u64) -> u64
     requires { ⌜ b ≤ 9218868437227405312 ⌝ }
-    ensures { λ r. ⌜ (r ≡ 0 → (2 ^ 52 ≤ b) × (b < 9218868437227405312)) ⌝ }
+    ensures { λ r. ⌜ (r < 2 ^ 63 → (2 ^ 52 ≤ b) × (b < 9218868437227405312)) ⌝ }
 {
-    (std::num::wrapping_sub_u64(b, 0x10_0000_0000_0000) | (b + 0x10_0000_0000_0000)) >> 63
+    std::num::wrapping_sub_u64(b, 0x10_0000_0000_0000) | (b + 0x10_0000_0000_0000)
 }
 
 // The root of x, if s is near the root of x's significand, that of `sharpen`.
@@ -95,7 +103,7 @@ pub fn any_lane(x: f64, s: f64) -> Lane
     let a = check(doubled(sig, ex & 1), digits(s));
     Lane {
         root: f64::from_bits((((ex >> 1) + 485) << 52) + a.digits),
-        flag: a.flag | not_normal(b),
+        flag: joined(a.coarse, a.far | not_normal(b)),
     }
 }
 
@@ -107,7 +115,7 @@ pub fn unit_lane(f: f64, s: f64) -> Lane
     let a = check(d, digits(s));
     Lane {
         root: f64::from_bits((1022 << 52) + a.digits),
-        flag: a.flag | (std::num::wrapping_sub_u64(1 << 53, d) >> 63),
+        flag: joined(a.coarse, a.far | std::num::wrapping_sub_u64(1 << 53, d)),
     }
 }
 

@@ -1,11 +1,12 @@
 -- `root::lanes::any_lane` meets its contract. Assumes nothing.
 use mathlib.Core.Path.{_≡_, sym, subst}
 use Prim.Native.Nat.{ℕ, _+_, _-_, _*_, _/_, _%_, _^_, _≤_, _<_}
+use native.Mathlib.Nat.{lt-of-le-of-lt}
 use native.Mathlib.Omega.{arith}
 use lib.Dec.{T}
 use borrow.Author.Needs.{needs}
 use Rattle.base.specs.FloatLaws.{no-nan-below}
-use Rattle.root.specs.Flags.{or-zero}
+use Rattle.root.specs.Flags.{or-most}
 use Rattle.root.proofs.Confirms.{guessed}
 use Rattle.root.proofs.Assemble.{low-bit}
 use Rattle.root.proofs.Patterns.{any-root}
@@ -18,10 +19,13 @@ small b a h k = omega arith
 
 returns : tie.Need-returns
 returns c z =
-    let a = c .before .before .before .check in
-    let p = c .before .before .before .before .before .before .pattern in
-    let k = or-zero (a .result .flag) (c .before .not-normal .result) z in
-    any-root (c .before .before .before .before .before .before .before .args .x) (p .result) (c .before .before .before .before .before .doubled .result) (a .result .digits) (subst T (sym (c .before .before .before .before .before .before .before .good .0 .1)) tt) (p .ensures .1) (c .before .not-normal .ensures (k .1)) (c .before .before .before .before .before .doubled .ensures) (a .ensures .2 (k .0))
+    let a = c .before .before .before .before .check in
+    let d = c .before .before .before .before .before .before .doubled in
+    let p = c .before .before .before .before .before .before .before .pattern in
+    let n = c .before .before .not-normal in
+    let k = c .joined .ensures z in
+    let m = or-most (a .result .far) (n .result) in
+    any-root (c .before .before .before .before .before .before .before .before .args .x) (p .result) (d .result) (a .result .digits) (subst T (sym (c .before .before .before .before .before .before .before .before .good .0 .1)) tt) (p .ensures .1) (n .ensures (lt-of-le-of-lt (m .1) (k .1))) (d .ensures) (a .ensures .2 (k .0) (lt-of-le-of-lt (m .0) (k .1)))
 
 pub any-lane-spec : {M : Type 1} → statement M
 any-lane-spec =
@@ -36,4 +40,5 @@ any-lane-spec =
     (λ c. omega (arith, c .before .check .ensures .1))
     (λ c. no-nan-below (((c .before .before .before .before .pattern .result / 2 ^ 52 + 51) / 2 + 485) * 2 ^ 52 % 2 ^ 64 + c .before .check .result .digits) (small (c .before .before .before .before .pattern .result) (c .before .check .result .digits) (c .before .before .before .before .pattern .ensures .0) (c .before .check .ensures .1)))
     (λ c κs. c .before .before .before .before .pattern .ensures .0)
+    (λ c κs. search needs)
     returns)
