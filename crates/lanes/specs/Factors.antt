@@ -12,6 +12,10 @@ use Rattle.radial.specs.Radial.{radialG}
 abbrev pub factor : Float → Float → Float
 factor sigma x = radialG (sigma ⊗ squareRoot binary64 x)
 
+-- p of each of the 28 elements of ys, with its place
+pub record All (p : ℕ → Float → Type 0) (ys : List Float) : Type 0 where
+  pub at : (i : ℕ) → i < 28 → p i (getD ys i nan)
+
 -- each of the 28 elements of ys is f of the element of xs at its place
-pub record Each (f : Float → Float) (xs ys : List Float) : Type 0 where
-  pub at : (i : ℕ) → i < 28 → getD ys i nan ≡ f (getD xs i nan)
+abbrev pub Each : (Float → Float) → List Float → List Float → Type 0
+Each f xs ys = All (λ i y. y ≡ f (getD xs i nan)) ys

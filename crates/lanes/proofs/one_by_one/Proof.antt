@@ -5,7 +5,7 @@ use lib.ListN.{getD}
 use lib.Ieee.{Float, nan}
 use borrow.Author.Needs.{needs}
 use Rattle.lanes.specs.Factors.{factor}
-use Rattle.lanes.proofs.Filling.{Filled, none-filled, fills}
+use Rattle.lanes.proofs.Filling.{Filled, none-filled, fills, all-filled}
 use Rattle.lanes.proofs.one_by_one.Statement.{statement}
 use Rattle.lanes.proofs.one_by_one.Tie as tie
 
@@ -19,10 +19,10 @@ loop-holds : tie.Need-loop-holds Inv-loop μ-loop
 loop-holds c = none-filled (c .before .before .args .g .now) (search needs)
 
 loop-again : tie.Need-loop-again Inv-loop μ-loop
-loop-again c = fills (c .before .before .before .before .loop .inv) (search needs) (λ j z e. e) cc
+loop-again c = fills (c .before .before .before .before .loop .inv) (search needs) cc
 
 returns : tie.Need-returns Inv-loop μ-loop
-returns c = record { at = λ i h. c .before .loop .inv .done i (search needs) }
+returns c = all-filled (c .before .loop .inv) (search needs)
 
 pub one-by-one-spec : {M : Type 1} → statement M
 one-by-one-spec =
