@@ -1,6 +1,6 @@
 pub mod Dunavant
-pub mod Radial
 pub mod Volume
+pub mod Block
 pub mod Centroid
 pub mod Total
 pub mod Calls

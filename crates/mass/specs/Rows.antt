@@ -6,7 +6,7 @@ use Rattle.base.specs.Floats.{+0, abs}
 use Rattle.base.specs.Loops.{times}
 use Rattle.mesh.specs.declared.vectors.V3.{V3}
 use Rattle.mesh.specs.declared.triangles.Triangle.{Triangle}
-use Rattle.mass.specs.Radial.{seriesOf, radialG}
+use Rattle.radial.specs.Radial.{seriesOf, radialG}
 use Rattle.mass.specs.Volume.{volumeTo, kernelVolume}
 use Rattle.mass.specs.Centroid.{origin, momentTo, centred, volumeCentroid}
 use Rattle.mass.specs.Dunavant.{third}

@@ -10,7 +10,7 @@ use Rattle.mesh.specs.declared.triangles.Triangle.{Triangle}
 use Rattle.mesh.specs.Vectors.{vsub, dot, cross, norm}
 use Rattle.mass.specs.declared.dunavant.Node.{Node}
 use Rattle.mass.specs.Dunavant.{row, node, pointOf}
-use Rattle.mass.specs.Radial.{radialG}
+use Rattle.radial.specs.Radial.{radialG}
 
 -- the raw normal: cross(p1 - p0, p2 - p1)
 unfoldable pub normalOf : Triangle → V3

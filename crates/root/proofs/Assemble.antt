@@ -1,21 +1,22 @@
 -- The last line of `root`, on plain values: the pattern that it makes is that of the square root. Assumes nothing.
 use mathlib.Core.Path.{_≡_, sym, ap, _∙_, subst}
 use Prim.Native.Nat.{ℕ, suc, _+_, _-_, _*_, _/_, _%_, _^_, _≤_, _<_}
-use native.Mathlib.Nat.{le-trans, le-of-eq, lt-of-lt-of-le, le-of-lt, le-of-suc-le-suc, mod-eq-of-lt, mul-one, mul-le-mul-left, mul-lt-mul-of-pos-right}
+use native.Mathlib.Nat.{le-trans, le-of-eq, lt-of-lt-of-le, le-of-lt, le-of-suc-le-suc, mod-eq-of-lt, mul-one, mul-pos, lt-irrefl, eq-zero-or-pos, mul-le-mul-left, mul-lt-mul-of-pos-right}
 use native.Mathlib.Omega.{arith}
 use mathlib.Core.Bool.{false}
-use lib.Dec.{lit<}
+use mathlib.Core.Logic.{inl, inr}
+use lib.Dec.{T, lit<}
 use lib.Bits.{bitAnd, and-mask}
 use lib.Pow.{pow-mono, pow-pos}
-use lib.Ieee.{binary64, ofBits}
+use lib.Ieee.{Float, binary64, ofBits, toBits, fits}
 use lib.Ieee.Bits.{ofBits-toBits}
 use lib.Ieee.Exact.{HasValue}
-use Rattle.base.specs.Split.{Scaled}
-use Rattle.base.specs.UnitLaws.{value-bits}
-use Rattle.root.specs.Root.{rootUnits, floorRoot, Rounded}
+use Rattle.base.specs.Split.{Scaled, unitsAt}
+use Rattle.base.specs.UnitLaws.{value-bits, own-units}
+use Rattle.root.specs.Root.{squareRoot, rootUnits, floorRoot, Rounded}
 use Rattle.root.specs.Floors.{IsRoot, floorRoot-is}
 use Rattle.root.proofs.Confirms.{rounded-is}
-use Rattle.root.specs.Rounds.{root-value, root-fits, radicand, doubled-least, doubled-most, digits-least, digits-most, half-least, half-most}
+use Rattle.root.specs.Rounds.{root-value, root-fits, root-of-value, radicand, doubled-least, doubled-most, digits-least, digits-most, half-least, half-most}
 
 pub low-bit : (n : ℕ) → bitAnd n 1 ≡ n % 2
 low-bit n = and-mask n 1
@@ -63,3 +64,16 @@ module _ (n sig ex a : ℕ) (s : Scaled n sig ex) (r : Rounded (sig * 2 ^ (ex % 
     where
       place : ex ≤ 2097 → (ex / 2 + 485) * 2 ^ 52 % 2 ^ 64 ≡ suc (ex / 2 + 484) * 2 ^ 52
       place h = omega arith
+
+-- a significand's number of units is not 0
+some-units : (n sig ex : ℕ) → Scaled n sig ex → 0 < n
+some-units n sig ex s = elim (eq-zero-or-pos n) [
+  | inl e ↦ absurd (lt-irrefl 0 (lt-of-lt-of-le (mul-pos (lt-of-lt-of-le (pow-pos 52) (s .least)) (pow-pos ex)) (le-of-eq (s .value ∙ ap (λ (z : ℕ). z * 2 ^ 52) e))))
+  | inr h ↦ h
+]
+
+-- the root of x, from the parts of x's pattern b
+pub root-made : (x : Float) (b sig ex a : ℕ) → T (fits binary64 x) → b ≡ toBits binary64 x → b < 9218868437227405312 → Scaled (unitsAt b) sig ex → Rounded (sig * 2 ^ (ex % 2)) a → ofBits binary64 ((ex / 2 + 485) * 2 ^ 52 % 2 ^ 64 + a) ≡ squareRoot binary64 x
+root-made x b sig ex a f e h s r =
+    let v : HasValue x false (unitsAt b) (2 ^ 1074) = subst (λ (z : ℕ). HasValue x false (unitsAt z) (2 ^ 1074)) (sym e) (own-units x f (subst (λ (z : ℕ). z < 9218868437227405312) e h)) in
+    made (unitsAt b) sig ex a s r ∙ sym (root-of-value x (unitsAt b) v (some-units (unitsAt b) sig ex s))

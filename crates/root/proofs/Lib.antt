@@ -1,3 +1,5 @@
 pub mod Steps
 pub mod Confirms
+pub mod Checks
 pub mod Assemble
+pub mod Patterns

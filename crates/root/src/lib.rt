@@ -6,6 +6,7 @@ ghost use Prim.Native.Nat.{ℕ, _+_, _*_, _^_, _≤_, _<_};
 ghost use lib.Ieee.{binary64};
 ghost use Rattle.root.specs.Root.{squareRoot, Floor, Rounded};
 use base::split::split;
+pub mod lanes;
 
 // A whole root and what is left.
 struct Whole {

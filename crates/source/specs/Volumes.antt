@@ -17,7 +17,7 @@ use Rattle.mesh.specs.Triangles.{triangleAt, faceCount}
 use Rattle.mesh.specs.Checks.{meshCheck}
 use Rattle.mass.specs.declared.dunavant.Node.{Node}
 use Rattle.mass.specs.Dunavant.{row, node, pointOf}
-use Rattle.mass.specs.Radial.{radialGSeries}
+use Rattle.radial.specs.Radial.{radialGSeries}
 use Rattle.mass.specs.Volume.{normalOf}
 
 -- ---- `kernel_volume`

@@ -18,7 +18,6 @@ use mass::dunavant::OUTER_TWO;
 use mass::dunavant::OUTER_WEIGHT;
 use mass::dunavant::THIRD;
 use mass::dunavant::point_of;
-use mass::radial::radial_g_series;
 use mass::volume::normal_of;
 use mesh::check::check_mesh;
 use mesh::triangles::Triangle;
@@ -28,6 +27,7 @@ use mesh::vectors::dot;
 use mesh::vectors::norm;
 use mesh::vectors::sub;
 use powers::arc::arc;
+use radial::radial_g_series;
 
 // (t - atan t) / t³ from 0.1 on, else the series; so a NaN takes the series here.
 fn radial_g(t: f64) -> f64

@@ -1,6 +1,6 @@
 // The radial factor of the field whose divergence is the kernel. No function here has a `requires`.
 ghost use mathlib.Core.Path.{_≡_};
-ghost use Rattle.mass.specs.Radial.{radialGSeries, radialG};
+ghost use Rattle.radial.specs.Radial.{radialGSeries, radialG};
 use base::floats::abs;
 use powers::arc::arc;
 

@@ -1,12 +1,12 @@
--- `mass::radial::radial_g_series` meets its contract: a counting loop over sum and term. Assumes nothing.
+-- `radial_g_series` meets its contract: a counting loop over sum and term. Assumes nothing.
 use mathlib.Core.Path.{ap}
 use Prim.Native.Nat.{_-_}
 use native.Mathlib.Omega.{arith}
 use borrow.Author.Needs.{needs}
 use Rattle.base.specs.LoopLaws.{Left, start, goes, ended}
-use Rattle.mass.specs.Radial.{Series, seriesStep, seriesOf}
-use Rattle.mass.proofs.radial.radial_g_series.Statement.{statement}
-use Rattle.mass.proofs.radial.radial_g_series.Tie as tie
+use Rattle.radial.specs.Radial.{Series, seriesStep, seriesOf}
+use Rattle.radial.proofs.radial_g_series.Statement.{statement}
+use Rattle.radial.proofs.radial_g_series.Tie as tie
 
 abbrev Inv-loop : tie.InvT-loop
 Inv-loop t t2 acc₀ term₀ k₀ acc term k = Left (seriesStep t) 10 k (record { acc = acc; term = term }) (seriesOf t)

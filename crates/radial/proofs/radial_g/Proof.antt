@@ -1,8 +1,8 @@
--- `mass::radial::radial_g` meets its contract: its test decides between series and quotient. Assumes nothing.
+-- `radial_g` meets its contract: its test decides between series and quotient. Assumes nothing.
 use borrow.Author.Needs.{needs}
-use Rattle.mass.specs.Radial.{radialG}
-use Rattle.mass.proofs.radial.radial_g.Statement.{statement}
-use Rattle.mass.proofs.radial.radial_g.Tie as tie
+use Rattle.radial.specs.Radial.{radialG}
+use Rattle.radial.proofs.radial_g.Statement.{statement}
+use Rattle.radial.proofs.radial_g.Tie as tie
 
 returns : tie.Need-returns
 unfolding radialG

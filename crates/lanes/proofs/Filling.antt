@@ -1,0 +1,61 @@
+-- A loop that sets each of 28 elements: what is shown of an element that is set, and what is kept of one that is not. Assumes nothing.
+use mathlib.Core.Path.{_≡_, refl, _∙_, subst⁻¹}
+use mathlib.Core.Logic.{inl, inr}
+use Prim.Native.Nat.{ℕ, _+_, _≤_, _<_}
+use native.Mathlib.Nat.{eq-or-lt-of-le, ne-of-lt, ne-of-gt, lt-of-lt-of-le}
+use native.Mathlib.Omega.{arith}
+use mathlib.Core.List.{List}
+use lib.ListN.{getD, set, length, length-set}
+use lib.Seq.{getD-set-same, getD-set-other}
+use lib.Bits.{bitOr}
+use lib.Ieee.{Float, nan}
+use Rattle.root.specs.Flags.{or-zero}
+use Rattle.lanes.specs.Factors.{All}
+
+-- the elements below i are set, each as P says; the others are those of the list at first
+pub record Filled (P : ℕ → Float → Type 0) (first : List Float) (i : ℕ) (ys : List Float) : Type 0 where
+  pub within : i ≤ 28
+  pub long : length ys ≡ 28
+  pub done : (j : ℕ) → j < i → P j (getD ys j nan)
+  pub kept : (j : ℕ) → i ≤ j → getD ys j nan ≡ getD first j nan
+
+pub none-filled : {P : ℕ → Float → Type 0} (ys : List Float) → length ys ≡ 28 → Filled P ys 0 ys
+none-filled ys h = record { within = omega arith; long = h; done = λ j l. absurd (omega arith); kept = λ j l. refl }
+
+pub all-filled : {P : ℕ → Float → Type 0} {first ys : List Float} {i : ℕ} → Filled P first i ys → 28 ≤ i → All P ys
+all-filled f h = record { at = λ j l. f .done j (lt-of-lt-of-le l h) }
+
+-- one more is set; what is shown of the others may become another statement that follows
+pub fills-on : {P Q : ℕ → Float → Type 0} {first ys : List Float} {i : ℕ} {y : Float} → Filled P first i ys → i < 28 → ((j : ℕ) (z : Float) → P j z → Q j z) → Q i y → Filled Q first (i + 1) (set ys i y)
+fills-on {P} {Q} {first} {ys} {i} {y} f h on q =
+    record {
+      within = omega arith;
+      long = length-set ys i y ∙ f .long;
+      done = λ j l. elim (eq-or-lt-of-le (under j l)) [
+        | inl e ↦ subst⁻¹ (λ (k : ℕ). Q k (getD (set ys i y) k nan)) e (subst⁻¹ (Q i) (getD-set-same ys i y nan (subst⁻¹ (λ (n : ℕ). i < n) (f .long) h)) q)
+        | inr g ↦ subst⁻¹ (Q j) (getD-set-other ys i j y nan (ne-of-lt g)) (on j (getD ys j nan) (f .done j g))
+      ];
+      kept = λ j l. getD-set-other ys i j y nan (ne-of-gt (over j l)) ∙ f .kept j (lower j l);
+    }
+  where
+    under : (j : ℕ) → j < i + 1 → j ≤ i
+    under j l = omega arith
+
+    over : (j : ℕ) → i + 1 ≤ j → i < j
+    over j l = omega arith
+
+    lower : (j : ℕ) → i + 1 ≤ j → i ≤ j
+    lower j l = omega arith
+
+pub fills : {P : ℕ → Float → Type 0} {first ys : List Float} {i : ℕ} {y : Float} → Filled P first i ys → i < 28 → P i y → Filled P first (i + 1) (set ys i y)
+fills f h q = fills-on f h (λ j z p. p) q
+
+-- ---- where the elements are as P says only if a flag is 0, to which each turn's own flag is or-ed
+abbrev pub If : ℕ → (ℕ → Float → Type 0) → ℕ → Float → Type 0
+If flag P j z = flag ≡ 0 → P j z
+
+pub fills-if : {P : ℕ → Float → Type 0} {first ys : List Float} {i : ℕ} {y : Float} (a b : ℕ) → Filled (If a P) first i ys → i < 28 → (b ≡ 0 → P i y) → Filled (If (bitOr a b) P) first (i + 1) (set ys i y)
+fills-if a b f h q = fills-on f h (λ j z p e. p (or-zero a b e .0)) (λ e. q (or-zero a b e .1))
+
+pub all-if : {P : ℕ → Float → Type 0} {first ys : List Float} {i : ℕ} {flag : ℕ} → Filled (If flag P) first i ys → 28 ≤ i → flag ≡ 0 → All P ys
+all-if f h e = record { at = λ j l. f .done j (lt-of-lt-of-le l h) e }

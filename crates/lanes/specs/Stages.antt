@@ -1,0 +1,32 @@
+-- What a step computes of one point, for the functions' contracts. Definitions only.
+use mathlib.Core.Path.{_≡_}
+use mathlib.Core.Bool.{true, cond}
+use lib.Ieee.{Float, binary64, lt, le}
+use Rattle.base.specs.Floats.{_⊖_, _⊗_, _⊘_, abs}
+use Rattle.base.specs.Constants.{one, halfPi, tenth}
+use Rattle.root.specs.Root.{squareRoot}
+use Rattle.powers.specs.Arc.{arcCore}
+
+-- sigma times the distance, whose square is x
+abbrev pub radius : Float → Float → Float
+radius sigma x = sigma ⊗ squareRoot binary64 x
+
+-- the quotient is taken, and no sign is asked
+abbrev pub Large : Float → Type 0
+Large t = le tenth t ≡ true
+
+-- the series is taken
+abbrev pub Small : Float → Type 0
+Small t = lt (abs t) tenth ≡ true
+
+-- of s = |t|: "v = 1/s if s > 1, else s"
+unfoldable pub inverted : Float → Float
+inverted s = cond (lt one s) (one ⊘ s) s
+
+-- "if s > 1, r = H - r"
+unfoldable pub turned : Float → Float → Float
+turned s r = cond (lt one s) (halfPi ⊖ r) r
+
+-- (t - A(t)) / t³, v being what two halvings leave of `inverted t`
+unfoldable pub quotient : Float → Float → Float
+quotient t v = (t ⊖ turned t (arcCore v)) ⊘ (t ⊗ t ⊗ t)

@@ -1,0 +1,49 @@
+// The radial factors of 28 points at once. One loop does one step of all points and has no branch,
+// so that LLVM works on two points at a time; what a step could not do is flagged, and then the
+// points are done one by one. `factors` has no `requires`; the steps take runs of 28 floats.
+ghost use mathlib.Core.Path.{_≡_};
+ghost use lib.ListN.{length};
+ghost use Rattle.lanes.specs.Factors.{Each, factor};
+use crate::arcs::arcs;
+use crate::radii::radii_of;
+use crate::series::all_series;
+use radial::radial_g;
+use root::root;
+
+pub mod arcs;
+pub mod radii;
+pub mod series;
+
+// The factors, one by one.
+fn one_by_one(x: &[f64], sigma: f64, g: &mut [f64])
+    requires { ⌜ (length (now x) ≡ 28) × (length (now g) ≡ 28) ⌝ }
+    ensures { λ _. ⌜ Each (factor sigma) (now (x .entry)) (now (g .exit)) ⌝ }
+{
+    for i in 0..28usize {
+        g[i] = radial_g(sigma * root(x[i]));
+    }
+}
+
+// The factors step by step, if the flag is 0.
+fn staged(x: &[f64], sigma: f64, t: &mut [f64], v: &mut [f64], g: &mut [f64]) -> u64
+    requires { ⌜ (length (now x) ≡ 28) × (length (now t) ≡ 28) × (length (now v) ≡ 28) × (length (now g) ≡ 28) ⌝ }
+    ensures { λ r. ⌜ (r ≡ 0 → Each (factor sigma) (now (x .entry)) (now (g .exit))) ⌝ }
+{
+    let found = radii_of(x, sigma, g, t);
+    if found.low == 0 {
+        return found.flag | arcs(t, v, g);
+    }
+    found.flag | all_series(t, g)
+}
+
+// Writes to g the radial factor of each point, x being the squares of the distances. What t and v
+// hold before and after is of no account: they are lent so that they are made once.
+pub fn factors(x: &[f64; 28], sigma: f64, t: &mut [f64; 28], v: &mut [f64; 28], g: &mut [f64; 28])
+    ensures { λ _. ⌜ Each (factor sigma) (now (x .entry)) (now (g .exit)) ⌝ }
+{
+    let flag = staged(x, sigma, t, v, g);
+    if flag == 0 {
+        return;
+    }
+    one_by_one(x, sigma, g);
+}

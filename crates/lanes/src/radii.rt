@@ -1,0 +1,66 @@
+// The radii of 28 points, from the squares of their distances: sigma times the root.
+ghost use mathlib.Core.Path.{_≡_};
+ghost use lib.ListN.{length};
+ghost use Rattle.lanes.specs.Factors.{All, Each};
+ghost use Rattle.lanes.specs.Stages.{radius, Large};
+use root::lanes::any_lane;
+use root::lanes::near;
+use root::lanes::sharpen;
+
+// What was found of the radii: they hold if the flag is 0, and all are at least 0.1 if low is 0.
+pub struct Found {
+    pub flag: u64,
+    pub low: u64,
+}
+
+// Guesses, of which nothing is promised.
+fn guess(x: &[f64], y: &mut [f64])
+    requires { ⌜ (length (now x) ≡ 28) × (length (now y) ≡ 28) ⌝ }
+{
+    for i in 0..28usize {
+        y[i] = near(x[i]);
+    }
+}
+
+// Better guesses.
+fn sharpen_all(x: &[f64], y: &mut [f64])
+    requires { ⌜ (length (now x) ≡ 28) × (length (now y) ≡ 28) ⌝ }
+{
+    for i in 0..28usize {
+        y[i] = sharpen(x[i], y[i]);
+    }
+}
+
+// 0 where t is at least 0.1.
+fn not_large(t: f64) -> u64
+    ensures { λ r. ⌜ (r ≡ 0 → Large t) ⌝ }
+{
+    if t >= 0.1 { 0 } else { 1 }
+}
+
+// The radii, by the guesses y.
+fn radii(x: &[f64], y: &[f64], sigma: f64, t: &mut [f64]) -> Found
+    requires { ⌜ (length (now x) ≡ 28) × (length (now y) ≡ 28) × (length (now t) ≡ 28) ⌝ }
+    ensures { λ r. ⌜ (r .flag ≡ 0 → Each (radius sigma) (now (x .entry)) (now (t .exit))) × (r .low ≡ 0 → All (λ i z. Large z) (now (t .exit))) ⌝ }
+{
+    let mut flag = 0u64;
+    let mut low = 0u64;
+    for i in 0..28usize {
+        let p = any_lane(x[i], y[i]);
+        let r = sigma * p.root;
+        t[i] = r;
+        flag = flag | p.flag;
+        low = low | not_large(r);
+    }
+    Found { flag, low }
+}
+
+// The radii in t; y is for guesses.
+pub fn radii_of(x: &[f64], sigma: f64, y: &mut [f64], t: &mut [f64]) -> Found
+    requires { ⌜ (length (now x) ≡ 28) × (length (now y) ≡ 28) × (length (now t) ≡ 28) ⌝ }
+    ensures { λ r. ⌜ (r .flag ≡ 0 → Each (radius sigma) (now (x .entry)) (now (t .exit))) × (r .low ≡ 0 → All (λ i z. Large z) (now (t .exit))) ⌝ }
+{
+    guess(x, y);
+    sharpen_all(x, y);
+    radii(x, y, sigma, t)
+}

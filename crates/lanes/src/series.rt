@@ -1,0 +1,32 @@
+// The radial factors of 28 small radii, by the series.
+ghost use mathlib.Core.Path.{_≡_};
+ghost use lib.ListN.{length};
+ghost use Rattle.radial.specs.Radial.{radialG};
+ghost use Rattle.lanes.specs.Factors.{Each};
+ghost use Rattle.lanes.specs.Stages.{Small};
+use radial::radial_g_series;
+
+// 0 where the absolute value of t is below 0.1.
+fn not_small(t: f64) -> u64
+    ensures { λ r. ⌜ (r ≡ 0 → Small t) ⌝ }
+{
+    if t < 0.1 {
+        if t > -0.1 { 0 } else { 1 }
+    } else {
+        1
+    }
+}
+
+// The factors of the radii t, if the flag is 0.
+pub fn all_series(t: &[f64], g: &mut [f64]) -> u64
+    requires { ⌜ (length (now t) ≡ 28) × (length (now g) ≡ 28) ⌝ }
+    ensures { λ r. ⌜ (r ≡ 0 → Each radialG (now (t .entry)) (now (g .exit))) ⌝ }
+{
+    let mut flag = 0u64;
+    for i in 0..28usize {
+        let a = t[i];
+        g[i] = radial_g_series(a);
+        flag = flag | not_small(a);
+    }
+    flag
+}

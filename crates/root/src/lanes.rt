@@ -1,0 +1,174 @@
+// The square root of one lane, for loops over arrays. No function here branches, so that LLVM makes
+// such a loop two lanes at a time. Internal: for other crates' loops; `root::root` is the square root.
+//
+// Each of three loops does one step of all lanes, which is faster than one loop with the three steps:
+//   y[i] = near(x[i]);                  or near_unit, near_one
+//   y[i] = sharpen(x[i], y[i]);         or sharpen_unit
+//   p = any_lane(x[i], y[i]);           or unit_lane; p.root is used and p.flag or-ed into one word
+// If that word is 0 every p.root is the root, whatever the guesses were; else the lanes are to be done
+// anew by `root::root`. Nothing is promised of a guess, so nothing is owed of one.
+ghost use mathlib.Core.Path.{_≡_};
+ghost use mathlib.Core.Logic.{_⊎_};
+ghost use mathlib.Core.Bool.{true, not};
+ghost use Prim.Native.Nat.{ℕ, _+_, _*_, _^_, _≤_, _<_};
+ghost use lib.Dec.{T};
+ghost use lib.Ieee.{binary64, toBits, lt, isNan};
+ghost use Rattle.root.specs.Root.{squareRoot, Rounded};
+
+// A root, which holds where the flag is 0.
+pub struct Lane {
+    pub root: f64,
+    pub flag: u64,
+}
+
+// The digits of a root, which hold where coarse is below 2^37 and far below 2^63.
+struct Checked {
+    digits: u64,
+    coarse: u64,
+    far: u64,
+}
+
+// The greater of x and the least; the least for a NaN.
+fn at_least(least: f64, x: f64) -> f64
+    requires { ⌜ T (not (isNan least)) ⌝ }
+    ensures { λ r. ⌜ T (not (isNan r)) × ((r ≡ least) ⊎ ((lt least x ≡ true) × (r ≡ x))) ⌝ }
+{
+    if x > least { x } else { least }
+}
+
+// The pattern of an x above zero, else 0.
+fn pattern(x: f64) -> u64
+    ensures { λ r. ⌜ (r ≤ 9218868437227405312) × ((r ≡ 0) ⊎ (r ≡ toBits binary64 x)) ⌝ }
+{
+    f64::to_bits(at_least(0.0, x))
+}
+
+// The 53 digits of an s from 1 up to 2.
+fn digits(s: f64) -> u64
+    ensures { λ r. ⌜ (2 ^ 52 ≤ r) × (r < 2 ^ 53) ⌝ }
+{
+    (f64::to_bits(at_least(1.0, s)) & 0xF_FFFF_FFFF_FFFF) | 0x10_0000_0000_0000
+}
+
+// Whether g or g + 1 is the root of d * 2^52, rounded, by the sign of what is left of d * 2^52 without
+// g * g. That is worked out modulo 2^64: coarse tells if anything was lost, far if it is neither.
+fn check(d: u64, g: u64) -> Checked
+    requires { ⌜ (2 ^ 52 ≤ g) × (g < 2 ^ 53) ⌝ }
+    ensures { λ r. ⌜ (2 ^ 52 ≤ r .digits) × (r .digits ≤ 2 ^ 53) × (r .coarse < 2 ^ 37 → r .far < 2 ^ 63 → Rounded d (r .digits)) ⌝ }
+{
+    let h = g >> 26;
+    let l = g & 0x3FF_FFFF;
+    let a = std::num::wrapping_sub_u64(d, h * h);
+    let b = std::num::wrapping_sub_u64(a << 26, 2 * (h * l));
+    let rest = std::num::wrapping_sub_u64(b << 26, l * l);
+    let short = std::num::wrapping_sub_u64(g, rest);
+    Checked {
+        digits: g + (short >> 63),
+        coarse: a | std::num::wrapping_add_u64(b, 0x10_0000_0000),
+        far: std::num::wrapping_add_u64(rest, g - 1) | std::num::wrapping_add_u64(short, 2 * g + 1),
+    }
+}
+
+// One flag of both; the one shift is after all words are or-ed, since LLVM makes a comparison of a shift
+// of one, which SSE2 has not.
+fn joined(coarse: u64, far: u64) -> u64
+    ensures { λ r. ⌜ (r ≡ 0 → (coarse < 2 ^ 37) × (far < 2 ^ 63)) ⌝ }
+{
+    (coarse >> 37) | (far >> 63)
+}
+
+// sig * 2^odd. SSE2 has no shift by a count of each lane's own.
+fn doubled(sig: u64, odd: u64) -> u64
+    requires { ⌜ (sig < 2 ^ 53) × (odd < 2) ⌝ }
+    ensures { λ r. ⌜ r ≡ sig * 2 ^ odd ⌝ }
+{
+    sig + (sig & std::num::wrapping_sub_u64(0, odd))
+}
+
+// Below 2^63 for the patterns of normal values above zero.
+fn not_normal(b: u64) -> u64
+    requires { ⌜ b ≤ 9218868437227405312 ⌝ }
+    ensures { λ r. ⌜ (r < 2 ^ 63 → (2 ^ 52 ≤ b) × (b < 9218868437227405312)) ⌝ }
+{
+    std::num::wrapping_sub_u64(b, 0x10_0000_0000_0000) | (b + 0x10_0000_0000_0000)
+}
+
+// The root of x, if s is near the root of x's significand, that of `sharpen`.
+pub fn any_lane(x: f64, s: f64) -> Lane
+    ensures { λ r. ⌜ (r .flag ≡ 0 → r .root ≡ squareRoot binary64 x) ⌝ }
+{
+    let b = pattern(x);
+    let sig = (b & 0xF_FFFF_FFFF_FFFF) | 0x10_0000_0000_0000;
+    let ex = (b >> 52) + 51;
+    let a = check(doubled(sig, ex & 1), digits(s));
+    Lane {
+        root: f64::from_bits((((ex >> 1) + 485) << 52) + a.digits),
+        flag: joined(a.coarse, a.far | not_normal(b)),
+    }
+}
+
+// The root of f, if it is from 1 to 2 and s is near its root.
+pub fn unit_lane(f: f64, s: f64) -> Lane
+    ensures { λ r. ⌜ (r .flag ≡ 0 → r .root ≡ squareRoot binary64 f) ⌝ }
+{
+    let d = std::num::wrapping_sub_u64(pattern(f), 1022 << 52);
+    let a = check(d, digits(s));
+    Lane {
+        root: f64::from_bits((1022 << 52) + a.digits),
+        flag: joined(a.coarse, a.far | std::num::wrapping_sub_u64(1 << 53, d)),
+    }
+}
+
+// The pattern of b's significand, as a float from 1 up to 4 with the parity of b's exponent.
+fn part(b: u64) -> u64
+    ensures { λ r. ⌜ r < 5000000000000000000 ⌝ }
+{
+    ((b ^ 0x10_0000_0000_0000) & 0x1F_FFFF_FFFF_FFFF) + (1023 << 52)
+}
+
+// A step of Newton's towards 1 / √(2h), from y.
+fn refine(h: f64, y: f64) -> f64 {
+    y * (1.5 - h * y * y)
+}
+
+// A float near 1 / √f, of the pattern `bits`, for an f from 1 up to 4.
+fn near_part(bits: u64) -> f64
+    requires { ⌜ bits < 5000000000000000000 ⌝ }
+{
+    let h = f64::from_bits(bits) * 0.5;
+    refine(h, refine(h, refine(h, f64::from_bits(0x5FE6_EB50_C7B5_37A9 - (bits >> 1)))))
+}
+
+// A float near 1 / √f for the significand f of x.
+pub fn near(x: f64) -> f64 {
+    near_part(part(pattern(x)))
+}
+
+// A float near 1 / √f, for an f from 1 to 2.
+pub fn near_unit(f: f64) -> f64 {
+    let h = f * 0.5;
+    refine(h, refine(h, 1.5736807460508961 + f * (-0.7222365662447514 + f * 0.14496474855286987)))
+}
+
+// A float near 1 / √f, for an f from 1 to 1.1716.
+pub fn near_one(f: f64) -> f64 {
+    let h = f * 0.5;
+    refine(h, 1.8020376955656294 + f * (-1.1083747033609792 + f * 0.3062971124678496))
+}
+
+// A float at √f or a last digit below it, from a y near 1 / √f, for an f from 1 up to 4.
+pub fn sharpen_unit(f: f64, y: f64) -> f64 {
+    let s = f * y;
+    s + ((0.5 * y) * (f - s * s) - 1.1102230246251565e-16)
+}
+
+fn sharpen_part(bits: u64, y: f64) -> f64
+    requires { ⌜ bits < 5000000000000000000 ⌝ }
+{
+    sharpen_unit(f64::from_bits(bits), y)
+}
+
+// A float at √f or a last digit below it, for the significand f of x, from a y near 1 / √f.
+pub fn sharpen(x: f64, y: f64) -> f64 {
+    sharpen_part(part(pattern(x)), y)
+}
