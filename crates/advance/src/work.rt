@@ -1,4 +1,5 @@
 // Steps of work: faces integrated, piece by piece, the lowest place first.
+// Internal: a function with a `requires` is called by proved code alone.
 ghost use mathlib.Core.Path.{_≡_};
 ghost use Prim.Native.Nat.{_+_, _-_, _*_, _≤_, _<_};
 ghost use lib.ListN.{take, drop, getD, set};

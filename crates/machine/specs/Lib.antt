@@ -3,3 +3,4 @@ pub mod Holding
 pub mod Fresh
 pub mod Calls
 pub mod Demands
+pub mod Unused

@@ -1,4 +1,5 @@
 // The triangles of a mesh, read from its runs: three floats a vertex, three corners a face.
+// Internal: a function with a `requires` is called by proved code alone.
 ghost use mathlib.Core.Path.{_≡_};
 ghost use Prim.Native.Nat.{_+_, _*_, _≤_, _<_};
 ghost use lib.ListN.{length, getD};

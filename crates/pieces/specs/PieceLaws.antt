@@ -80,24 +80,24 @@ at-most-16 k radius =
 -- ---- what is not a piece is +0
 
 pub record Clean (p : Pieces) : Type 0 where
-  pub no-sigma : (i : ℕ) → p .count ≤ i → getD (p .sigma) i +0 ≡ +0
-  pub no-coefficient : (i : ℕ) → p .count ≤ i → getD (p .coefficient) i +0 ≡ +0
+  pub no-sigma : (i : ℕ) → p .count ≤ i → i < 16 → getD (p .sigma) i nan ≡ +0
+  pub no-coefficient : (i : ℕ) → p .count ≤ i → i < 16 → getD (p .coefficient) i nan ≡ +0
 
-all-zero : (n i : ℕ) → getD (replicate n +0) i +0 ≡ +0
-all-zero zero i = refl
-all-zero (suc n) zero = refl
-all-zero (suc n) (suc i) = all-zero n i
+all-zero : (n i : ℕ) → i < n → getD (replicate n +0) i nan ≡ +0
+all-zero zero i h = absurd (omega (arith, h))
+all-zero (suc n) zero h = refl
+all-zero (suc n) (suc i) h = all-zero n i (omega arith)
 
-set-below : (xs : List Float) (j i : ℕ) (x : Float) → j < i → getD (set xs j x) i +0 ≡ getD xs i +0
-set-below xs j i x h = getD-set-other xs j i x +0 (λ e. omega arith)
+set-below : (xs : List Float) (j i : ℕ) (x : Float) → j < i → getD (set xs j x) i nan ≡ getD xs i nan
+set-below xs j i x h = getD-set-other xs j i x nan (λ e. omega arith)
 
 keep-clean : (p : Pieces) (s k : Float) → Clean p → Clean (keep p s k)
 unfolding keep
 keep-clean p s k h =
     cond-of Clean (lt ridge (abs k))
     (record {
-      no-sigma = λ i l. set-below (p .sigma) (p .count) i s (omega arith) ∙ h .no-sigma i (omega arith);
-      no-coefficient = λ i l. set-below (p .coefficient) (p .count) i k (omega arith) ∙ h .no-coefficient i (omega arith);
+      no-sigma = λ i l b. set-below (p .sigma) (p .count) i s (omega arith) ∙ h .no-sigma i (omega arith) b;
+      no-coefficient = λ i l b. set-below (p .coefficient) (p .count) i k (omega arith) ∙ h .no-coefficient i (omega arith) b;
     })
     h
 
@@ -114,10 +114,10 @@ unfolding decomposed fitted
 clean k radius =
     cond-of Clean (stays (k .alpha))
     (record {
-      no-sigma = λ i l. set-below zeros 0 i (k .sigma) l ∙ all-zero 16 i;
-      no-coefficient = λ i l. set-below zeros 0 i one l ∙ all-zero 16 i;
+      no-sigma = λ i l b. set-below zeros 0 i (k .sigma) l ∙ all-zero 16 i b;
+      no-coefficient = λ i l b. set-below zeros 0 i one l ∙ all-zero 16 i b;
     })
-    (kept-clean _ _ _ _ _ (record { no-sigma = λ i l. all-zero 16 i; no-coefficient = λ i l. all-zero 16 i }))
+    (kept-clean _ _ _ _ _ (record { no-sigma = λ i l b. all-zero 16 i b; no-coefficient = λ i l b. all-zero 16 i b }))
 
 -- ---- the fallback
 

@@ -1,4 +1,5 @@
 // The greatest deviation of the fit from its curve.
+// Internal: a function with a `requires` is called by proved code alone.
 ghost use mathlib.Core.Path.{_≡_};
 ghost use Prim.Native.Nat.{_<_, _≤_};
 ghost use Rattle.pieces.specs.Fit.{approx, errorAt, peakError};

@@ -1,4 +1,5 @@
 // The normal equations of the fit, summed sample by sample in a 16 by 17 matrix.
+// Internal: a function with a `requires` is called by proved code alone.
 ghost use mathlib.Core.Path.{_≡_};
 ghost use Prim.Native.Nat.{_<_, _≤_};
 ghost use Rattle.pieces.specs.Fit.{termOf, basisOf, crossed, rowAt, sampled, sampleAt, equations, ridged};

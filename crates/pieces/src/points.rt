@@ -1,4 +1,5 @@
 // The scales of a fit's terms, and the points at which its curve is sampled.
+// Internal: a function with a `requires` is called by proved code alone.
 ghost use mathlib.Core.Path.{_≡_};
 ghost use Prim.Native.Nat.{_<_, _≤_};
 ghost use Rattle.base.specs.Floats.{whole};

@@ -1,9 +1,11 @@
 // The density of a store at a point.
+// Internal: a function with a `requires` is called by proved code alone.
 ghost use mathlib.Core.Path.{_≡_};
 ghost use mathlib.Core.List.{[]};
 ghost use Prim.Native.Nat.{_≤_};
 ghost use lib.ListN.{length};
 ghost use Rattle.base.specs.Answers.{measuredAs};
+ghost use Rattle.density.specs.declared.convention.Convention.the-variants.{Rho0};
 ghost use Rattle.layout.specs.Layout.{width, slotLimit, coordsFrom};
 ghost use Rattle.layout.specs.SoundLaws.{Worded};
 ghost use Rattle.readings.specs.Readings.{byMass, applied, heldAll, outcome, readStep};
@@ -52,14 +54,34 @@ pub fn check_read(f: &[f64], w: &[u32], needs: bool) -> Checked
     }
 }
 
-// The scale that a convention puts on every weight.
-pub fn scale_of(v: Convention, f: &[f64], w: &[u32], faces: usize) -> f64
+// The scale by rho0 or by mass, from the sums over all pieces.
+fn scale_by_sums(v: Convention, f: &[f64], w: &[u32], faces: usize) -> f64
     requires { ⌜ coordsFrom ≤ length (now f) ⌝ ∗ ⌜ Worded width (now w) faces ⌝ }
     ensures { λ r. ⌜ r ≡ applied v (heldAll width (now (f .entry)) (now (w .entry)) slotLimit) ⌝ }
 {
     let rho0 = origin_density(f, w, faces);
     let mass = raw_mass(f, w, faces);
     applied_scale(v, mass, rho0_scale(bulk_of(v), rho0))
+}
+
+// The scale by rho0, which looks at no volume.
+fn scale_by_rho0(bulk: f64, f: &[f64], w: &[u32], faces: usize) -> f64
+    requires { ⌜ coordsFrom ≤ length (now f) ⌝ ∗ ⌜ Worded width (now w) faces ⌝ }
+    ensures { λ r. ⌜ r ≡ applied (Rho0 bulk) (heldAll width (now (f .entry)) (now (w .entry)) slotLimit) ⌝ }
+{
+    rho0_scale(bulk_of(Convention::Rho0(bulk)), origin_density(f, w, faces))
+}
+
+// The scale that a convention puts on every weight.
+pub fn scale_of(v: Convention, f: &[f64], w: &[u32], faces: usize) -> f64
+    requires { ⌜ coordsFrom ≤ length (now f) ⌝ ∗ ⌜ Worded width (now w) faces ⌝ }
+    ensures { λ r. ⌜ r ≡ applied v (heldAll width (now (f .entry)) (now (w .entry)) slotLimit) ⌝ }
+{
+    match v {
+        Convention::Raw => 1.0,
+        Convention::Rho0(bulk) => scale_by_rho0(bulk, f, w, faces),
+        Convention::Mass(_, _) => scale_by_sums(v, f, w, faces),
+    }
 }
 
 // The density at a point, under a convention.

@@ -1,4 +1,5 @@
 // Counts over the places of a sound store, and the greatest error of its fits.
+// Internal: a function with a `requires` is called by proved code alone.
 ghost use mathlib.Core.Path.{_≡_};
 ghost use mathlib.Core.Bool.{cond};
 ghost use lib.Dec.{eqb};

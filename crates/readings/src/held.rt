@@ -1,4 +1,5 @@
 // The pieces of a store as it holds them, each as a kernel of its own.
+// Internal: a function with a `requires` is called by proved code alone.
 ghost use mathlib.Core.Path.{_≡_};
 ghost use Prim.Native.Nat.{_≤_, _<_};
 ghost use lib.ListN.{length};

@@ -1,4 +1,5 @@
 // Lent runs: the writes that the store's calls are made of, and numbers to count with.
+// Internal: a function with a `requires` is called by proved code alone.
 ghost use mathlib.Core.Path.{_≡_};
 ghost use Prim.Native.Nat.{_+_, _-_, _≤_, _<_, min};
 ghost use lib.ListN.{length, getD, replicate};

@@ -1,4 +1,5 @@
 // The choice of pivot and the elimination.
+// Internal: a function with a `requires` is called by proved code alone.
 ghost use mathlib.Core.Path.{_≡_};
 ghost use Prim.Native.Nat.{_≤_};
 ghost use Rattle.solve.specs.Elimination.{better, endedAs, eliminated};

@@ -1,5 +1,6 @@
 // The row and matrix operations of the elimination, on a 16 by 17 array whose first n rows and
 // n + 1 columns are in use.
+// Internal: a function with a `requires` is called by proved code alone.
 ghost use mathlib.Core.Path.{_≡_};
 ghost use Prim.Native.Nat.{_<_, _≤_};
 ghost use Rattle.solve.specs.Elimination.{exchanged, over, less, cleared, clearAt, swept, scaled};

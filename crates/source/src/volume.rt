@@ -1,5 +1,6 @@
 // The volume of a kernel inside a mesh, and of the mesh. The exported `kernel_volume` and
 // `mesh_enclosed_volume` have no `requires`.
+// Internal: a function with a `requires` is called by proved code alone.
 ghost use mathlib.Core.Path.{_≡_};
 ghost use lib.ListN.{length};
 ghost use Rattle.base.specs.Answers.{measuredAs};

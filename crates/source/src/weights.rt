@@ -1,4 +1,5 @@
 // The kernels' weights brought to a target mass. The exported `normalize_kernels` has no `requires`.
+// Internal: a function with a `requires` is called by proved code alone.
 ghost use mathlib.Core.Path.{_≡_};
 ghost use Prim.Native.Nat.{_+_, _*_, _/_, _≤_};
 ghost use lib.ListN.{length};

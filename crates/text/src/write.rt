@@ -1,4 +1,5 @@
 // Tokens written at a position of a run; each answers the position after it, and leaves all other words as they were.
+// Internal: a function with a `requires` is called by proved code alone.
 ghost use mathlib.Core.Path.{_≡_};
 ghost use Prim.Native.Nat.{_+_, _<_, _≤_};
 ghost use lib.ListN.{length};

@@ -1,0 +1,53 @@
+-- 01, "The store": "Unused fields are zero". Past a kernel's last piece the runs that hold a machine are +0, whatever was done. Assumes nothing.
+use mathlib.Core.Path.{_≡_, refl, sym, ap, _∙_}
+use mathlib.Core.List.{List, [], _∷_, _++_}
+use Prim.Native.Nat.{ℕ, zero, suc, _+_, _*_, _-_, _≤_, _<_, min}
+use native.Mathlib.Nat.{suc-mul, zero-mul, suc-add, zero-add, add-zero}
+use native.Mathlib.Omega.{arith}
+use lib.ListN.{getD, replicate}
+use lib.Ieee.{Float, nan}
+use Rattle.base.specs.Floats.{+0}
+use Rattle.base.specs.Loops.{times}
+use Rattle.mass.specs.Volume.{volumeTo}
+use Rattle.mass.specs.Total.{centreOf}
+use Rattle.kernel.specs.declared.kernel.Kernel.{Kernel}
+use Rattle.pieces.specs.declared.pieces.Pieces.{Pieces}
+use Rattle.pieces.specs.Pieces.{decomposed}
+use Rattle.pieces.specs.PieceLaws.{Clean, clean, at-most-16}
+use Rattle.machine.specs.Machine.{Mesh, need}
+use Rattle.machine.specs.Holding.{triangles, cells}
+
+module _ (m : Mesh) (k : Kernel) (fit : Pieces) where
+  -- no step, no volume
+  none-done : (sigma : Float) (n : ℕ) → n ≡ 0 → volumeTo (triangles m) (centreOf k) sigma (min (m .faces) n) ≡ +0
+  unfolding volumeTo times
+  none-done sigma n e =
+      let z : min (m .faces) n ≡ 0 = omega arith in
+      rw z refl
+
+  cells-zero : Clean fit → (n j t : ℕ) → fit .count ≤ j → j + n ≤ 16 → t ≡ 0 → cells m k fit n j t ≡ replicate (n * 3) +0
+  cells-zero h zero j t l b e = refl
+  cells-zero h (suc n) j t l b e =
+      let r = cells-zero h n (suc j) (t - m .faces) (omega arith) (omega arith) (omega arith) in
+      rw (none-done (getD (fit .sigma) j nan) t e, h .no-sigma j l (omega arith), h .no-coefficient j l (omega arith), r) refl
+
+  cells-split : (a b j t : ℕ) → cells m k fit (a + b) j t ≡ cells m k fit a j t ++ cells m k fit b (j + a) (t - a * m .faces)
+  cells-split zero b j t = rw (zero-add b, zero-mul (m .faces), add-zero j) refl
+  cells-split (suc a) b j t =
+      let e : t - m .faces - a * m .faces ≡ t - suc a * m .faces = rw (suc-mul a (m .faces)) (omega arith) in
+      let f : suc j + a ≡ j + suc a = omega arith in
+      let r = cells-split a b (suc j) (t - m .faces) in
+      rw (suc-add a b, r, e, f) refl
+
+-- the 16 pieces of a place: those of its kernel, and then +0
+pub unused-zero : (m : Mesh) (k : Kernel) (p : ℕ) → let fit = decomposed k (m .radius) in p ≤ need m fit
+    → cells m k fit 16 0 p ≡ cells m k fit (fit .count) 0 p ++ replicate ((16 - fit .count) * 3) +0
+unused-zero m k p h =
+    let fit = decomposed k (m .radius) in
+    let n = fit .count in
+    let few : n ≤ 16 = at-most-16 k (m .radius) in
+    let e : 16 ≡ n + (16 - n) = omega arith in
+    let z : p - n * m .faces ≡ 0 = omega (arith, h) in
+    ap (λ (c : ℕ). cells m k fit c 0 p) e
+    ∙ cells-split m k fit n (16 - n) 0 p
+    ∙ ap (λ (l : List Float). cells m k fit n 0 p ++ l) (cells-zero m k fit (clean k (m .radius)) (16 - n) (0 + n) (p - n * m .faces) (omega arith) (omega arith) z)
