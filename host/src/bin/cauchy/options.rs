@@ -9,7 +9,7 @@ use std::path::PathBuf;
 pub enum Command {
     Help,
     Version,
-    Work(Options),
+    Work(Box<Options>),
 }
 
 /// Where the store comes from.
@@ -152,7 +152,7 @@ impl Given {
         if self.steps.is_some() && self.snapshot.is_none() {
             return Failure::usage("--steps may stop before the end: give --snapshot FILE too");
         }
-        Ok(Command::Work(Options {
+        Ok(Command::Work(Box::new(Options {
             origin,
             convention,
             track: self.track,
@@ -162,7 +162,7 @@ impl Given {
             snapshot: self.snapshot,
             steps: self.steps,
             overwrite: self.overwrite.is_some(),
-        }))
+        })))
     }
 
     fn convention(&self) -> Result<Convention> {

@@ -110,6 +110,9 @@ fn cautions(by: Convention, mass: &MassReport, origin: f64) -> Vec<&'static str>
     if mass.applied_scale < 0.0 {
         said.push("the factor is below 0: every weight changes its sign");
     }
+    if mass.volume <= 0.0 {
+        said.push("the mesh encloses no volume: no mass means anything on it");
+    }
     if !mass.applied_mass.is_finite() {
         said.push("the mass by this convention is not a finite number");
     }

@@ -35,7 +35,7 @@ struct Axis {
 }
 
 impl Axis {
-    /// A range opened to whole ticks of 1, 2 or 5 times a power of ten, about `ticks` of them.
+    /// A range opened to whole ticks of 1, 2, 2.5 or 5 times a power of ten, about `ticks` of them.
     fn opened(low: f64, high: f64, ticks: f64, from: f64, to: f64) -> Axis {
         let wide = high - low;
         let wide = if wide > 0.0 { wide } else { low.abs().max(1.0) };
@@ -62,10 +62,10 @@ impl Axis {
     }
 }
 
-/// The least of 1, 2 and 5 times a power of ten that is not below this.
+/// The least of 1, 2, 2.5 and 5 times a power of ten that is not below this.
 fn tick_step(least: f64) -> f64 {
     let power = 10_f64.powf(least.log10().floor());
-    let steps = [1.0, 2.0, 5.0, 10.0].map(|digit| digit * power);
+    let steps = [1.0, 2.0, 2.5, 5.0, 10.0].map(|digit| digit * power);
     steps.into_iter().find(|step| *step >= least * (1.0 - 1e-9)).unwrap_or(10.0 * power)
 }
 
@@ -238,7 +238,7 @@ mod tests {
     fn ticks_are_round() {
         assert_eq!(
             [0.9, 1.0, 1.3, 2.0, 2.1, 60.0, 0.03].map(tick_step),
-            [1.0, 1.0, 2.0, 2.0, 5.0, 100.0, 0.05]
+            [1.0, 1.0, 2.0, 2.0, 2.5, 100.0, 0.05]
         );
         let axis = Axis::opened(-3.0, 17.0, 5.0, 0.0, 100.0);
         assert_eq!(axis.ticks().collect::<Vec<_>>(), [-5.0, 0.0, 5.0, 10.0, 15.0, 20.0]);
