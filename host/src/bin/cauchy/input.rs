@@ -33,10 +33,11 @@ fn lines(text: &str) -> impl Iterator<Item = (usize, Vec<&str>)> {
 
 type Told<T> = std::result::Result<T, String>;
 
+/// A number that stays finite in metres and squared.
 fn number(word: &str) -> Told<f64> {
     match word.parse::<f64>() {
-        Ok(x) if x.is_finite() => Ok(x),
-        _ => Err(format!("`{word}` is not a finite number")),
+        Ok(x) if x.abs() <= 1e100 => Ok(x),
+        _ => Err(format!("`{word}` is not a number from -1e100 to 1e100")),
     }
 }
 
@@ -218,8 +219,8 @@ mod tests {
             assert_eq!(told, format!("a.obj, line 4: `{corner}` is not a corner"));
         }
         assert_eq!(face("v 0 0"), "a.obj, line 4: a vertex has three coordinates, here are 2");
-        assert_eq!(face("v 0 0 nan"), "a.obj, line 4: `nan` is not a finite number");
-        assert_eq!(face("v 0 0 1e999"), "a.obj, line 4: `1e999` is not a finite number");
+        assert_eq!(face("v 0 0 nan"), "a.obj, line 4: `nan` is not a number from -1e100 to 1e100");
+        assert_eq!(face("v 0 0 1e101"), "a.obj, line 4: `1e101` is not a number from -1e100 to 1e100");
         assert_eq!(face("face 1 2 3"), "a.obj, line 4: `face` begins no line of an OBJ file");
         assert_eq!(face(""), "a.obj: has no face");
         assert_eq!(mesh_said(""), "a.obj: has no face");
@@ -241,7 +242,7 @@ mod tests {
     fn a_bad_kernel_list_is_named_by_its_line() {
         assert!(kernels_said("\n1 2 3 4 5").starts_with("k.txt, line 2: a kernel has six numbers"));
         assert!(kernels_said("1 2 3 4 5 6 7").ends_with("here are 7"));
-        assert_eq!(kernels_said("1 2 3 - 5 6"), "k.txt, line 1: `-` is not a finite number");
+        assert_eq!(kernels_said("1 2 3 - 5 6"), "k.txt, line 1: `-` is not a number from -1e100 to 1e100");
         assert_eq!(kernels_said("default 1\ndefault 2"), "k.txt, line 2: a second default");
         assert_eq!(kernels_said("default"), "k.txt, line 1: a default has one exponent");
         assert_eq!(kernels_said("default 0"), "k.txt, line 1: the default exponent 0 is not above 0");

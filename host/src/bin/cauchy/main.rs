@@ -171,7 +171,7 @@ fn read(store: &Store, options: &Options, outputs: &Outputs, points: Option<Vec<
 }
 
 fn picture(by: cauchy::Convention, store: &Store, path: &Path, track: &Track) -> String {
-    let name = path.file_name().unwrap_or_default().to_string_lossy();
+    let name: String = path.file_name().unwrap_or_default().to_string_lossy().chars().take(32).collect();
     let kernels = (0..cauchy::PLACES).filter(|place| store.held(*place).is_some()).count();
     let kernels = figures::counted(kernels as u64, "kernel");
     let subtitle = format!("{} (convention {}) · {kernels} · {name}", page::convention(by), by.name());

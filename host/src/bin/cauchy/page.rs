@@ -29,7 +29,7 @@ pub fn mesh(store: &Store) -> Vec<String> {
     let (vertices, faces) = (u64::from(store.vertices()), u64::from(store.faces()));
     vec![
         format!("{}, {}", counted(vertices, "vertex"), counted(faces, "face")),
-        format!("{x} × {y} × {z} km"),
+        format!("extent {x} × {y} × {z} km"),
         format!("radius {} km", rounded(store.radius() / 1000.0, 4)),
     ]
 }

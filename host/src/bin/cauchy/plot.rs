@@ -7,7 +7,7 @@ const WIDTH: f64 = 960.0;
 const HEIGHT: f64 = 480.0;
 const LEFT: f64 = 92.0;
 const RIGHT: f64 = WIDTH - 36.0;
-const TOP: f64 = 92.0;
+const TOP: f64 = 84.0;
 const BOTTOM: f64 = HEIGHT - 72.0;
 
 const STYLE: &str = "\
@@ -19,6 +19,7 @@ text { font-family: 'Helvetica Neue', Helvetica, Arial, 'DejaVu Sans', sans-seri
 .grid { stroke: #e1e7ec; stroke-width: 1 }
 .axis { stroke: #8896a3; stroke-width: 1 }
 .band { fill: #f3f6f9 }
+.key { fill: #d7e6ef; stroke: #bcc7d0 }
 .edge { stroke: #bcc7d0; stroke-width: 1; stroke-dasharray: 3 3 }
 .area { fill: #1b79b0; fill-opacity: 0.12 }
 .curve { fill: none; stroke: #1b79b0; stroke-width: 2.2; stroke-linejoin: round; stroke-linecap: round }
@@ -80,16 +81,21 @@ pub fn svg(title: &str, subtitle: &str, track: &Track) -> String {
     bands(&mut page, &across, stretches.as_deref().unwrap_or_default());
     grid(&mut page, &across, &up, unit);
     curve(&mut page, &across, &up, &along, &track.density, stretches.is_some());
-    if let Some(i) = track.greatest() {
+    if let Some(i) = track.greatest().filter(|i| can_be_drawn(track.density[*i])) {
         peak(&mut page, (across.at(along[i]), up.at(track.density[i])), track.density[i], along[i], unit);
     }
     page += "</svg>\n";
     page
 }
 
+/// Whether a density can be drawn: it is a number, and the range of two of them is one.
+fn can_be_drawn(density: f64) -> bool {
+    density.abs() < 1e300
+}
+
 /// From 0 where the least density is not far above it, with room for a label over the greatest.
 fn density_axis(density: &[f64]) -> Axis {
-    let finite = density.iter().copied().filter(|density| density.is_finite());
+    let finite = density.iter().copied().filter(|density| can_be_drawn(*density));
     let (low, high) =
         finite.fold((f64::INFINITY, f64::NEG_INFINITY), |(low, high), x| (low.min(x), high.max(x)));
     let (low, high) = if low <= high { (low, high) } else { (0.0, 1.0) };
@@ -121,13 +127,12 @@ fn bands(page: &mut String, across: &Axis, stretches: &[(f64, f64)]) {
         let _ = write!(cut, "<rect {place}/>");
     }
     let _ = writeln!(page, "<clipPath id=\"inside\">{cut}</clipPath>");
-    let widest = stretches.iter().max_by(|a, b| (a.1 - a.0).total_cmp(&(b.1 - b.0)));
-    if let Some((from, to)) = widest.filter(|(from, to)| across.at(*to) - across.at(*from) > 110.0) {
-        let middle = (across.at(*from) + across.at(*to)) / 2.0;
-        let y = TOP - 7.0;
+    if !stretches.is_empty() {
+        let (key, label) = (RIGHT - 116.0, RIGHT - 97.0);
         let _ = writeln!(
             page,
-            "<text class=\"inside\" x=\"{middle:.1}\" y=\"{y}\" text-anchor=\"middle\">inside the body</text>"
+            "<rect class=\"key\" x=\"{key}\" y=\"28\" width=\"12\" height=\"12\"/>\
+             <text class=\"inside\" x=\"{label}\" y=\"38\">inside the body</text>"
         );
     }
 }
@@ -176,12 +181,12 @@ fn grid(page: &mut String, across: &Axis, up: &Axis, unit: &str) {
     );
 }
 
-/// The curve, broken where a density is not finite, and the area under it where 0 is on the page. Outside the
+/// The curve, broken where a density cannot be drawn, and the area under it where 0 is on the page. Outside the
 /// mesh, where that is known, it is only the kernels' continuation, and drawn so.
 fn curve(page: &mut String, across: &Axis, up: &Axis, along: &[f64], density: &[f64], cut: bool) {
     let points: Vec<(f64, f64)> = along.iter().copied().zip(density.iter().copied()).collect();
     let clip = if cut { " clip-path=\"url(#inside)\"" } else { "" };
-    for run in points.split(|(_, density)| !density.is_finite()).filter(|run| !run.is_empty()) {
+    for run in points.split(|(_, density)| !can_be_drawn(*density)).filter(|run| !run.is_empty()) {
         let at = |(way, density): &(f64, f64)| format!("{:.1} {:.1}", across.at(*way), up.at(*density));
         let line = run.iter().map(at).collect::<Vec<_>>().join("L");
         if up.low <= 0.0 && up.high >= 0.0 {
@@ -246,7 +251,8 @@ mod tests {
 
     #[test]
     fn every_track_is_drawn_in_figures() {
-        let tracks: [&[f64]; 8] = [
+        let tracks: [&[f64]; 9] = [
+            &[f64::MAX, f64::MIN, 1.0],
             &[1.0],
             &[5.0, 5.0],
             &[0.0, 0.0],
