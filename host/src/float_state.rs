@@ -5,10 +5,6 @@ use std::fmt;
 
 /// A floating-point state that is not the default one, so that results would not be those specified. A
 /// program linked by `gcc -ffast-math` starts in such a state.
-///
-/// ```
-/// assert_eq!(cauchy::FloatState::check(), Ok(()));
-/// ```
 #[derive(Clone, Copy, Debug, PartialEq, Eq)]
 pub struct FloatState {
     mxcsr: u32,
@@ -21,6 +17,10 @@ const FLUSH_TO_ZERO: u32 = 1 << 15;
 
 impl FloatState {
     /// Looks at this thread's state: rounding to nearest, subnormals kept, exceptions masked.
+    ///
+    /// ```
+    /// assert_eq!(cauchy::FloatState::check(), Ok(()));
+    /// ```
     pub fn check() -> Result<(), FloatState> {
         let mut mxcsr = 0_u32;
         // SAFETY: stores the 32 bits of a register into a variable of 32 bits.

@@ -317,17 +317,38 @@ impl Store {
         Some(Held { kernel, pieces, error: fields[6] })
     }
 
-    /// The mesh's vertices.
+    /// The count of the mesh's vertices.
+    ///
+    /// ```
+    /// # use cauchy::{Mesh, Store};
+    /// # let mesh = Mesh { vertices: &[[0.0; 3]; 4], faces: &[[0, 1, 2]] };
+    /// assert_eq!(Store::open(500.0, mesh)?.vertices(), 4);
+    /// # Ok::<(), cauchy::OpenError>(())
+    /// ```
     pub fn vertices(&self) -> u32 {
         self.words[0]
     }
 
-    /// The mesh's faces.
+    /// The count of the mesh's faces.
+    ///
+    /// ```
+    /// # use cauchy::{Mesh, Store};
+    /// # let mesh = Mesh { vertices: &[[0.0; 3]; 4], faces: &[[0, 1, 2]] };
+    /// assert_eq!(Store::open(500.0, mesh)?.faces(), 1);
+    /// # Ok::<(), cauchy::OpenError>(())
+    /// ```
     pub fn faces(&self) -> u32 {
         self.words[1]
     }
 
     /// The body's radius, m, as the store was opened with.
+    ///
+    /// ```
+    /// # use cauchy::{Mesh, Store};
+    /// # let mesh = Mesh { vertices: &[[0.0; 3]; 4], faces: &[[0, 1, 2]] };
+    /// assert_eq!(Store::open(500.0, mesh)?.radius(), 500.0);
+    /// # Ok::<(), cauchy::OpenError>(())
+    /// ```
     pub fn radius(&self) -> f64 {
         self.floats[0]
     }

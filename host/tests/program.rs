@@ -76,7 +76,7 @@ fn a_stopped_run_goes_on_from_its_snapshot() {
     let said = folder.goes("run a.obj k.txt --mass 1e11 --snapshot s.snap --steps 9 --list never.csv");
     assert!(said.contains("9 steps done, 47 left") && said.contains("cauchy resume s.snap"), "{said}");
     assert!(!Path::new(&folder.0.join("never.csv")).exists());
-    let said = folder.goes("resume s.snap --raw --steps 20 --snapshot s.snap");
+    let said = folder.goes("resume s.snap --raw --steps 20 --snapshot ./s.snap");
     assert!(said.contains("20 steps done, 27 left"), "{said}");
     let said = folder.goes(&format!("resume s.snap {reads}"));
     assert!(said.contains("27 steps done, none left"), "{said}");
@@ -164,8 +164,13 @@ fn no_file_is_lost() {
     folder.fails(&format!("{run} --csv ./t.txt --overwrite"), 2, "t.txt: it is read");
     folder.fails(&format!("{run} --csv none/x"), 1, "none/x: no such file or folder");
     folder.fails(&format!("{run} --csv . --overwrite"), 1, ".: is a folder");
+    folder.fails(&format!("{run} --csv /dev/null --overwrite"), 1, "/dev/null: is not a plain file");
     folder.goes(&format!("{run} --csv old --overwrite"));
     assert!(folder.read("old").starts_with(b"distance_m"));
+    folder.write("aim", "");
+    std::os::unix::fs::symlink("aim", folder.0.join("link")).unwrap();
+    folder.goes(&format!("{run} --csv link --overwrite"));
+    assert!(folder.0.join("link").is_symlink() && folder.read("aim").starts_with(b"distance_m"));
     assert!(folder.files().iter().all(|(path, _)| !path.to_string_lossy().contains(".part")));
 }
 

@@ -60,12 +60,11 @@ struct Outputs {
 
 impl Outputs {
     fn prepare(options: &Options) -> Result<Outputs> {
-        let resumed = match &options.origin {
-            Origin::Snapshot(path) => Some(path),
-            Origin::Files { .. } => None,
-        };
         // A resumed snapshot may be brought on in its own file.
-        let in_place = resumed.is_some() && options.snapshot.as_ref() == resumed;
+        let in_place = match (&options.origin, &options.snapshot) {
+            (Origin::Snapshot(read), Some(written)) => output::are_one(read, written),
+            _ => false,
+        };
         let paths = [&options.csv, &options.svg, &options.list, &options.snapshot];
         let outputs: Vec<&Path> = paths.into_iter().flatten().map(PathBuf::as_path).collect();
         let mut inputs: Vec<&Path> = options.track.iter().map(PathBuf::as_path).collect();
