@@ -111,6 +111,9 @@ fn what_a_planner_must_not_overlook_is_said() {
         report.lines().find(|line| line.contains("by this convention")).unwrap()[..60].to_string()
     });
     assert_eq!(reports[0], reports[1]);
+    folder.write("low.txt", "default 2\n0.1 0.1 0.1 2 5 -1\n");
+    let said = folder.goes("run a.obj low.txt --raw");
+    assert!(said.contains("place 0: exponent -1 is not above 0, the default is taken"), "{said}");
     folder.write("flat.obj", "v 0 0 0\nv 1 0 0\nv 0 1 0\nf 1 2 3\n");
     let said = folder.goes("run flat.obj k.txt --raw");
     assert!(said.contains("encloses no volume"), "{said}");
