@@ -1,0 +1,77 @@
+"""Makes body.obj and track.txt: a made-up body like a spinning top, and a straight track through it.
+
+    python3 example/make.py        (writes both beside itself; kernels.txt is written by hand)
+"""
+from math import cos, exp, pi, sin, sqrt
+from pathlib import Path
+
+HERE = Path(__file__).parent
+EDGES = 6  # of each side of the icosahedron: 20 * 36 faces
+
+
+def unit(p):
+    size = sqrt(sum(x * x for x in p))
+    return tuple(x / size for x in p)
+
+
+def icosahedron():
+    g = (1 + sqrt(5)) / 2
+    corners = [unit(p) for a in (-1, 1) for b in (-g, g) for p in ((0, a, b), (a, b, 0), (b, 0, a))]
+    near = min(sum((x - y) ** 2 for x, y in zip(corners[0], q)) for q in corners[1:]) + 1e-9
+    close = [[sum((x - y) ** 2 for x, y in zip(p, q)) < near for q in corners] for p in corners]
+    triples = [(i, j, k) for i in range(12) for j in range(i + 1, 12) for k in range(j + 1, 12)
+               if close[i][j] and close[j][k] and close[i][k]]
+    return [outward([corners[i] for i in triple]) for triple in triples]
+
+
+def outward(triangle):
+    a, b, c = triangle
+    turn = (a[0] * (b[1] * c[2] - b[2] * c[1]) + a[1] * (b[2] * c[0] - b[0] * c[2])
+            + a[2] * (b[0] * c[1] - b[1] * c[0]))
+    return triangle if turn > 0 else [a, c, b]
+
+
+def radius(p):
+    """In kilometres: a ball, an equatorial ridge, two broad swells and a crater."""
+    x, y, z = p
+    ridge = 0.062 * exp(-((z / 0.30) ** 2))
+    swells = 0.014 * cos(3 * pi * x * y) + 0.012 * sin(2.3 * x + 4.1 * z)
+    crater = 0.030 * exp(-((x - 0.62) ** 2 + (y - 0.36) ** 2 + (z - 0.70) ** 2) / 0.05)
+    return 0.434 + ridge + swells - crater
+
+
+def mesh():
+    numbers, vertices, faces = {}, [], []
+
+    def vertex(triangle, i, j):
+        k = EDGES - i - j
+        p = unit([(i * a + j * b + k * c) / EDGES for a, b, c in zip(*triangle)])
+        key = tuple(round(x, 9) for x in p)
+        if key not in numbers:
+            numbers[key] = len(vertices) + 1
+            r = radius(p)
+            vertices.append(tuple(r * x for x in p))
+        return numbers[key]
+
+    for t in icosahedron():
+        for i in range(EDGES):
+            for j in range(EDGES - i):
+                faces.append((vertex(t, i, j), vertex(t, i + 1, j), vertex(t, i, j + 1)))
+                if i + j < EDGES - 1:
+                    faces.append((vertex(t, i + 1, j), vertex(t, i + 1, j + 1), vertex(t, i, j + 1)))
+    return vertices, faces
+
+
+def main():
+    vertices, faces = mesh()
+    lines = ["# A made-up body like a spinning top, in kilometres; by make.py", "o body"]
+    lines += ["v %.6f %.6f %.6f" % v for v in vertices]
+    lines += ["f %d %d %d" % f for f in faces]
+    (HERE / "body.obj").write_text("\n".join(lines) + "\n")
+
+    lines = ["# A straight track through the body, a point every 5 metres; by make.py", "# x [km]  y [km]  z [km]"]
+    lines += ["%.6f %.6f %.6f" % (-0.70 + 0.0048 * i, -0.125 + 0.0008 * i, 0.028 + 0.00115 * i) for i in range(281)]
+    (HERE / "track.txt").write_text("\n".join(lines) + "\n")
+
+
+main()

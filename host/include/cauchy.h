@@ -1,0 +1,275 @@
+/* The Cauchy density store: the C interface of libcauchy.a (x86-64).
+ *
+ * A list of density kernels w * (1 + sigma^2 * |x - c|^2)^-alpha inside a triangle mesh, its density, its
+ * mass, and its weights rescaled by a convention. Lengths are metres, densities kg/m^3, masses kg, unless
+ * a line says kilometres. Every function is proved to end and to meet its contract for all arguments, NaN
+ * and runs of any length and contents among them; "01" is the specification.
+ *
+ * Runs. An array is lent as a pointer and a count of elements (size_t), two arguments side by side:
+ *   mesh         xyz: 3 doubles a vertex; faces: 3 vertex numbers a face, from 0
+ *   kernel list  6 doubles a kernel: c (3), sigma, w, alpha
+ *   store        floats and words: the store itself, which has no memory elsewhere
+ * A run that a call only reads is const.
+ *
+ * Answers. The first field, `no`, is 0 where the call is accepted, else the number of the refusal: the
+ * lowest that applies. A refused call changes no element of any run, and its other fields are 0.
+ * The numbers after a declaration are the refusals that it may answer.
+ *
+ * What the host guarantees, and what happens otherwise:
+ *  1. A run of n > 0 elements is n initialised elements, aligned as its type. (A run of 0 elements may have
+ *     any pointer, NULL too.) Otherwise: undefined behaviour, as for any C function that is lent an array.
+ *  2. A run that is not const overlaps no other run of the same call. Otherwise: the call still ends, but
+ *     the answer and the runs may be neither the old nor the right ones.
+ *  3. One writer: while a call runs, no one else writes its runs, nor reads those that are not const.
+ *     Otherwise: a data race, undefined behaviour. There is no other shared state: calls on different
+ *     stores may run in different threads, and so may readings of one store.
+ *  4. The default floating-point state of the thread (MXCSR 0x1F80: to nearest, subnormals kept, exceptions
+ *     masked). Otherwise memory stays safe, but the values are not those specified. A program linked by
+ *     `gcc -ffast-math` starts with subnormals flushed to zero. Unmasked exceptions may end the process.
+ *  5. Snapshots of the two runs are taken between calls only. Otherwise (also where a process is killed
+ *     inside a call) the runs are half written, and may still look sound.
+ *
+ * host/tests/abi.c holds this file to the archive. */
+#ifndef CAUCHY_H
+#define CAUCHY_H
+
+#include <stddef.h>
+#include <stdint.h>
+
+#ifdef __cplusplus
+extern "C" {
+#endif
+
+/* ---- Refusals ------------------------------------------------------------------------------------- */
+
+enum {
+    CAUCHY_ACCEPTED = 0,
+    CAUCHY_RAGGED = 1,       /* a count of coordinates or corners that is not a multiple of 3 */
+    CAUCHY_OVERSIZE = 2,     /* more vertices or faces than the limits below */
+    CAUCHY_LOOSE_CORNER = 3, /* a corner names a vertex that is not there */
+    CAUCHY_SHORT_STORE = 4,  /* a run of the store is too short for its mesh */
+    CAUCHY_UNSOUND = 5,      /* the runs hold no sound store */
+    CAUCHY_NO_PLACE = 6,     /* the place is 32 or above */
+    CAUCHY_VACANT = 7,       /* the place to be cleared or reweighed is empty */
+    CAUCHY_UNFINISHED = 8,   /* work is left that this reading needs: advance first */
+    CAUCHY_SHORT_LIST = 9,   /* the run to be written is too short, or a kernel list is not of sixes */
+    CAUCHY_BAD_MATRIX = 10,  /* n above 16, or lengths that do not go with n */
+    CAUCHY_FLAT_PIVOT = 11,  /* the equations have no usable pivot in some column */
+    CAUCHY_EXPONENT = 12     /* an exponent is not 1, where only 1 can be integrated */
+};
+
+/* ---- Sizes ---------------------------------------------------------------------------------------- */
+
+enum {
+    CAUCHY_MAX_VERTICES = 1048576,
+    CAUCHY_MAX_FACES = 2097152,
+    CAUCHY_PLACES = 32,     /* places of a store, numbered from 0 */
+    CAUCHY_MAX_PIECES = 16  /* pieces of one kernel, so a store's list is at most 32 * 16 * 6 doubles */
+};
+
+/* The lengths that a store needs for V vertices and F faces; longer runs are good, and keep their excess. */
+#define CAUCHY_STORE_FLOATS(V) ((size_t)1761 + (size_t)3 * (size_t)(V))
+#define CAUCHY_STORE_WORDS(F) ((size_t)98 + (size_t)3 * (size_t)(F))
+
+/* ---- Values --------------------------------------------------------------------------------------- */
+
+/* A point or a vector, in metres. */
+typedef struct CauchyVector {
+    double x, y, z;
+} CauchyVector;
+
+/* A kernel: centre [m], inverse width sigma [1/m], weight [kg/m^3], exponent. */
+typedef struct CauchyKernel {
+    double c[3];
+    double sigma, w, alpha;
+} CauchyKernel;
+
+/* A kernel as its file has it: centre [km], sigma [1/km], weight [kg/m^3], exponent. */
+typedef struct CauchyFileKernel {
+    double c[3];
+    double sigma, w, alpha;
+    uint32_t given; /* 0: the file gives no exponent, and alpha is not read */
+} CauchyFileKernel;
+
+/* How one reading rescales the weights; the kept weights never change. */
+enum {
+    CAUCHY_RAW = 0,  /* as entered; reports use a bulk density of 1190 */
+    CAUCHY_RHO0 = 1, /* the density at the origin becomes `bulk` */
+    CAUCHY_MASS = 2  /* the mass becomes `target`, or as rho0 where that cannot be; so is any kind above 2 */
+};
+
+typedef struct CauchyConvention {
+    uint32_t kind;
+    double target; /* kg; read by mass; not above 0 or NaN: no target */
+    double bulk;   /* kg/m^3; read by rho0 and mass; not above 0 or NaN: 1190 */
+} CauchyConvention;
+
+/* Masses before and after a convention's scale. */
+typedef struct CauchyMassReport {
+    double raw_mass;      /* kg, weights as entered */
+    double rho0_scale;    /* the factor by which the density at the origin becomes bulk */
+    double rho0_mass;     /* kg, after that factor */
+    double applied_scale; /* the convention's factor */
+    double applied_mass;  /* kg, after the convention's factor */
+    double target_mass;   /* kg, the convention's target; 0 where it has none */
+    double volume;        /* m^3, of the mesh, signed */
+} CauchyMassReport;
+
+/* ---- Answers: `no` first -------------------------------------------------------------------------- */
+
+typedef struct CauchyOpened {
+    uint32_t no, verts, faces; /* of the mesh */
+} CauchyOpened;
+
+typedef struct CauchyPlaced {
+    uint32_t no, pieces, need; /* the kernel's pieces, and the steps that they need */
+} CauchyPlaced;
+
+typedef struct CauchySteps {
+    uint32_t no;
+    uint64_t done, left; /* steps that this call did, and that are left */
+} CauchySteps;
+
+typedef struct CauchyValue {
+    uint32_t no;
+    double value;
+} CauchyValue;
+
+typedef struct CauchyPoint {
+    uint32_t no;
+    CauchyVector at;
+} CauchyPoint;
+
+typedef struct CauchyReport {
+    uint32_t no;
+    CauchyMassReport report;
+} CauchyReport;
+
+typedef struct CauchyStoreReport {
+    uint32_t no;
+    CauchyMassReport report;
+    uint32_t kernels, pieces; /* filled places, and their pieces */
+    double error;             /* the greatest error of a fit, as a fraction of its kernel's peak */
+} CauchyStoreReport;
+
+typedef struct CauchyListed {
+    uint32_t no, pieces; /* pieces written */
+} CauchyListed;
+
+typedef struct CauchyKernels {
+    uint32_t no;
+    uint64_t kernels; /* kernels written */
+} CauchyKernels;
+
+typedef struct CauchyPieces {
+    uint32_t no;
+    uint64_t pieces; /* pieces written */
+    double error;    /* the fit's greatest error, as a fraction of the kernel's peak */
+} CauchyPieces;
+
+/* ---- The store ------------------------------------------------------------------------------------ */
+
+/* Makes two runs a store of this mesh and body radius, every place empty; what they held does not matter.
+ * The radius bounds the fits of exponents other than 1.                                        1 2 3 4 */
+CauchyOpened cauchy_store_open(double *floats, size_t n_floats, uint32_t *words, size_t n_words, double radius,
+                               const double *xyz, size_t n_xyz, const uint32_t *faces, size_t n_faces);
+
+/* Puts a kernel into a place, whatever that held, with all its work to do.                       4 5 6 */
+CauchyPlaced cauchy_store_put(double *floats, size_t n_floats, uint32_t *words, size_t n_words, uint32_t place,
+                              CauchyKernel kernel);
+
+/* Empties a place; answers `no`.                                                               4 5 6 7 */
+uint32_t cauchy_store_clear(double *floats, size_t n_floats, uint32_t *words, size_t n_words, uint32_t place);
+
+/* Gives the kernel of a place another weight, its work kept; answers `no`.                     4 5 6 7 */
+uint32_t cauchy_store_reweigh(double *floats, size_t n_floats, uint32_t *words, size_t n_words, uint32_t place,
+                              double w);
+
+/* Does up to `budget` steps of the work left, one face of one piece each. Every call looks the store over
+ * first, some 2 ns a face, so budgets of many faces are cheapest. A budget of 0 tells what is left. 4 5 */
+CauchySteps cauchy_store_advance(double *floats, size_t n_floats, uint32_t *words, size_t n_words, uint64_t budget);
+
+/* The density at a point.            4 5, and 8 while work is left, by mass with a target above 0 only */
+CauchyValue cauchy_store_density(const double *floats, size_t n_floats, const uint32_t *words, size_t n_words,
+                                 CauchyConvention convention, CauchyVector point);
+
+/* Masses, counts and the greatest error.                                                         4 5 8 */
+CauchyStoreReport cauchy_store_report(const double *floats, size_t n_floats, const uint32_t *words, size_t n_words,
+                                      CauchyConvention convention);
+
+/* Writes the pieces as a kernel list, weights rescaled; doubles past them stay.
+ *                                  4 5 9, and 8 while work is left, by mass with a target above 0 only */
+CauchyListed cauchy_store_list(const double *floats, size_t n_floats, const uint32_t *words, size_t n_words,
+                               CauchyConvention convention, double *out, size_t n_out);
+
+/* ---- Kernels -------------------------------------------------------------------------------------- */
+
+/* One kernel of a file, in metres. A missing exponent, or one not above 0, becomes `default_alpha`. Never
+ * refused. */
+CauchyKernel cauchy_kernel_from_file(CauchyFileKernel kernel, double default_alpha);
+
+/* Writes a kernel's pieces, on a body of this radius, as a kernel list; 96 doubles are always enough. 9 */
+CauchyPieces cauchy_decompose(CauchyKernel kernel, double radius, double *out, size_t n_out);
+
+/* The density of a kernel list at a point.                                                           9 */
+CauchyValue cauchy_densitize(const double *kernels, size_t n_kernels, CauchyVector point);
+
+/* Solves n equations, n + 1 cells each, the right-hand side last; answers `no`.                  10 11 */
+uint32_t cauchy_solve(size_t n, const double *cells, size_t n_cells, double *answer, size_t n_answer);
+
+/* ---- Meshes --------------------------------------------------------------------------------------- */
+
+/* The integral of (1 + sigma^2 * |x - c|^2)^-1 inside the mesh.                                  1 2 3 */
+CauchyValue cauchy_kernel_volume(const double *xyz, size_t n_xyz, const uint32_t *faces, size_t n_faces,
+                                 CauchyVector c, double sigma);
+
+/* The enclosed volume, below 0 where the faces are inside out.                                   1 2 3 */
+CauchyValue cauchy_body_volume(const double *xyz, size_t n_xyz, const uint32_t *faces, size_t n_faces);
+
+/* The centroid of the enclosed volume; zeros where that is tiny or NaN.                          1 2 3 */
+CauchyPoint cauchy_volume_centroid(const double *xyz, size_t n_xyz, const uint32_t *faces, size_t n_faces);
+
+/* The mass of a kernel list inside the mesh, exponents taken as 1.                             1 2 3 9 */
+CauchyValue cauchy_field_mass(const double *xyz, size_t n_xyz, const uint32_t *faces, size_t n_faces,
+                              const double *kernels, size_t n_kernels);
+
+/* The report of a body of one density, which is taken as it is given.                            1 2 3 */
+CauchyReport cauchy_homogeneous(double bulk, const double *xyz, size_t n_xyz, const uint32_t *faces, size_t n_faces);
+
+/* ---- The second implementation of the original (its "source" folder): other orders of operations --- */
+
+/* The density of a kernel list at a point.                                                           9 */
+CauchyValue cauchy_source_density_at(const double *kernels, size_t n_kernels, CauchyVector point);
+
+/* The integral of (1 + sigma^2 * |x - c|^2)^-1 inside the mesh.                                  1 2 3 */
+CauchyValue cauchy_source_kernel_volume(const double *xyz, size_t n_xyz, const uint32_t *faces, size_t n_faces,
+                                        CauchyVector c, double sigma);
+
+/* The enclosed volume, without its sign.                                                         1 2 3 */
+CauchyValue cauchy_source_enclosed_volume(const double *xyz, size_t n_xyz, const uint32_t *faces, size_t n_faces);
+
+/* Writes a kernel list rescaled to a target mass inside the mesh.                           1 2 3 9 12 */
+CauchyKernels cauchy_source_normalize(const double *xyz, size_t n_xyz, const uint32_t *faces, size_t n_faces,
+                                      const double *kernels, size_t n_kernels, double target, double *out, size_t n_out);
+
+/* Writes a kernel list stretched with its mesh and brought to its mass: `mean` density [kg/m^3] times the
+ * mesh's volume, or `total` [kg] where `given` is 0.                                        1 2 3 9 12 */
+CauchyKernels cauchy_source_calibrate(const double *xyz, size_t n_xyz, const uint32_t *faces, size_t n_faces,
+                                      const double *kernels, size_t n_kernels, double total, double mean, uint32_t given,
+                                      double *out, size_t n_out);
+
+/* ---- Roots and powers of 01, never refused -------------------------------------------------------- */
+
+double cauchy_root(double x);            /* the IEEE 754 square root */
+double cauchy_arc(double t);             /* arc tangent */
+double cauchy_log(double b);             /* logarithm to base 2 */
+double cauchy_exp(double y);             /* 2 to the power y */
+double cauchy_power(double b, double y); /* b to the power y */
+double cauchy_ten(double y);             /* 10 to the power y */
+double cauchy_log10(double b);           /* logarithm to base 10 */
+
+#ifdef __cplusplus
+}
+#endif
+
+#endif

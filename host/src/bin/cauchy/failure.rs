@@ -1,0 +1,46 @@
+//! What the program says when it does not go on.
+use std::fmt::Display;
+use std::io;
+use std::path::Path;
+
+/// Why the program ends early.
+#[derive(Debug, PartialEq)]
+pub enum Failure {
+    /// The command line is not understood.
+    Usage(String),
+    /// Something was refused or could not be done.
+    Work(String),
+}
+
+pub type Result<T> = std::result::Result<T, Failure>;
+
+impl Failure {
+    pub fn usage<T>(what: impl Into<String>) -> Result<T> {
+        Err(Failure::Usage(what.into()))
+    }
+
+    pub fn work<T>(what: impl Into<String>) -> Result<T> {
+        Err(Failure::Work(what.into()))
+    }
+
+    /// A fault of a whole file.
+    pub fn of_file(path: &Path, what: impl Display) -> Failure {
+        Failure::Work(format!("{}: {what}", path.display()))
+    }
+
+    /// A fault in a line of a file, counted from 1.
+    pub fn of_line(path: &Path, line: usize, what: impl Display) -> Failure {
+        Failure::Work(format!("{}, line {line}: {what}", path.display()))
+    }
+
+    /// A fault that the system told.
+    pub fn of_system(path: &Path, fault: &io::Error) -> Failure {
+        let what = match fault.kind() {
+            io::ErrorKind::NotFound => "no such file or folder".to_string(),
+            io::ErrorKind::PermissionDenied => "not allowed".to_string(),
+            io::ErrorKind::IsADirectory => "is a folder".to_string(),
+            _ => fault.to_string(),
+        };
+        Failure::of_file(path, what)
+    }
+}

@@ -1,0 +1,54 @@
+//! The planner's program: reads a mesh and a kernel list, does the work in portions, and reads the store.
+mod failure;
+mod figures;
+mod input;
+mod opening;
+mod options;
+mod output;
+mod outputs;
+mod page;
+mod plot;
+mod reading;
+mod track;
+mod work;
+
+use failure::{Failure, Result};
+use options::{Command, Options};
+use output::say;
+use outputs::Outputs;
+use std::process::ExitCode;
+
+fn main() -> ExitCode {
+    let told = options::parse(std::env::args_os().skip(1)).and_then(|command| match command {
+        Command::Help => say(include_str!("help.txt")),
+        Command::Version => say(concat!("cauchy ", env!("CARGO_PKG_VERSION"), "\n")),
+        Command::Work(options) => run(&options),
+    });
+    match told {
+        Ok(()) => ExitCode::SUCCESS,
+        Err(Failure::Usage(what)) => {
+            eprintln!("cauchy: {what}\n`cauchy help` tells more");
+            ExitCode::from(2)
+        }
+        Err(Failure::Work(what)) => {
+            eprintln!("cauchy: {what}");
+            ExitCode::FAILURE
+        }
+    }
+}
+
+/// Reads all inputs and prepares all outputs before the first step, so that a fault in one costs nothing.
+fn run(options: &Options) -> Result<()> {
+    let outputs = Outputs::prepare(options)?;
+    let points = options.track.as_deref().map(input::track).transpose()?;
+    let (mut store, head) = opening::open(&options.origin)?;
+    say(&head)?;
+    let steps = work::work(&mut store, options.steps, outputs.snapshot.as_ref())?;
+    say(&page::entry("work", &[page::steps(steps.done, steps.left)]))?;
+    if steps.left > 0 {
+        return outputs.snapshot.map_or(Ok(()), |snapshot| {
+            say(&format!("The rest: cauchy resume {} ..\n", snapshot.path().display()))
+        });
+    }
+    reading::read(&store, options, &outputs, points)
+}

@@ -1,0 +1,73 @@
+//! The store, from a mesh and a kernel list or from a snapshot.
+use crate::failure::{Failure, Result};
+use crate::figures::short;
+use crate::input::{self, KernelFile};
+use crate::options::Origin;
+use crate::page;
+use cauchy::{Mesh, Store};
+use std::path::Path;
+
+/// The store, and what is printed of it.
+pub fn open(origin: &Origin) -> Result<(Store, String)> {
+    let (store, mut mesh_lines, mut kernel_lines) = match origin {
+        Origin::Files { mesh, kernels, unit, radius } => open_files(mesh, kernels, *unit, *radius)?,
+        Origin::Snapshot(path) => {
+            let bytes = std::fs::read(path).map_err(|fault| Failure::of_system(path, &fault))?;
+            let store = Store::from_bytes(&bytes).map_err(|fault| Failure::of_file(path, fault))?;
+            (store, vec![format!("of the snapshot {}", path.display())], vec!["of the snapshot".into()])
+        }
+    };
+    mesh_lines.extend(page::mesh(&store));
+    kernel_lines.extend(page::places(&store));
+    let head = page::entry("mesh", &mesh_lines) + &page::entry("kernels", &kernel_lines);
+    Ok((store, head))
+}
+
+/// The store of a mesh and a kernel list, and a line on each.
+fn open_files(
+    mesh_path: &Path,
+    kernels_path: &Path,
+    unit: f64,
+    radius: Option<f64>,
+) -> Result<(Store, Vec<String>, Vec<String>)> {
+    let mut mesh = input::mesh(mesh_path, unit)?;
+    let list = input::kernels(kernels_path)?;
+    let unit_name = if unit == 1.0 { "metres" } else { "kilometres" };
+    let mut mesh_lines = vec![format!("{}, in {unit_name}", mesh_path.display())];
+    let of_mesh = |fault| Failure::of_file(mesh_path, fault);
+    let view = Mesh { vertices: &mesh.vertices, faces: &mesh.faces };
+    if view.volume().map_err(|refusal| of_mesh(refusal.into()))? < 0.0 {
+        mesh.faces.iter_mut().for_each(|face| face.swap(1, 2));
+        mesh_lines.push("its faces were inside out and have been turned".to_string());
+    }
+    let radius = radius.unwrap_or_else(|| farthest(&mesh.vertices));
+    let view = Mesh { vertices: &mesh.vertices, faces: &mesh.faces };
+    let mut store = Store::open(radius, view).map_err(of_mesh)?;
+    for (place, kernel) in (0..).zip(&list.kernels) {
+        let put = store.put(place, kernel.to_metres(list.default_alpha));
+        put.map_err(|refusal| Failure::of_file(kernels_path, format!("kernel {place}: {refusal}")))?;
+    }
+    let mut kernel_lines = vec![kernels_line(kernels_path, &list)];
+    kernel_lines.extend(replaced(&list));
+    Ok((store, mesh_lines, kernel_lines))
+}
+
+fn kernels_line(path: &Path, list: &KernelFile) -> String {
+    format!("{}, default exponent {}", path.display(), short(list.default_alpha))
+}
+
+/// The exponents that were given and gave way to the default.
+fn replaced(list: &KernelFile) -> Vec<String> {
+    let given = list.kernels.iter().enumerate().filter_map(|(place, kernel)| Some((place, kernel.alpha?)));
+    let low = given.filter(|(_, alpha)| *alpha <= 0.0);
+    let line = |(place, alpha)| {
+        format!("place {place}: exponent {} is not above 0, the default is taken", short(alpha))
+    };
+    low.map(line).collect()
+}
+
+/// The distance of the farthest vertex from the origin.
+fn farthest(vertices: &[[f64; 3]]) -> f64 {
+    let distance = |[x, y, z]: &[f64; 3]| (x * x + y * y + z * z).sqrt();
+    vertices.iter().map(distance).fold(0.0, f64::max)
+}

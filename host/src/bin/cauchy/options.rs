@@ -1,0 +1,260 @@
+//! The command line.
+use crate::failure::{Failure, Result};
+use cauchy::Convention;
+use std::ffi::OsString;
+use std::path::PathBuf;
+
+/// What is asked for.
+#[derive(Debug, PartialEq)]
+pub enum Command {
+    Help,
+    Version,
+    Work(Box<Options>),
+}
+
+/// Where the store comes from.
+#[derive(Debug, PartialEq)]
+pub enum Origin {
+    /// A mesh and a kernel list; the mesh's unit in metres, and the radius in metres where it is given.
+    Files {
+        mesh: PathBuf,
+        kernels: PathBuf,
+        unit: f64,
+        radius: Option<f64>,
+    },
+    Snapshot(PathBuf),
+}
+
+#[derive(Debug, PartialEq)]
+pub struct Options {
+    pub origin: Origin,
+    pub convention: Convention,
+    pub track: Option<PathBuf>,
+    pub csv: Option<PathBuf>,
+    pub svg: Option<PathBuf>,
+    pub list: Option<PathBuf>,
+    pub snapshot: Option<PathBuf>,
+    pub steps: Option<u64>,
+    pub overwrite: bool,
+}
+
+const DEFAULT_BULK: f64 = 1190.0;
+const METRES_IN_KM: f64 = 1000.0;
+
+/// The options as they were given, each at most once.
+#[derive(Default)]
+struct Given {
+    raw: Option<()>,
+    rho0: Option<()>,
+    mass: Option<f64>,
+    bulk: Option<f64>,
+    track: Option<PathBuf>,
+    csv: Option<PathBuf>,
+    svg: Option<PathBuf>,
+    list: Option<PathBuf>,
+    snapshot: Option<PathBuf>,
+    steps: Option<u64>,
+    overwrite: Option<()>,
+    radius: Option<f64>,
+    unit: Option<f64>,
+    files: Vec<PathBuf>,
+}
+
+pub fn parse(words: impl IntoIterator<Item = OsString>) -> Result<Command> {
+    let words: Vec<OsString> = words.into_iter().collect();
+    let is = |word: &OsString, names: &[&str]| names.iter().any(|name| word == name);
+    let Some(first) = words.first() else {
+        return Failure::usage("nothing asked");
+    };
+    if words.iter().any(|word| is(word, &["--help", "-h"])) || is(first, &["help"]) {
+        return Ok(Command::Help);
+    }
+    if is(first, &["--version", "-V"]) {
+        return Ok(Command::Version);
+    }
+    let given = Given::read(&words[1..])?;
+    match first.to_str() {
+        Some("run") => given.run(),
+        Some("resume") => given.resume(),
+        _ => Failure::usage(format!("{}: the commands are run, resume and help", first.display())),
+    }
+}
+
+impl Given {
+    fn read(words: &[OsString]) -> Result<Given> {
+        let mut given = Given::default();
+        let mut words = words.iter();
+        while let Some(word) = words.next() {
+            let name = match word.to_str() {
+                Some(name) if name.starts_with("--") => name,
+                _ => {
+                    given.files.push(word.into());
+                    continue;
+                }
+            };
+            let mut value = || match words.next() {
+                Some(value) => Ok(value.clone()),
+                None => Failure::usage(format!("{name}: its value is missing")),
+            };
+            match name {
+                "--raw" => once(name, &mut given.raw, ())?,
+                "--rho0" => once(name, &mut given.rho0, ())?,
+                "--mass" => once(name, &mut given.mass, above_zero(name, value()?)?)?,
+                "--bulk" => once(name, &mut given.bulk, above_zero(name, value()?)?)?,
+                "--track" => once(name, &mut given.track, value()?.into())?,
+                "--csv" => once(name, &mut given.csv, value()?.into())?,
+                "--svg" => once(name, &mut given.svg, value()?.into())?,
+                "--list" => once(name, &mut given.list, value()?.into())?,
+                "--snapshot" => once(name, &mut given.snapshot, value()?.into())?,
+                "--steps" => once(name, &mut given.steps, whole(name, value()?)?)?,
+                "--overwrite" => once(name, &mut given.overwrite, ())?,
+                "--radius" => {
+                    let radius = above_zero(name, value()?)? * METRES_IN_KM;
+                    once(name, &mut given.radius, radius)?;
+                }
+                "--mesh-unit" => once(name, &mut given.unit, unit(name, value()?)?)?,
+                _ => return Failure::usage(format!("{name} is no option")),
+            }
+        }
+        Ok(given)
+    }
+
+    fn run(mut self) -> Result<Command> {
+        let files: [PathBuf; 2] = match std::mem::take(&mut self.files).try_into() {
+            Ok(files) => files,
+            Err(_) => return Failure::usage("run takes two files: MESH.obj KERNELS.txt"),
+        };
+        let [mesh, kernels] = files;
+        let unit = self.unit.unwrap_or(METRES_IN_KM);
+        let radius = self.radius;
+        self.work(Origin::Files { mesh, kernels, unit, radius })
+    }
+
+    fn resume(mut self) -> Result<Command> {
+        let files: [PathBuf; 1] = match std::mem::take(&mut self.files).try_into() {
+            Ok(files) => files,
+            Err(_) => return Failure::usage("resume takes one file: SNAPSHOT"),
+        };
+        if self.radius.is_some() || self.unit.is_some() {
+            return Failure::usage(
+                "--radius and --mesh-unit go with run: a snapshot has its mesh and radius",
+            );
+        }
+        let [snapshot] = files;
+        self.work(Origin::Snapshot(snapshot))
+    }
+
+    fn work(self, origin: Origin) -> Result<Command> {
+        let convention = self.convention()?;
+        if self.track.is_none() && (self.csv.is_some() || self.svg.is_some()) {
+            return Failure::usage("--csv and --svg are of a track: give --track FILE too");
+        }
+        if self.steps.is_some() && self.snapshot.is_none() {
+            return Failure::usage("--steps may stop before the end: give --snapshot FILE too");
+        }
+        Ok(Command::Work(Box::new(Options {
+            origin,
+            convention,
+            track: self.track,
+            csv: self.csv,
+            svg: self.svg,
+            list: self.list,
+            snapshot: self.snapshot,
+            steps: self.steps,
+            overwrite: self.overwrite.is_some(),
+        })))
+    }
+
+    fn convention(&self) -> Result<Convention> {
+        let bulk = self.bulk.unwrap_or(DEFAULT_BULK);
+        match (self.raw, self.rho0, self.mass) {
+            (Some(()), None, None) if self.bulk.is_some() => {
+                Failure::usage("--bulk goes with --rho0 or --mass: raw leaves the weights as entered")
+            }
+            (Some(()), None, None) => Ok(Convention::Raw),
+            (None, Some(()), None) => Ok(Convention::Rho0 { bulk }),
+            (None, None, Some(target)) => Ok(Convention::Mass { target, bulk }),
+            (None, None, None) => Failure::usage("name a convention: --raw, --rho0 or --mass TARGET"),
+            _ => Failure::usage("one convention at a time: --raw, --rho0 or --mass TARGET"),
+        }
+    }
+}
+
+fn once<T>(name: &str, slot: &mut Option<T>, value: T) -> Result<()> {
+    match slot.replace(value) {
+        None => Ok(()),
+        Some(_) => Failure::usage(format!("{name} is given twice")),
+    }
+}
+
+fn above_zero(name: &str, word: OsString) -> Result<f64> {
+    match word.to_str().and_then(|text| text.parse::<f64>().ok()) {
+        Some(x) if x.is_finite() && x > 0.0 => Ok(x),
+        _ => Failure::usage(format!("{name}: {} is not a number above 0", word.display())),
+    }
+}
+
+fn whole(name: &str, word: OsString) -> Result<u64> {
+    match word.to_str().and_then(|text| text.parse().ok()) {
+        Some(n) => Ok(n),
+        None => Failure::usage(format!("{name}: {} is not a whole number", word.display())),
+    }
+}
+
+fn unit(name: &str, word: OsString) -> Result<f64> {
+    match word.to_str() {
+        Some("km") => Ok(METRES_IN_KM),
+        Some("m") => Ok(1.0),
+        _ => Failure::usage(format!("{name}: {} is neither km nor m", word.display())),
+    }
+}
+
+#[cfg(test)]
+mod tests {
+    use super::*;
+
+    fn asked(line: &str) -> Result<Command> {
+        parse(line.split_whitespace().map(OsString::from))
+    }
+
+    #[test]
+    fn a_whole_line_is_understood() {
+        let line =
+            "run a.obj --mass 4.5e11 k.txt --bulk 1200 --radius 0.5 --mesh-unit m --steps 9 --snapshot s";
+        let Ok(Command::Work(options)) = asked(line) else { panic!() };
+        let (mesh, kernels) = (PathBuf::from("a.obj"), PathBuf::from("k.txt"));
+        assert_eq!(options.origin, Origin::Files { mesh, kernels, unit: 1.0, radius: Some(500.0) });
+        assert_eq!(options.convention, Convention::Mass { target: 4.5e11, bulk: 1200.0 });
+        assert_eq!((options.steps, options.snapshot), (Some(9), Some("s".into())));
+    }
+
+    #[test]
+    fn what_is_not_understood_is_said() {
+        for (line, said) in [
+            ("", "nothing asked"),
+            ("walk", "walk: the commands are run, resume and help"),
+            ("run a.obj --raw", "run takes two files"),
+            ("run a b c --raw", "run takes two files"),
+            ("resume --raw", "resume takes one file"),
+            ("run a b", "name a convention"),
+            ("run a b --raw --rho0", "one convention"),
+            ("run a b --raw --raw", "--raw is given twice"),
+            ("run a b --raw --bulk 5", "--bulk goes with"),
+            ("run a b --mass", "--mass: its value is missing"),
+            ("run a b --mass 0", "--mass: 0 is not a number above 0"),
+            ("run a b --mass nan", "not a number above 0"),
+            ("run a b --mass inf", "not a number above 0"),
+            ("run a b --raw --fast", "--fast is no option"),
+            ("run a b --raw --csv c", "give --track FILE too"),
+            ("run a b --raw --steps 5", "give --snapshot FILE too"),
+            ("run a b --raw --steps -5", "--steps: -5 is not a whole number"),
+            ("run a b --raw --mesh-unit cm", "neither km nor m"),
+            ("resume s --raw --radius 1", "go with run"),
+        ] {
+            match asked(line) {
+                Err(Failure::Usage(text)) => assert!(text.contains(said), "{line}: {text}"),
+                other => panic!("{line}: {other:?}"),
+            }
+        }
+    }
+}

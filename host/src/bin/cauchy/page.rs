@@ -1,0 +1,171 @@
+//! What the program prints.
+use crate::figures::{count, counted, rounded, short, whole};
+use crate::track::Track;
+use cauchy::{Convention, Kernel, MassReport, PLACES, Store, StoreReport};
+use std::fmt::Write;
+use std::path::Path;
+
+/// The rows of the rescaled list that are printed.
+const ROWS: usize = 12;
+
+/// A label, and lines beside it.
+pub fn entry(label: &str, lines: &[String]) -> String {
+    let labels = std::iter::once(label).chain(std::iter::repeat(""));
+    labels.zip(lines).map(|(label, line)| format!("{label:<10}{line}\n")).collect()
+}
+
+/// The mesh's size in words.
+pub fn mesh(store: &Store) -> Vec<String> {
+    let mesh = store.mesh();
+    let mut low = [f64::INFINITY; 3];
+    let mut high = [f64::NEG_INFINITY; 3];
+    for vertex in mesh.vertices {
+        for axis in 0..3 {
+            low[axis] = low[axis].min(vertex[axis]);
+            high[axis] = high[axis].max(vertex[axis]);
+        }
+    }
+    let [x, y, z] = [0, 1, 2].map(|axis| rounded((high[axis] - low[axis]) / 1000.0, 4));
+    let (vertices, faces) = (u64::from(store.vertices()), u64::from(store.faces()));
+    vec![
+        format!("{}, {}", counted(vertices, "vertex"), counted(faces, "face")),
+        format!("extent {x} × {y} × {z} km"),
+        format!("radius {} km", rounded(store.radius() / 1000.0, 4)),
+    ]
+}
+
+/// The filled places in words.
+pub fn places(store: &Store) -> Vec<String> {
+    let line = |place| {
+        let held = store.held(place)?;
+        let pieces = counted(u64::from(held.pieces), "piece");
+        let exponent = short(held.kernel.alpha);
+        let fit = match held.error {
+            0.0 => String::new(),
+            error => format!(", fitted with an error of {} of its peak", rounded(error, 2)),
+        };
+        Some(format!("place {place:<4}{pieces:<12}exponent {exponent}{fit}"))
+    };
+    (0..PLACES).filter_map(line).collect()
+}
+
+/// The steps that were done and those left.
+pub fn steps(done: u64, left: u64) -> String {
+    match left {
+        0 => format!("{} done, none left", counted(done, "step")),
+        _ => format!("{} done, {} left", counted(done, "step"), count(left)),
+    }
+}
+
+/// The convention in words.
+pub fn convention(convention: Convention) -> String {
+    match convention {
+        Convention::Raw => "weights as entered".to_string(),
+        Convention::Rho0 { bulk } => format!("density at the origin brought to {} kg/m³", short(bulk)),
+        Convention::Mass { target, .. } => format!("field mass brought to {} kg", short(target)),
+    }
+}
+
+/// The mass report, beside the density at the origin with weights as entered.
+pub fn report(by: Convention, report: &StoreReport, origin: f64) -> String {
+    let mass = &report.mass;
+    let bulk = match by {
+        Convention::Raw => 1190.0,
+        Convention::Rho0 { bulk } | Convention::Mass { bulk, .. } => bulk,
+    };
+    let mut text = format!("\nMass report by the convention {}: {}\n", by.name(), convention(by));
+    let mut row = |label: &str, figure: f64, unit: &str, scale: Option<f64>| {
+        let figure = format!("{} {unit}", whole(figure));
+        let scale = scale.map_or(String::new(), |scale| format!("weights times {}", whole(scale)));
+        let line = format!("  {label:<43}{figure:<27}{scale}");
+        let _ = writeln!(text, "{}", line.trim_end());
+    };
+    row("density at the origin, weights as entered", origin, "kg/m³", None);
+    row("field mass, weights as entered", mass.raw_mass, "kg", None);
+    let at_bulk = format!("field mass with {} kg/m³ at the origin", short(bulk));
+    row(&at_bulk, mass.rho0_mass, "kg", Some(mass.rho0_scale));
+    row("field mass by this convention", mass.applied_mass, "kg", Some(mass.applied_scale));
+    row("volume of the mesh", mass.volume, "m³", None);
+    row("mean density by this convention", mass.applied_mass / mass.volume, "kg/m³", None);
+    row("greatest error of a fit, of its peak", report.error, "", None);
+    for caution in cautions(by, &report.mass, origin) {
+        let _ = writeln!(text, "  Note: {caution}");
+    }
+    text
+}
+
+/// What a planner must not overlook.
+fn cautions(by: Convention, mass: &MassReport, origin: f64) -> Vec<&'static str> {
+    let mut said = Vec::new();
+    let tiny = |x: f64| !x.is_finite() || x.abs() <= 1e-30;
+    let falls_back = mass.target_mass > 0.0 && tiny(mass.raw_mass);
+    if falls_back {
+        said.push(
+            "the mass as entered is tiny or not finite: the target is NOT met, the scale is that of rho0",
+        );
+    }
+    if tiny(origin) && (falls_back || matches!(by, Convention::Rho0 { .. })) {
+        said.push("the density at the origin is tiny or not finite: it is NOT brought to the bulk density");
+    }
+    if mass.applied_scale < 0.0 {
+        said.push("the factor is below 0: every weight changes its sign");
+    }
+    if mass.volume <= 0.0 {
+        said.push("the mesh encloses no volume: no mass means anything on it");
+    }
+    if !mass.applied_mass.is_finite() {
+        said.push("the mass by this convention is not a finite number");
+    }
+    said
+}
+
+/// The first rows of the rescaled list.
+pub fn list(by: Convention, store: &Store, pieces: &[Kernel]) -> String {
+    let mut text =
+        format!("\nRescaled list by the convention {}: {}", by.name(), counted(pieces.len() as u64, "piece"));
+    if pieces.len() > ROWS {
+        let _ = write!(text, ", the first {ROWS} here; --list FILE writes all");
+    }
+    let heads = ["place", "x [m]", "y [m]", "z [m]", "sigma [1/m]", "weight [kg/m³]", "exponent"];
+    text.push('\n');
+    text += &table_row(heads.map(String::from));
+    for (place, piece) in places_of(store).into_iter().zip(pieces).take(ROWS) {
+        let [x, y, z] = piece.c;
+        let [x, y, z, sigma, w, alpha] = [x, y, z, piece.sigma, piece.w, piece.alpha].map(short);
+        text += &table_row([place.to_string(), x, y, z, sigma, w, alpha]);
+    }
+    text
+}
+
+fn table_row([place, x, y, z, sigma, w, alpha]: [String; 7]) -> String {
+    format!("  {place:>5}  {x:>9}  {y:>9}  {z:>9}  {sigma:>12}  {w:>14}  {alpha:>8}\n")
+}
+
+/// The rescaled list, whole, as a table.
+pub fn list_csv(store: &Store, pieces: &[Kernel]) -> String {
+    let mut text = String::from("place,x_m,y_m,z_m,sigma_per_m,weight_kg_m3,exponent\n");
+    for (place, piece) in places_of(store).into_iter().zip(pieces) {
+        let [x, y, z] = piece.c;
+        let fields = [x, y, z, piece.sigma, piece.w, piece.alpha].map(whole);
+        let _ = writeln!(text, "{place},{}", fields.join(","));
+    }
+    text
+}
+
+/// The place of each piece, in the list's order.
+fn places_of(store: &Store) -> Vec<u32> {
+    let pieces = |place| store.held(place).map_or(0, |held| held.pieces as usize);
+    (0..PLACES).flat_map(|place| std::iter::repeat_n(place, pieces(place))).collect()
+}
+
+/// The track in words.
+pub fn track(by: Convention, path: &Path, track: &Track) -> String {
+    let points = counted(track.points.len() as u64, "point");
+    let length = rounded(track.length() / 1000.0, 4);
+    format!(
+        "\nTrack by the convention {}: {}, {points} over {length} km\n  {}\n",
+        by.name(),
+        path.display(),
+        track.summary()
+    )
+}

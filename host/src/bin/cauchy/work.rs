@@ -1,0 +1,133 @@
+//! The work, in portions of a fifth of a second, with a bar on a terminal and snapshots between portions.
+use crate::failure::{Failure, Result};
+use crate::output::Output;
+use cauchy::{Steps, Store};
+use std::io::{IsTerminal, Write, stderr};
+use std::time::{Duration, Instant};
+
+const PORTION_TIME: Duration = Duration::from_millis(200);
+const SNAPSHOT_TIME: Duration = Duration::from_secs(30);
+
+/// Does the steps that are left, or the first `limit` of them, and keeps a snapshot.
+pub fn work(store: &mut Store, limit: Option<u64>, snapshot: Option<&Output>) -> Result<Steps> {
+    let refused = |refusal| Failure::Work(format!("work: {refusal}"));
+    let left = store.left().map_err(refused)?;
+    let asked = limit.map_or(left, |limit| limit.min(left));
+    let mut steps = Steps { done: 0, left };
+    let mut portion = Portion::of(store);
+    let mut bar = Bar::new();
+    save(store, snapshot)?;
+    let mut saved = Instant::now();
+    while steps.done < asked {
+        let begun = Instant::now();
+        let told = store.advance(portion.steps.min(asked - steps.done)).map_err(refused)?;
+        steps = Steps { done: steps.done + told.done, left: told.left };
+        portion.adapt(begun.elapsed());
+        bar.show(steps.done, asked);
+        if saved.elapsed() > SNAPSHOT_TIME {
+            save(store, snapshot)?;
+            saved = Instant::now();
+        }
+    }
+    bar.end();
+    if steps.done > 0 {
+        save(store, snapshot)?;
+    }
+    Ok(steps)
+}
+
+fn save(store: &Store, snapshot: Option<&Output>) -> Result<()> {
+    snapshot.map_or(Ok(()), |output| output.write(&store.to_bytes()))
+}
+
+/// How many steps one call is given: never fewer than the faces, which each call looks over.
+struct Portion {
+    least: u64,
+    steps: u64,
+}
+
+impl Portion {
+    fn of(store: &Store) -> Portion {
+        let least = u64::from(store.faces()).max(4096);
+        Portion { least, steps: least }
+    }
+
+    fn adapt(&mut self, took: Duration) {
+        if took < PORTION_TIME / 2 {
+            self.steps = self.steps.saturating_mul(2);
+        } else if took > PORTION_TIME * 2 {
+            self.steps = (self.steps / 2).max(self.least);
+        }
+    }
+}
+
+/// A bar on standard error, where that is a terminal.
+struct Bar {
+    begun: Instant,
+    on_terminal: bool,
+    shown: bool,
+}
+
+impl Bar {
+    fn new() -> Bar {
+        Bar { begun: Instant::now(), on_terminal: stderr().is_terminal(), shown: false }
+    }
+
+    fn show(&mut self, done: u64, asked: u64) {
+        if self.on_terminal {
+            eprint!("\r{}\x1b[K", bar_line(done, asked, self.begun.elapsed()));
+            let _ = stderr().flush();
+            self.shown = true;
+        }
+    }
+
+    fn end(&self) {
+        if self.shown {
+            eprint!("\r\x1b[K");
+        }
+    }
+}
+
+fn bar_line(done: u64, asked: u64, took: Duration) -> String {
+    const WIDTH: usize = 40;
+    let part = done as f64 / asked as f64;
+    let full = (part * WIDTH as f64) as usize;
+    let left = took.as_secs_f64() * (1.0 - part) / part;
+    let (full_part, rest) = ("#".repeat(full), "-".repeat(WIDTH - full));
+    format!("[{full_part}{rest}] {:3.0} %  {} left", part * 100.0, time(left))
+}
+
+fn time(seconds: f64) -> String {
+    let seconds = seconds.ceil() as u64;
+    match seconds {
+        0..60 => format!("{seconds} s"),
+        60..3600 => format!("{} min {} s", seconds / 60, seconds % 60),
+        _ => format!("{} h {} min", seconds / 3600, seconds % 3600 / 60),
+    }
+}
+
+#[cfg(test)]
+mod tests {
+    use super::*;
+
+    #[test]
+    fn the_bar_tells_part_and_time_left() {
+        let line = bar_line(250, 1000, Duration::from_secs(30));
+        assert_eq!(line, "[##########------------------------------]  25 %  1 min 30 s left");
+        let line = bar_line(1000, 1000, Duration::from_secs(30));
+        assert_eq!(line, "[########################################] 100 %  0 s left");
+        assert_eq!(time(7300.0), "2 h 1 min");
+    }
+
+    #[test]
+    fn portions_follow_the_time_that_they_take() {
+        let mut portion = Portion { least: 4096, steps: 4096 };
+        portion.adapt(Duration::from_millis(1));
+        assert_eq!(portion.steps, 8192);
+        portion.adapt(Duration::from_millis(200));
+        assert_eq!(portion.steps, 8192);
+        portion.adapt(Duration::from_secs(1));
+        portion.adapt(Duration::from_secs(1));
+        assert_eq!(portion.steps, 4096);
+    }
+}

@@ -1,0 +1,415 @@
+//! The store, over two vectors of its own.
+use crate::{Convention, FloatState, Kernel, MAX_PIECES, Mesh, Refusal, StoreReport, sys};
+use std::error::Error;
+use std::fmt;
+
+/// The places of a store, numbered from 0.
+pub const PLACES: u32 = 32;
+
+// The layout of 01: what stands before the mesh in each run, and the fields of a place.
+const FLOATS_BEFORE_MESH: usize = 1761;
+const WORDS_BEFORE_MESH: usize = 98;
+const KERNELS_AT: usize = 1;
+const KERNEL_FLOATS: usize = 7;
+const STATES_AT: usize = 2;
+const STATE_WORDS: usize = 3;
+
+/// Up to 32 kernels inside a mesh, with the work on them as far as it is done.
+///
+/// Both runs that the archive works on are the store's own, so no call can overlap another's memory, and they
+/// hold a sound store from the opening on. Stores are independent: they may be used in different threads.
+#[derive(Clone)]
+pub struct Store {
+    pub(crate) floats: Vec<f64>,
+    pub(crate) words: Vec<u32>,
+}
+
+/// What a put answers.
+#[derive(Clone, Copy, Debug, PartialEq, Eq)]
+pub struct Placed {
+    /// The kernel's pieces.
+    pub pieces: u32,
+    /// The steps that they need: one for each piece and face.
+    pub need: u32,
+}
+
+/// What an advance answers.
+#[derive(Clone, Copy, Debug, PartialEq, Eq)]
+pub struct Steps {
+    /// The steps that this call did.
+    pub done: u64,
+    /// The steps that are left.
+    pub left: u64,
+}
+
+/// What a filled place holds.
+#[derive(Clone, Copy, Debug, PartialEq)]
+pub struct Held {
+    /// The kernel, its weight as it was last entered.
+    pub kernel: Kernel,
+    /// Its pieces.
+    pub pieces: u32,
+    /// The greatest error of its fit, as a fraction of its peak.
+    pub error: f64,
+}
+
+/// Why a store was not opened.
+#[derive(Clone, Copy, Debug, PartialEq, Eq)]
+pub enum OpenError {
+    /// The mesh was refused.
+    Refused(Refusal),
+    /// The thread's floating-point state is not the default one.
+    FloatState(FloatState),
+}
+
+impl Store {
+    /// Opens a store of this mesh, every place empty. The body's radius, in metres, bounds the fits of
+    /// exponents other than 1.
+    ///
+    /// ```
+    /// use cauchy::{Mesh, OpenError, Refusal, Store};
+    ///
+    /// let vertices = [[0.0, 0.0, 0.0], [1.0, 0.0, 0.0], [0.0, 1.0, 0.0]];
+    /// let store = Store::open(1.0, Mesh { vertices: &vertices, faces: &[[0, 1, 2]] })?;
+    /// assert_eq!((store.vertices(), store.faces()), (3, 1));
+    /// let loose = Store::open(1.0, Mesh { vertices: &vertices, faces: &[[0, 1, 3]] });
+    /// assert_eq!(loose.unwrap_err(), OpenError::Refused(Refusal::LooseCorner));
+    /// # Ok::<(), OpenError>(())
+    /// ```
+    pub fn open(radius: f64, mesh: Mesh<'_>) -> Result<Store, OpenError> {
+        FloatState::check()?;
+        let (xyz, faces) = mesh.runs();
+        let mut floats = vec![0.0; FLOATS_BEFORE_MESH + xyz.len()];
+        let mut words = vec![0; WORDS_BEFORE_MESH + faces.len()];
+        // SAFETY: slices, borrowed for the call; those that are written are new.
+        let told = unsafe {
+            sys::cauchy_store_open(
+                floats.as_mut_ptr(),
+                floats.len(),
+                words.as_mut_ptr(),
+                words.len(),
+                radius,
+                xyz.as_ptr(),
+                xyz.len(),
+                faces.as_ptr(),
+                faces.len(),
+            )
+        };
+        Refusal::check(told.no)?;
+        Ok(Store { floats, words })
+    }
+
+    /// Puts a kernel into a place, whatever that held, with all its work to do.
+    ///
+    /// ```
+    /// # use cauchy::{Kernel, Mesh, Refusal, Store};
+    /// # let mesh = Mesh { vertices: &[[0.0; 3]; 3], faces: &[[0, 1, 2]] };
+    /// let mut store = Store::open(500.0, mesh)?;
+    /// let kernel = Kernel { c: [0.0; 3], sigma: 0.01, w: 300.0, alpha: 2.0 };
+    /// assert_eq!(store.put(31, kernel)?.pieces, 13);
+    /// assert_eq!(store.put(32, kernel), Err(Refusal::NoPlace));
+    /// # Ok::<(), Box<dyn std::error::Error>>(())
+    /// ```
+    pub fn put(&mut self, place: u32, kernel: Kernel) -> Result<Placed, Refusal> {
+        let (floats, words) = (&mut self.floats, &mut self.words);
+        let (n_floats, n_words) = (floats.len(), words.len());
+        // SAFETY: two vectors of the store's own, borrowed for the call.
+        let told = unsafe {
+            sys::cauchy_store_put(floats.as_mut_ptr(), n_floats, words.as_mut_ptr(), n_words, place, kernel)
+        };
+        Refusal::check(told.no)?;
+        Ok(Placed { pieces: told.pieces, need: told.need })
+    }
+
+    /// Empties a place.
+    ///
+    /// ```
+    /// # use cauchy::{Kernel, Mesh, Refusal, Store};
+    /// # let mesh = Mesh { vertices: &[[0.0; 3]; 3], faces: &[[0, 1, 2]] };
+    /// # let kernel = Kernel { c: [0.0; 3], sigma: 0.01, w: 300.0, alpha: 1.0 };
+    /// let mut store = Store::open(500.0, mesh)?;
+    /// store.put(4, kernel)?;
+    /// assert_eq!(store.clear(4), Ok(()));
+    /// assert_eq!(store.clear(4), Err(Refusal::Vacant));
+    /// # Ok::<(), Box<dyn std::error::Error>>(())
+    /// ```
+    pub fn clear(&mut self, place: u32) -> Result<(), Refusal> {
+        let (floats, words) = (&mut self.floats, &mut self.words);
+        let (n_floats, n_words) = (floats.len(), words.len());
+        // SAFETY: two vectors of the store's own, borrowed for the call.
+        Refusal::check(unsafe {
+            sys::cauchy_store_clear(floats.as_mut_ptr(), n_floats, words.as_mut_ptr(), n_words, place)
+        })
+    }
+
+    /// Gives the kernel of a place another weight, kg/m³; the work on it is kept.
+    ///
+    /// ```
+    /// # use cauchy::{Convention, Kernel, Mesh, Refusal, Store};
+    /// # let mesh = Mesh { vertices: &[[0.0; 3]; 3], faces: &[[0, 1, 2]] };
+    /// # let kernel = Kernel { c: [0.0; 3], sigma: 0.01, w: 300.0, alpha: 1.0 };
+    /// let mut store = Store::open(500.0, mesh)?;
+    /// store.put(4, kernel)?;
+    /// store.reweigh(4, -20.0)?;
+    /// assert_eq!(store.density(Convention::Raw, [0.0; 3])?, -20.0);
+    /// # Ok::<(), Box<dyn std::error::Error>>(())
+    /// ```
+    pub fn reweigh(&mut self, place: u32, w: f64) -> Result<(), Refusal> {
+        let (floats, words) = (&mut self.floats, &mut self.words);
+        let (n_floats, n_words) = (floats.len(), words.len());
+        // SAFETY: two vectors of the store's own, borrowed for the call.
+        Refusal::check(unsafe {
+            sys::cauchy_store_reweigh(floats.as_mut_ptr(), n_floats, words.as_mut_ptr(), n_words, place, w)
+        })
+    }
+
+    /// Does up to `budget` steps of the work left, one face of one piece each. Every call looks the whole
+    /// store over first, so budgets of many faces are cheapest.
+    ///
+    /// ```
+    /// # use cauchy::{Kernel, Mesh, Steps, Store};
+    /// # let mesh = Mesh { vertices: &[[0.0; 3]; 3], faces: &[[0, 1, 2]; 10] };
+    /// # let kernel = Kernel { c: [0.0; 3], sigma: 0.01, w: 300.0, alpha: 1.0 };
+    /// let mut store = Store::open(500.0, mesh)?;
+    /// store.put(0, kernel)?;
+    /// assert_eq!(store.advance(7)?, Steps { done: 7, left: 3 });
+    /// assert_eq!(store.advance(7)?, Steps { done: 3, left: 0 });
+    /// # Ok::<(), Box<dyn std::error::Error>>(())
+    /// ```
+    pub fn advance(&mut self, budget: u64) -> Result<Steps, Refusal> {
+        let (floats, words) = (&mut self.floats, &mut self.words);
+        let (n_floats, n_words) = (floats.len(), words.len());
+        // SAFETY: two vectors of the store's own, borrowed for the call.
+        let told = unsafe {
+            sys::cauchy_store_advance(floats.as_mut_ptr(), n_floats, words.as_mut_ptr(), n_words, budget)
+        };
+        Refusal::check(told.no)?;
+        Ok(Steps { done: told.done, left: told.left })
+    }
+
+    /// The steps that are left: what an advance of no steps answers.
+    ///
+    /// ```
+    /// # use cauchy::{Kernel, Mesh, Store};
+    /// # let mesh = Mesh { vertices: &[[0.0; 3]; 3], faces: &[[0, 1, 2]; 10] };
+    /// # let kernel = Kernel { c: [0.0; 3], sigma: 0.01, w: 300.0, alpha: 1.0 };
+    /// let mut store = Store::open(500.0, mesh)?;
+    /// store.put(0, kernel)?;
+    /// assert_eq!(store.left(), Ok(10));
+    /// # Ok::<(), Box<dyn std::error::Error>>(())
+    /// ```
+    pub fn left(&mut self) -> Result<u64, Refusal> {
+        Ok(self.advance(0)?.left)
+    }
+
+    /// The density at a point, kg/m³. By mass with a target above 0 it needs all work done.
+    ///
+    /// ```
+    /// # use cauchy::{Convention, Kernel, Mesh, Refusal, Store};
+    /// # let mesh = Mesh { vertices: &[[0.0; 3]; 3], faces: &[[0, 1, 2]] };
+    /// let mut store = Store::open(500.0, mesh)?;
+    /// store.put(0, Kernel { c: [0.0; 3], sigma: 1.0, w: 2.0, alpha: 1.0 })?;
+    /// assert_eq!(store.density(Convention::Raw, [1.0, 0.0, 0.0])?, 1.0);
+    /// let by_mass = Convention::Mass { target: 1e9, bulk: 1190.0 };
+    /// assert_eq!(store.density(by_mass, [1.0, 0.0, 0.0]), Err(Refusal::Unfinished));
+    /// # Ok::<(), Box<dyn std::error::Error>>(())
+    /// ```
+    pub fn density(&self, convention: Convention, point: [f64; 3]) -> Result<f64, Refusal> {
+        let (floats, words) = (&self.floats, &self.words);
+        // SAFETY: two vectors of the store's own, borrowed for the call and only read.
+        let told = unsafe {
+            sys::cauchy_store_density(
+                floats.as_ptr(),
+                floats.len(),
+                words.as_ptr(),
+                words.len(),
+                convention.crossing(),
+                point.into(),
+            )
+        };
+        Refusal::check(told.no).map(|()| told.value)
+    }
+
+    /// The masses, counts and greatest error. It needs all work done.
+    ///
+    /// ```
+    /// # use cauchy::{Convention, Kernel, Mesh, Refusal, Store};
+    /// # let vertices = [[0.0, 0.0, 0.0], [6.0, 0.0, 0.0], [0.0, 6.0, 0.0], [0.0, 0.0, 6.0]];
+    /// # let faces = [[0, 2, 1], [0, 1, 3], [0, 3, 2], [1, 2, 3]];
+    /// let mut store = Store::open(6.0, Mesh { vertices: &vertices, faces: &faces })?;
+    /// store.put(0, Kernel { c: [1.0; 3], sigma: 0.0, w: 1000.0, alpha: 1.0 })?;
+    /// assert_eq!(store.report(Convention::Raw), Err(Refusal::Unfinished));
+    /// store.advance(4)?;
+    /// let report = store.report(Convention::Rho0 { bulk: 1500.0 })?;
+    /// assert!((report.mass.raw_mass - 36_000.0).abs() < 1e-6);
+    /// assert!((report.mass.applied_mass - 54_000.0).abs() < 1e-6);
+    /// assert_eq!((report.kernels, report.pieces), (1, 1));
+    /// # Ok::<(), Box<dyn std::error::Error>>(())
+    /// ```
+    pub fn report(&self, convention: Convention) -> Result<StoreReport, Refusal> {
+        let (floats, words) = (&self.floats, &self.words);
+        // SAFETY: two vectors of the store's own, borrowed for the call and only read.
+        let told = unsafe {
+            sys::cauchy_store_report(
+                floats.as_ptr(),
+                floats.len(),
+                words.as_ptr(),
+                words.len(),
+                convention.crossing(),
+            )
+        };
+        Refusal::check(told.no)?;
+        Ok(StoreReport { mass: told.report, kernels: told.kernels, pieces: told.pieces, error: told.error })
+    }
+
+    /// The pieces of all places, in order, with weights rescaled by the convention. By mass with a target
+    /// above 0 it needs all work done.
+    ///
+    /// ```
+    /// # use cauchy::{Convention, Kernel, Mesh, Store};
+    /// # let mesh = Mesh { vertices: &[[0.0; 3]; 3], faces: &[[0, 1, 2]] };
+    /// let mut store = Store::open(500.0, mesh)?;
+    /// let kernel = Kernel { c: [0.0; 3], sigma: 0.01, w: 300.0, alpha: 1.0 };
+    /// store.put(7, kernel)?;
+    /// assert_eq!(store.list(Convention::Raw)?, [kernel]);
+    /// assert_eq!(store.list(Convention::Rho0 { bulk: 1200.0 })?, [Kernel { w: 1200.0, ..kernel }]);
+    /// # Ok::<(), Box<dyn std::error::Error>>(())
+    /// ```
+    pub fn list(&self, convention: Convention) -> Result<Vec<Kernel>, Refusal> {
+        let mut out = vec![0.0; PLACES as usize * MAX_PIECES * 6];
+        let (floats, words) = (&self.floats, &self.words);
+        // SAFETY: vectors of the store's own, only read, and a new one.
+        let told = unsafe {
+            sys::cauchy_store_list(
+                floats.as_ptr(),
+                floats.len(),
+                words.as_ptr(),
+                words.len(),
+                convention.crossing(),
+                out.as_mut_ptr(),
+                out.len(),
+            )
+        };
+        Refusal::check(told.no).map(|()| Kernel::listed(&out, told.pieces as usize))
+    }
+
+    /// What a place holds; `None` where it is empty or 32 or above.
+    ///
+    /// ```
+    /// # use cauchy::{Kernel, Mesh, Store};
+    /// # let mesh = Mesh { vertices: &[[0.0; 3]; 3], faces: &[[0, 1, 2]] };
+    /// let mut store = Store::open(500.0, mesh)?;
+    /// let kernel = Kernel { c: [1.0, 2.0, 3.0], sigma: 0.01, w: 300.0, alpha: 1.0 };
+    /// store.put(7, kernel)?;
+    /// assert_eq!(store.held(7).map(|held| held.kernel), Some(kernel));
+    /// assert_eq!(store.held(8), None);
+    /// # Ok::<(), Box<dyn std::error::Error>>(())
+    /// ```
+    pub fn held(&self, place: u32) -> Option<Held> {
+        if place >= PLACES {
+            return None;
+        }
+        let place = place as usize;
+        let pieces = self.words[STATES_AT + STATE_WORDS * place].checked_sub(1)?;
+        let fields = &self.floats[KERNELS_AT + KERNEL_FLOATS * place..][..KERNEL_FLOATS];
+        let kernel =
+            Kernel { c: [fields[0], fields[1], fields[2]], sigma: fields[3], w: fields[4], alpha: fields[5] };
+        Some(Held { kernel, pieces, error: fields[6] })
+    }
+
+    /// The count of the mesh's vertices.
+    ///
+    /// ```
+    /// # use cauchy::{Mesh, Store};
+    /// # let mesh = Mesh { vertices: &[[0.0; 3]; 4], faces: &[[0, 1, 2]] };
+    /// assert_eq!(Store::open(500.0, mesh)?.vertices(), 4);
+    /// # Ok::<(), cauchy::OpenError>(())
+    /// ```
+    pub fn vertices(&self) -> u32 {
+        self.words[0]
+    }
+
+    /// The count of the mesh's faces.
+    ///
+    /// ```
+    /// # use cauchy::{Mesh, Store};
+    /// # let mesh = Mesh { vertices: &[[0.0; 3]; 4], faces: &[[0, 1, 2]] };
+    /// assert_eq!(Store::open(500.0, mesh)?.faces(), 1);
+    /// # Ok::<(), cauchy::OpenError>(())
+    /// ```
+    pub fn faces(&self) -> u32 {
+        self.words[1]
+    }
+
+    /// The body's radius, m, as the store was opened with.
+    ///
+    /// ```
+    /// # use cauchy::{Mesh, Store};
+    /// # let mesh = Mesh { vertices: &[[0.0; 3]; 4], faces: &[[0, 1, 2]] };
+    /// assert_eq!(Store::open(500.0, mesh)?.radius(), 500.0);
+    /// # Ok::<(), cauchy::OpenError>(())
+    /// ```
+    pub fn radius(&self) -> f64 {
+        self.floats[0]
+    }
+
+    /// The mesh as the store keeps it.
+    ///
+    /// ```
+    /// # use cauchy::{Mesh, Store};
+    /// let mesh = Mesh { vertices: &[[1.0, 2.0, 3.0]; 3], faces: &[[0, 1, 2]] };
+    /// assert_eq!(Store::open(500.0, mesh)?.mesh(), mesh);
+    /// # Ok::<(), cauchy::OpenError>(())
+    /// ```
+    pub fn mesh(&self) -> Mesh<'_> {
+        Mesh {
+            vertices: self.floats[FLOATS_BEFORE_MESH..].as_chunks().0,
+            faces: self.words[WORDS_BEFORE_MESH..].as_chunks().0,
+        }
+    }
+
+    /// Whether the runs are a sound store without excess, as an opening makes them.
+    pub(crate) fn check(&mut self) -> Result<(), Refusal> {
+        self.left()?;
+        let vertices = self.vertices() as usize;
+        let faces = self.faces() as usize;
+        let exact = self.floats.len() == FLOATS_BEFORE_MESH + 3 * vertices
+            && self.words.len() == WORDS_BEFORE_MESH + 3 * faces;
+        if exact { Ok(()) } else { Err(Refusal::Unsound) }
+    }
+}
+
+impl fmt::Debug for Store {
+    fn fmt(&self, f: &mut fmt::Formatter<'_>) -> fmt::Result {
+        let filled = (0..PLACES).filter(|place| self.held(*place).is_some()).count();
+        f.debug_struct("Store")
+            .field("vertices", &self.vertices())
+            .field("faces", &self.faces())
+            .field("radius", &self.radius())
+            .field("filled", &filled)
+            .finish_non_exhaustive()
+    }
+}
+
+impl From<Refusal> for OpenError {
+    fn from(refusal: Refusal) -> OpenError {
+        OpenError::Refused(refusal)
+    }
+}
+
+impl From<FloatState> for OpenError {
+    fn from(state: FloatState) -> OpenError {
+        OpenError::FloatState(state)
+    }
+}
+
+impl fmt::Display for OpenError {
+    fn fmt(&self, f: &mut fmt::Formatter<'_>) -> fmt::Result {
+        match self {
+            OpenError::Refused(refusal) => refusal.fmt(f),
+            OpenError::FloatState(state) => state.fmt(f),
+        }
+    }
+}
+
+impl Error for OpenError {}

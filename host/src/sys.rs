@@ -1,0 +1,256 @@
+//! The functions of `include/cauchy.h`. The types that the crate shows to its users are laid out as in C, so
+//! they cross as they are; what only an answer needs is here.
+use crate::{Kernel, MassReport};
+
+#[repr(C)]
+#[derive(Clone, Copy)]
+pub struct Vector {
+    pub x: f64,
+    pub y: f64,
+    pub z: f64,
+}
+
+impl From<[f64; 3]> for Vector {
+    fn from([x, y, z]: [f64; 3]) -> Vector {
+        Vector { x, y, z }
+    }
+}
+
+#[repr(C)]
+pub struct FileKernel {
+    pub c: [f64; 3],
+    pub sigma: f64,
+    pub w: f64,
+    pub alpha: f64,
+    pub given: u32,
+}
+
+#[repr(C)]
+pub struct Convention {
+    pub kind: u32,
+    pub target: f64,
+    pub bulk: f64,
+}
+
+#[repr(C)]
+pub struct Opened {
+    pub no: u32,
+    pub verts: u32,
+    pub faces: u32,
+}
+
+#[repr(C)]
+pub struct Placed {
+    pub no: u32,
+    pub pieces: u32,
+    pub need: u32,
+}
+
+#[repr(C)]
+pub struct Steps {
+    pub no: u32,
+    pub done: u64,
+    pub left: u64,
+}
+
+#[repr(C)]
+pub struct Value {
+    pub no: u32,
+    pub value: f64,
+}
+
+#[repr(C)]
+pub struct Point {
+    pub no: u32,
+    pub at: Vector,
+}
+
+#[repr(C)]
+pub struct Report {
+    pub no: u32,
+    pub report: MassReport,
+}
+
+#[repr(C)]
+pub struct StoreReport {
+    pub no: u32,
+    pub report: MassReport,
+    pub kernels: u32,
+    pub pieces: u32,
+    pub error: f64,
+}
+
+#[repr(C)]
+pub struct Listed {
+    pub no: u32,
+    pub pieces: u32,
+}
+
+#[repr(C)]
+pub struct Kernels {
+    pub no: u32,
+    pub kernels: u64,
+}
+
+#[repr(C)]
+pub struct Pieces {
+    pub no: u32,
+    pub pieces: u64,
+    pub error: f64,
+}
+
+// Each run is a pointer and a count of elements. The functions end and stay within their runs for all
+// lengths and contents, so a call is sound where its slices are: Rust's references are aligned,
+// initialised and, where they are written, unshared.
+unsafe extern "C" {
+    pub fn cauchy_store_open(
+        floats: *mut f64,
+        n_floats: usize,
+        words: *mut u32,
+        n_words: usize,
+        radius: f64,
+        xyz: *const f64,
+        n_xyz: usize,
+        faces: *const u32,
+        n_faces: usize,
+    ) -> Opened;
+    pub fn cauchy_store_put(
+        floats: *mut f64,
+        n_floats: usize,
+        words: *mut u32,
+        n_words: usize,
+        place: u32,
+        kernel: Kernel,
+    ) -> Placed;
+    pub fn cauchy_store_clear(
+        floats: *mut f64,
+        n_floats: usize,
+        words: *mut u32,
+        n_words: usize,
+        place: u32,
+    ) -> u32;
+    pub fn cauchy_store_reweigh(
+        floats: *mut f64,
+        n_floats: usize,
+        words: *mut u32,
+        n_words: usize,
+        place: u32,
+        w: f64,
+    ) -> u32;
+    pub fn cauchy_store_advance(
+        floats: *mut f64,
+        n_floats: usize,
+        words: *mut u32,
+        n_words: usize,
+        budget: u64,
+    ) -> Steps;
+    pub fn cauchy_store_density(
+        floats: *const f64,
+        n_floats: usize,
+        words: *const u32,
+        n_words: usize,
+        convention: Convention,
+        point: Vector,
+    ) -> Value;
+    pub fn cauchy_store_report(
+        floats: *const f64,
+        n_floats: usize,
+        words: *const u32,
+        n_words: usize,
+        convention: Convention,
+    ) -> StoreReport;
+    pub fn cauchy_store_list(
+        floats: *const f64,
+        n_floats: usize,
+        words: *const u32,
+        n_words: usize,
+        convention: Convention,
+        out: *mut f64,
+        n_out: usize,
+    ) -> Listed;
+
+    pub safe fn cauchy_kernel_from_file(kernel: FileKernel, default_alpha: f64) -> Kernel;
+    pub fn cauchy_decompose(kernel: Kernel, radius: f64, out: *mut f64, n_out: usize) -> Pieces;
+    pub fn cauchy_densitize(kernels: *const f64, n_kernels: usize, point: Vector) -> Value;
+    pub fn cauchy_solve(
+        n: usize,
+        cells: *const f64,
+        n_cells: usize,
+        answer: *mut f64,
+        n_answer: usize,
+    ) -> u32;
+
+    pub fn cauchy_kernel_volume(
+        xyz: *const f64,
+        n_xyz: usize,
+        faces: *const u32,
+        n_faces: usize,
+        c: Vector,
+        sigma: f64,
+    ) -> Value;
+    pub fn cauchy_body_volume(xyz: *const f64, n_xyz: usize, faces: *const u32, n_faces: usize) -> Value;
+    pub fn cauchy_volume_centroid(xyz: *const f64, n_xyz: usize, faces: *const u32, n_faces: usize) -> Point;
+    pub fn cauchy_field_mass(
+        xyz: *const f64,
+        n_xyz: usize,
+        faces: *const u32,
+        n_faces: usize,
+        kernels: *const f64,
+        n_kernels: usize,
+    ) -> Value;
+    pub fn cauchy_homogeneous(
+        bulk: f64,
+        xyz: *const f64,
+        n_xyz: usize,
+        faces: *const u32,
+        n_faces: usize,
+    ) -> Report;
+
+    pub fn cauchy_source_density_at(kernels: *const f64, n_kernels: usize, point: Vector) -> Value;
+    pub fn cauchy_source_kernel_volume(
+        xyz: *const f64,
+        n_xyz: usize,
+        faces: *const u32,
+        n_faces: usize,
+        c: Vector,
+        sigma: f64,
+    ) -> Value;
+    pub fn cauchy_source_enclosed_volume(
+        xyz: *const f64,
+        n_xyz: usize,
+        faces: *const u32,
+        n_faces: usize,
+    ) -> Value;
+    pub fn cauchy_source_normalize(
+        xyz: *const f64,
+        n_xyz: usize,
+        faces: *const u32,
+        n_faces: usize,
+        kernels: *const f64,
+        n_kernels: usize,
+        target: f64,
+        out: *mut f64,
+        n_out: usize,
+    ) -> Kernels;
+    pub fn cauchy_source_calibrate(
+        xyz: *const f64,
+        n_xyz: usize,
+        faces: *const u32,
+        n_faces: usize,
+        kernels: *const f64,
+        n_kernels: usize,
+        total: f64,
+        mean: f64,
+        given: u32,
+        out: *mut f64,
+        n_out: usize,
+    ) -> Kernels;
+
+    pub safe fn cauchy_root(x: f64) -> f64;
+    pub safe fn cauchy_arc(t: f64) -> f64;
+    pub safe fn cauchy_log(b: f64) -> f64;
+    pub safe fn cauchy_exp(y: f64) -> f64;
+    pub safe fn cauchy_power(b: f64, y: f64) -> f64;
+    pub safe fn cauchy_ten(y: f64) -> f64;
+    pub safe fn cauchy_log10(b: f64) -> f64;
+}

@@ -1,0 +1,390 @@
+/* Holds include/cauchy.h to the archive: calls every function with a distinct value in every argument and
+ * field, and compares every field of its answer with a figure worked here. Compiled as C11 and as C++17. */
+#include "cauchy.h"
+
+#include <math.h>
+#include <stdio.h>
+#include <stdlib.h>
+#include <string.h>
+
+static int checks;
+
+#define CHECK(condition)                                                        \
+    do {                                                                        \
+        checks++;                                                               \
+        if (!(condition)) {                                                     \
+            fprintf(stderr, "%s:%d: not so: %s\n", __FILE__, __LINE__, #condition); \
+            exit(1);                                                            \
+        }                                                                       \
+    } while (0)
+
+static int near(double got, double want, double relative) { return fabs(got - want) <= relative * fabs(want); }
+
+/* ---- A mesh of 5 vertices, the last in no face, and 4 faces; two kernels ---------------------------- */
+
+enum { V = 5, F = 4, N_XYZ = 3 * V, N_FACES = 3 * F, N_FLOATS = 1761 + N_XYZ + 2, N_WORDS = 98 + N_FACES + 3 };
+
+static const double xyz[N_XYZ] = {-1, -2, -3, 7, 1, 0.5, 0.25, 8, 2, 1.5, 3, 9, 11, 12, 13};
+static const uint32_t faces[N_FACES] = {0, 2, 1, 0, 1, 3, 0, 3, 2, 1, 2, 3};
+static const double radius = 17.5;
+
+static double floats[N_FLOATS];
+static uint32_t words[N_WORDS];
+static double floats_before[N_FLOATS];
+static uint32_t words_before[N_WORDS];
+
+static CauchyKernel kernel(double x, double y, double z, double sigma, double w, double alpha) {
+    CauchyKernel k;
+    k.c[0] = x, k.c[1] = y, k.c[2] = z, k.sigma = sigma, k.w = w, k.alpha = alpha;
+    return k;
+}
+
+static CauchyKernel flat(void) { return kernel(1.25, 2.5, 3.75, 0.375, 1100, 1); }
+static CauchyKernel steep(void) { return kernel(-0.5, 0.75, 1.5, 0.625, 300, 2); }
+
+static CauchyVector vector(double x, double y, double z) {
+    CauchyVector v;
+    v.x = x, v.y = y, v.z = z;
+    return v;
+}
+
+static CauchyConvention convention(uint32_t kind, double target, double bulk) {
+    CauchyConvention v;
+    v.kind = kind, v.target = target, v.bulk = bulk;
+    return v;
+}
+
+static void write_kernel(double *list, CauchyKernel k) {
+    memcpy(list, k.c, sizeof k.c);
+    list[3] = k.sigma, list[4] = k.w, list[5] = k.alpha;
+}
+
+static void remember(void) {
+    memcpy(floats_before, floats, sizeof floats);
+    memcpy(words_before, words, sizeof words);
+}
+
+static int unchanged(void) {
+    return !memcmp(floats_before, floats, sizeof floats) && !memcmp(words_before, words, sizeof words);
+}
+
+/* ---- The formulas once more, in the order of 01 ----------------------------------------------------- */
+
+static double radial(double t) {
+    double term = 1.0 / 3.0, sum = 1.0 / 3.0;
+    if (!(fabs(t) < 0.1)) return (t - cauchy_arc(t)) / (t * t * t);
+    for (int k = 1; k < 10; k++) {
+        term *= -(t * t) * (2.0 * k + 1.0) / (2.0 * k + 3.0);
+        sum += term;
+    }
+    return sum;
+}
+
+static const double rule[7][4] = {
+    {1.0 / 3.0, 1.0 / 3.0, 1.0 / 3.0, 0.225},
+    {0.05971587178976981, 0.4701420641051151, 0.4701420641051151, 0.1323941527885062},
+    {0.4701420641051151, 0.05971587178976981, 0.4701420641051151, 0.1323941527885062},
+    {0.4701420641051151, 0.4701420641051151, 0.05971587178976981, 0.1323941527885062},
+    {0.7974269853530873, 0.10128650732345634, 0.10128650732345634, 0.12593918054482713},
+    {0.10128650732345634, 0.7974269853530873, 0.10128650732345634, 0.12593918054482713},
+    {0.10128650732345634, 0.10128650732345634, 0.7974269853530873, 0.12593918054482713},
+};
+
+/* The integral of (1 + sigma^2 * |x - c|^2)^-1 inside the mesh. */
+static double volume_of(const double *c, double sigma) {
+    double sum = 0;
+    for (int f = 0; f < F; f++) {
+        const double *p = xyz + 3 * faces[3 * f], *q = xyz + 3 * faces[3 * f + 1], *r = xyz + 3 * faces[3 * f + 2];
+        double a[3], b[3], d[3];
+        for (int i = 0; i < 3; i++) a[i] = q[i] - p[i], b[i] = r[i] - q[i];
+        const double n[3] = {a[1] * b[2] - a[2] * b[1], a[2] * b[0] - a[0] * b[2], a[0] * b[1] - a[1] * b[0]};
+        for (int k = 0; k < 7; k++) {
+            const double *u = rule[k];
+            for (int i = 0; i < 3; i++) d[i] = (u[0] * p[i] + u[1] * q[i] + u[2] * r[i]) - c[i];
+            double size = cauchy_root(d[0] * d[0] + d[1] * d[1] + d[2] * d[2]);
+            sum += u[3] * radial(sigma * size) * (d[0] * n[0] + d[1] * n[1] + d[2] * n[2]) * 0.5;
+        }
+    }
+    return sum;
+}
+
+static double body(void) {
+    const double origin[3] = {0, 0, 0};
+    return volume_of(origin, 0);
+}
+
+/* The density of a list of kernels of exponent 1. */
+static double density_of(const double *list, int count, double x, double y, double z) {
+    double sum = 0;
+    for (const double *k = list; k < list + 6 * count; k += 6) {
+        double dx = x - k[0], dy = y - k[1], dz = z - k[2];
+        sum += k[4] / (1.0 + k[3] * k[3] * (dx * dx + dy * dy + dz * dz));
+    }
+    return sum;
+}
+
+static double mass_of(const double *list, int count) {
+    double sum = 0;
+    for (const double *k = list; k < list + 6 * count; k += 6) sum += k[4] * volume_of(k, k[3]);
+    return sum;
+}
+
+/* ---- The functions, in the header's order ------------------------------------------------------------ */
+
+static void open_store(void) {
+    for (int i = 0; i < N_FLOATS; i++) floats[i] = 500 + i;
+    for (int i = 0; i < N_WORDS; i++) words[i] = 600 + (uint32_t)i;
+    remember();
+    static const uint32_t loose[3] = {0, 1, V};
+    CauchyOpened no = cauchy_store_open(floats, N_FLOATS, words, N_WORDS, radius, xyz, N_XYZ - 1, faces, N_FACES);
+    CHECK(no.no == CAUCHY_RAGGED && no.verts == 0 && no.faces == 0 && unchanged());
+    no = cauchy_store_open(floats, N_FLOATS, words, N_WORDS, radius, xyz, N_XYZ, faces, N_FACES - 1);
+    CHECK(no.no == CAUCHY_RAGGED && no.verts == 0 && no.faces == 0 && unchanged());
+    no = cauchy_store_open(floats, N_FLOATS, words, N_WORDS, radius, xyz, N_XYZ, loose, 3);
+    CHECK(no.no == CAUCHY_LOOSE_CORNER && no.verts == 0 && no.faces == 0 && unchanged());
+    no = cauchy_store_open(floats, 1761 + N_XYZ - 1, words, N_WORDS, radius, xyz, N_XYZ, faces, N_FACES);
+    CHECK(no.no == CAUCHY_SHORT_STORE && no.verts == 0 && no.faces == 0 && unchanged());
+    no = cauchy_store_open(floats, N_FLOATS, words, 98 + N_FACES - 1, radius, xyz, N_XYZ, faces, N_FACES);
+    CHECK(no.no == CAUCHY_SHORT_STORE && no.verts == 0 && no.faces == 0 && unchanged());
+
+    CHECK(CAUCHY_STORE_FLOATS(V) == 1761 + N_XYZ && CAUCHY_STORE_WORDS(F) == 98 + N_FACES);
+    CauchyOpened o = cauchy_store_open(floats, N_FLOATS, words, N_WORDS, radius, xyz, N_XYZ, faces, N_FACES);
+    CHECK(o.no == CAUCHY_ACCEPTED && o.verts == V && o.faces == F);
+    CHECK(floats[0] == radius && words[0] == V && words[1] == F);
+    CHECK(!memcmp(floats + 1761, xyz, sizeof xyz) && !memcmp(words + 98, faces, sizeof faces));
+    for (int i = 1; i < 1761; i++) CHECK(floats[i] == 0);
+    for (int i = 2; i < 98; i++) CHECK(words[i] == 0);
+    CHECK(floats[N_FLOATS - 2] == floats_before[N_FLOATS - 2] && floats[N_FLOATS - 1] == floats_before[N_FLOATS - 1]);
+    CHECK(!memcmp(words + 98 + N_FACES, words_before + 98 + N_FACES, 3 * sizeof(uint32_t)));
+}
+
+static int holds(int place, CauchyKernel k) {
+    return !memcmp(floats + 1 + 7 * place, k.c, sizeof k.c) && floats[1 + 7 * place + 3] == k.sigma
+        && floats[1 + 7 * place + 4] == k.w && floats[1 + 7 * place + 5] == k.alpha;
+}
+
+static void put_clear_reweigh(void) {
+    CauchyPlaced p = cauchy_store_put(floats, N_FLOATS, words, N_WORDS, 3, flat());
+    CHECK(p.no == 0 && p.pieces == 1 && p.need == F && holds(3, flat()));
+    p = cauchy_store_put(floats, N_FLOATS, words, N_WORDS, 31, steep());
+    CHECK(p.no == 0 && p.pieces == 13 && p.need == 13 * F && holds(31, steep()) && holds(3, flat()));
+
+    remember();
+    p = cauchy_store_put(floats, N_FLOATS, words, N_WORDS, 32, flat());
+    CHECK(p.no == CAUCHY_NO_PLACE && p.pieces == 0 && p.need == 0 && unchanged());
+    p = cauchy_store_put(NULL, 0, NULL, 0, 3, flat());
+    CHECK(p.no == CAUCHY_SHORT_STORE && p.pieces == 0 && p.need == 0);
+    CHECK(cauchy_store_clear(floats, N_FLOATS, words, N_WORDS, 33) == CAUCHY_NO_PLACE && unchanged());
+    CHECK(cauchy_store_clear(floats, N_FLOATS, words, N_WORDS, 4) == CAUCHY_VACANT && unchanged());
+    CHECK(cauchy_store_reweigh(floats, N_FLOATS, words, N_WORDS, 34, 5) == CAUCHY_NO_PLACE && unchanged());
+    CHECK(cauchy_store_reweigh(floats, N_FLOATS, words, N_WORDS, 5, 5) == CAUCHY_VACANT && unchanged());
+
+    CHECK(cauchy_store_reweigh(floats, N_FLOATS, words, N_WORDS, 31, -42.5) == 0);
+    floats_before[1 + 7 * 31 + 4] = -42.5;
+    CHECK(unchanged());
+    CHECK(cauchy_store_reweigh(floats, N_FLOATS, words, N_WORDS, 31, steep().w) == 0 && holds(31, steep()));
+    CHECK(cauchy_store_put(floats, N_FLOATS, words, N_WORDS, 8, flat()).no == 0 && words[2 + 3 * 8] == 2);
+    CHECK(cauchy_store_clear(floats, N_FLOATS, words, N_WORDS, 8) == 0 && words[2 + 3 * 8] == 0);
+}
+
+static void advance(void) {
+    remember();
+    CauchySteps s = cauchy_store_advance(floats, N_FLOATS, words, 97, 5);
+    CHECK(s.no == CAUCHY_SHORT_STORE && s.done == 0 && s.left == 0 && unchanged());
+    words[98] = V, words_before[98] = V;
+    s = cauchy_store_advance(floats, N_FLOATS, words, N_WORDS, 5);
+    CHECK(s.no == CAUCHY_UNSOUND && s.done == 0 && s.left == 0 && unchanged());
+    words[98] = faces[0];
+
+    s = cauchy_store_advance(floats, N_FLOATS, words, N_WORDS, 5);
+    CHECK(s.no == 0 && s.done == 5 && s.left == 14 * F - 5);
+    CHECK(floats[225 + 48 * 3 + 2] == volume_of(flat().c, flat().sigma));
+
+    CauchyValue d = cauchy_store_density(floats, N_FLOATS, words, N_WORDS, convention(CAUCHY_MASS, 9e5, 1300), vector(1, 2, 3));
+    CHECK(d.no == CAUCHY_UNFINISHED && d.value == 0);
+    CauchyStoreReport r = cauchy_store_report(floats, N_FLOATS, words, N_WORDS, convention(CAUCHY_RAW, 0, 0));
+    CHECK(r.no == CAUCHY_UNFINISHED && r.kernels == 0 && r.pieces == 0 && r.error == 0);
+    CHECK(r.report.raw_mass == 0 && r.report.rho0_scale == 0 && r.report.rho0_mass == 0 && r.report.applied_scale == 0);
+    CHECK(r.report.applied_mass == 0 && r.report.target_mass == 0 && r.report.volume == 0);
+
+    s = cauchy_store_advance(floats, N_FLOATS, words, N_WORDS, UINT64_MAX);
+    CHECK(s.no == 0 && s.done == 14 * F - 5 && s.left == 0);
+}
+
+static double list[14 * 6 + 1];
+
+static void list_store(void) {
+    for (int i = 0; i < 14 * 6 + 1; i++) list[i] = 700 + i;
+    CauchyListed l = cauchy_store_list(floats, N_FLOATS, words, N_WORDS, convention(CAUCHY_RAW, 0, 0), list, 14 * 6 - 1);
+    CHECK(l.no == CAUCHY_SHORT_LIST && l.pieces == 0);
+    for (int i = 0; i < 14 * 6 + 1; i++) CHECK(list[i] == 700 + i);
+    l = cauchy_store_list(floats, N_FLOATS, words, N_WORDS, convention(CAUCHY_RAW, 0, 0), list, 14 * 6);
+    CHECK(l.no == 0 && l.pieces == 14 && list[14 * 6] == 700 + 14 * 6);
+
+    double first[6], pieces[13 * 6 + 1];
+    write_kernel(first, flat());
+    CHECK(!memcmp(list, first, sizeof first));
+    for (int i = 0; i < 13 * 6 + 1; i++) pieces[i] = 800 + i;
+    CauchyPieces p = cauchy_decompose(steep(), radius, pieces, 13 * 6 - 1);
+    CHECK(p.no == CAUCHY_SHORT_LIST && p.pieces == 0 && p.error == 0 && pieces[0] == 800);
+    p = cauchy_decompose(steep(), radius, pieces, 13 * 6 + 1);
+    CHECK(p.no == 0 && p.pieces == 13 && p.error > 0 && p.error == floats[1 + 7 * 31 + 6] && pieces[13 * 6] == 800 + 13 * 6);
+    CHECK(!memcmp(list + 6, pieces, 13 * 6 * sizeof(double)));
+    for (int i = 0; i < 13; i++) CHECK(!memcmp(pieces + 6 * i, steep().c, 3 * sizeof(double)) && pieces[6 * i + 5] == 1);
+    /* the pieces stand for the kernel: its peak, and half its width away */
+    CHECK(fabs(density_of(pieces, 13, -0.5, 0.75, 1.5) - 300) < 300 * p.error * 1.001);
+    CHECK(fabs(density_of(pieces, 13, -0.5, 0.75, 1.5 + 0.8) - 300 / pow(1.25, 2)) < 300 * 0.01);
+    /* the radius has its say */
+    CHECK(cauchy_decompose(steep(), 4 * radius, pieces, 13 * 6).error != p.error);
+}
+
+static void check_report(CauchyConvention v, double bulk, double target) {
+    CauchyStoreReport r = cauchy_store_report(floats, N_FLOATS, words, N_WORDS, v);
+    double raw = mass_of(list, 14), rho0 = bulk / density_of(list, 14, 0, 0, 0);
+    double applied = v.kind == CAUCHY_RAW ? 1 : v.kind == CAUCHY_RHO0 ? rho0 : target / raw;
+    CHECK(r.no == 0 && r.kernels == 2 && r.pieces == 14 && r.error == floats[1 + 7 * 31 + 6]);
+    CHECK(r.report.raw_mass == raw && r.report.rho0_scale == rho0 && r.report.rho0_mass == raw * rho0);
+    CHECK(r.report.applied_scale == applied && r.report.applied_mass == raw * applied);
+    CHECK(r.report.target_mass == target && r.report.volume == body());
+
+    double scaled[14 * 6];
+    memcpy(scaled, list, sizeof scaled);
+    for (int i = 0; i < 14; i++) scaled[6 * i + 4] *= applied;
+    CauchyValue d = cauchy_store_density(floats, N_FLOATS, words, N_WORDS, v, vector(2.25, 1.125, 4.5));
+    CHECK(d.no == 0 && d.value == density_of(scaled, 14, 2.25, 1.125, 4.5));
+    double out[14 * 6];
+    CauchyListed l = cauchy_store_list(floats, N_FLOATS, words, N_WORDS, v, out, 14 * 6);
+    CHECK(l.no == 0 && l.pieces == 14 && !memcmp(out, scaled, sizeof out));
+}
+
+static void readings(void) {
+    check_report(convention(CAUCHY_RAW, 7e5, 1300), 1190, 0);
+    check_report(convention(CAUCHY_RHO0, 7e5, 1300), 1300, 0);
+    check_report(convention(CAUCHY_MASS, 7e5, 1300), 1300, 7e5);
+    check_report(convention(77, 7e5, 1300), 1300, 7e5);
+    CauchyValue d = cauchy_store_density(NULL, 0, NULL, 0, convention(CAUCHY_RAW, 0, 0), vector(1, 2, 3));
+    CHECK(d.no == CAUCHY_SHORT_STORE && d.value == 0);
+}
+
+static void kernels(void) {
+    CauchyFileKernel k;
+    k.c[0] = 1, k.c[1] = 2, k.c[2] = 3, k.sigma = 4, k.w = 5, k.alpha = 6, k.given = 7;
+    CauchyKernel m = cauchy_kernel_from_file(k, 8);
+    CHECK(m.c[0] == 1000 && m.c[1] == 2000 && m.c[2] == 3000 && m.sigma == 0.004 && m.w == 5 && m.alpha == 6);
+    k.given = 0;
+    CHECK(cauchy_kernel_from_file(k, 8).alpha == 8);
+
+    CauchyVector at = vector(2.25, 1.125, 4.5);
+    CauchyValue d = cauchy_densitize(list, 14 * 6, at);
+    CHECK(d.no == 0 && d.value == density_of(list, 14, 2.25, 1.125, 4.5));
+    d = cauchy_densitize(list, 14 * 6 + 1, at);
+    CHECK(d.no == CAUCHY_SHORT_LIST && d.value == 0);
+    CHECK(cauchy_densitize(NULL, 0, at).no == 0);
+    d = cauchy_source_density_at(list, 14 * 6, at);
+    CHECK(d.no == 0 && near(d.value, density_of(list, 14, 2.25, 1.125, 4.5), 1e-12));
+    d = cauchy_source_density_at(list, 14 * 6 - 1, at);
+    CHECK(d.no == CAUCHY_SHORT_LIST && d.value == 0);
+
+    static const double cells[6] = {1, 1, 3, 1, 2, 5}, flat_cells[2] = {1e-18, 1};
+    double answer[3] = {-1, -1, -1};
+    CHECK(cauchy_solve(2, cells, 5, answer, 3) == CAUCHY_BAD_MATRIX && answer[0] == -1);
+    CHECK(cauchy_solve(2, cells, 6, answer, 1) == CAUCHY_BAD_MATRIX && answer[0] == -1);
+    CHECK(cauchy_solve(1, flat_cells, 2, answer, 3) == CAUCHY_FLAT_PIVOT && answer[0] == -1);
+    CHECK(cauchy_solve(2, cells, 6, answer, 3) == 0 && answer[0] == 1 && answer[1] == 2 && answer[2] == -1);
+}
+
+static void meshes(void) {
+    const CauchyVector c = vector(1.25, 2.5, 3.75);
+    CauchyValue v = cauchy_kernel_volume(xyz, N_XYZ, faces, N_FACES, c, 0.375);
+    CHECK(v.no == 0 && v.value == volume_of(flat().c, 0.375));
+    CauchyValue s = cauchy_source_kernel_volume(xyz, N_XYZ, faces, N_FACES, c, 0.375);
+    CHECK(s.no == 0 && near(s.value, v.value, 1e-14));
+    CauchyValue b = cauchy_body_volume(xyz, N_XYZ, faces, N_FACES);
+    CHECK(b.no == 0 && b.value == body());
+    s = cauchy_source_enclosed_volume(xyz, N_XYZ, faces, N_FACES);
+    CHECK(s.no == 0 && near(s.value, body(), 1e-14));
+    CauchyPoint p = cauchy_volume_centroid(xyz, N_XYZ, faces, N_FACES);
+    CHECK(p.no == 0 && near(p.at.x, 7.75 / 4, 1e-12) && near(p.at.y, 10.0 / 4, 1e-12) && near(p.at.z, 8.5 / 4, 1e-12));
+    CauchyValue m = cauchy_field_mass(xyz, N_XYZ, faces, N_FACES, list, 14 * 6);
+    CHECK(m.no == 0 && m.value == mass_of(list, 14));
+    m = cauchy_field_mass(xyz, N_XYZ, faces, N_FACES, list, 14 * 6 - 2);
+    CHECK(m.no == CAUCHY_SHORT_LIST && m.value == 0);
+    CauchyReport h = cauchy_homogeneous(1234, xyz, N_XYZ, faces, N_FACES);
+    CHECK(h.no == 0 && h.report.raw_mass == 1234 * body() && h.report.rho0_scale == 1 && h.report.rho0_mass == 1234 * body());
+    CHECK(h.report.applied_scale == 1 && h.report.applied_mass == 1234 * body() && h.report.target_mass == 0);
+    CHECK(h.report.volume == body());
+}
+
+static void refused_meshes(void) {
+    const CauchyVector c = vector(1.25, 2.5, 3.75);
+    const size_t big = 3 * ((size_t)CAUCHY_MAX_VERTICES + 1);
+    double *many = (double *)calloc(big, sizeof *many);
+    double out[6];
+    CHECK(many != NULL);
+    CauchyValue v = cauchy_kernel_volume(xyz, N_XYZ - 1, faces, N_FACES, c, 0.375);
+    CHECK(v.no == CAUCHY_RAGGED && v.value == 0);
+    v = cauchy_source_kernel_volume(xyz, N_XYZ, faces, N_FACES - 2, c, 0.375);
+    CHECK(v.no == CAUCHY_RAGGED && v.value == 0);
+    v = cauchy_body_volume(many, big, NULL, 0);
+    CHECK(v.no == CAUCHY_OVERSIZE && v.value == 0);
+    v = cauchy_source_enclosed_volume(xyz, 9, faces, N_FACES);
+    CHECK(v.no == CAUCHY_LOOSE_CORNER && v.value == 0);
+    CauchyPoint p = cauchy_volume_centroid(xyz, 9, faces, N_FACES);
+    CHECK(p.no == CAUCHY_LOOSE_CORNER && p.at.x == 0 && p.at.y == 0 && p.at.z == 0);
+    v = cauchy_field_mass(many, big, NULL, 0, list, 6);
+    CHECK(v.no == CAUCHY_OVERSIZE && v.value == 0);
+    CauchyReport h = cauchy_homogeneous(1234, xyz, 9, faces, N_FACES);
+    CHECK(h.no == CAUCHY_LOOSE_CORNER && h.report.raw_mass == 0 && h.report.rho0_scale == 0 && h.report.rho0_mass == 0);
+    CHECK(h.report.applied_scale == 0 && h.report.applied_mass == 0 && h.report.target_mass == 0 && h.report.volume == 0);
+    CauchyKernels k = cauchy_source_normalize(xyz, 9, faces, N_FACES, list, 6, 7e5, out, 6);
+    CHECK(k.no == CAUCHY_LOOSE_CORNER && k.kernels == 0);
+    free(many);
+}
+
+static void source_lists(void) {
+    double two[12], out[13];
+    write_kernel(two, flat());
+    write_kernel(two + 6, kernel(-0.5, 0.75, 1.5, 0.625, 300, 1));
+    out[12] = 900;
+    CauchyKernels k = cauchy_source_normalize(xyz, N_XYZ, faces, N_FACES, two, 12, 7e5, out, 13);
+    CHECK(k.no == 0 && k.kernels == 2 && out[12] == 900);
+    double scale = 7e5 / mass_of(two, 2);
+    for (int i = 0; i < 12; i++) CHECK(i % 6 == 4 ? near(out[i], two[i] * scale, 1e-14) : out[i] == two[i]);
+    k = cauchy_source_normalize(xyz, N_XYZ, faces, N_FACES, two, 12, 7e5, out, 11);
+    CHECK(k.no == CAUCHY_SHORT_LIST && k.kernels == 0);
+    two[11] = 2;
+    k = cauchy_source_normalize(xyz, N_XYZ, faces, N_FACES, two, 12, 7e5, out, 12);
+    CHECK(k.no == CAUCHY_EXPONENT && k.kernels == 0);
+
+    /* calibrate stretches by the farthest corner over 528.5, where that is above 10: here it is below */
+    double mean_scale = 1500 * body() / mass_of(two, 1), total_scale = 8e5 / mass_of(two, 1);
+    k = cauchy_source_calibrate(xyz, N_XYZ, faces, N_FACES, two, 6, 8e5, 1500, 1, out, 6);
+    CHECK(k.no == 0 && k.kernels == 1);
+    for (int i = 0; i < 6; i++) CHECK(i == 4 ? near(out[i], two[i] * mean_scale, 1e-14) : out[i] == two[i]);
+    k = cauchy_source_calibrate(xyz, N_XYZ, faces, N_FACES, two, 6, 8e5, 1500, 0, out, 6);
+    CHECK(k.no == 0 && k.kernels == 1 && near(out[4], two[4] * total_scale, 1e-14));
+    k = cauchy_source_calibrate(xyz, N_XYZ, faces, N_FACES, two, 6, 8e5, 1500, 0, out, 5);
+    CHECK(k.no == CAUCHY_SHORT_LIST && k.kernels == 0);
+}
+
+static void numbers(void) {
+    CHECK(cauchy_root(7) == sqrt(7.0) && near(cauchy_arc(0.7), atan(0.7), 1e-15));
+    CHECK(near(cauchy_log(0.3), log2(0.3), 1e-15) && near(cauchy_exp(2.3), exp2(2.3), 1e-15));
+    CHECK(near(cauchy_power(3, 0.7), pow(3, 0.7), 1e-14) && near(cauchy_ten(0.6), pow(10, 0.6), 1e-14));
+    CHECK(near(cauchy_log10(0.02), log10(0.02), 1e-15));
+}
+
+int main(void) {
+    open_store();
+    put_clear_reweigh();
+    advance();
+    list_store();
+    readings();
+    kernels();
+    meshes();
+    refused_meshes();
+    source_lists();
+    numbers();
+    printf("%d checks\n", checks);
+    return 0;
+}

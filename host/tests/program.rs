@@ -1,0 +1,196 @@
+//! The planner's program, run as a planner runs it.
+use std::fs;
+use std::path::{Path, PathBuf};
+use std::process::{Command, Output};
+
+const BODY: &str = "v 0 0 0\nv 0.9 0 0\nv 0 0.8 0\nv 0 0 0.7\nf 1 3 2\nf 1 2 4\nf 1 4 3\nf 2 3 4\n";
+const KERNELS: &str = "0.1 0.15 0.05 2 1200 1\n0.05 0.02 0.09 10 -300 2\n";
+const TRACK: &str = "0 0 0\n0.2 0.2 0.2\n0.9 0.9 0.9\n";
+
+/// A folder of its own for one test, with inputs in it.
+struct Folder(PathBuf);
+
+impl Folder {
+    fn new(name: &str) -> Folder {
+        let path = std::env::temp_dir().join(format!("cauchy-{name}-{}", std::process::id()));
+        let _ = fs::remove_dir_all(&path);
+        fs::create_dir(&path).unwrap();
+        let folder = Folder(path);
+        folder.write("a.obj", BODY);
+        folder.write("k.txt", KERNELS);
+        folder.write("t.txt", TRACK);
+        folder
+    }
+
+    fn write(&self, name: &str, text: impl AsRef<[u8]>) {
+        fs::write(self.0.join(name), text).unwrap();
+    }
+
+    fn read(&self, name: &str) -> Vec<u8> {
+        fs::read(self.0.join(name)).unwrap()
+    }
+
+    fn run(&self, line: &str) -> Output {
+        let mut command = Command::new(env!("CARGO_BIN_EXE_cauchy"));
+        command.current_dir(&self.0).args(line.split_whitespace()).output().unwrap()
+    }
+
+    /// Runs a line that goes through.
+    fn goes(&self, line: &str) -> String {
+        let output = self.run(line);
+        assert!(output.status.success() && output.stderr.is_empty(), "{line}: {output:?}");
+        String::from_utf8(output.stdout).unwrap()
+    }
+
+    /// Runs a line that does not go through, and changes no file.
+    fn fails(&self, line: &str, status: i32, said: &str) {
+        let before = self.files();
+        let output = self.run(line);
+        let text = String::from_utf8_lossy(&output.stderr);
+        assert_eq!(output.status.code(), Some(status), "{line}: {text}");
+        assert!(text.contains(said) && text.starts_with("cauchy: "), "{line}: {text}");
+        assert!(!text.contains("panicked"), "{line}: {text}");
+        assert!(self.files() == before, "{line}: a file has changed");
+    }
+
+    fn files(&self) -> Vec<(PathBuf, Vec<u8>)> {
+        let entries = fs::read_dir(&self.0).unwrap().map(|entry| entry.unwrap().path());
+        let mut files: Vec<_> = entries.filter(|path| path.is_file()).collect();
+        files.sort();
+        files.into_iter().map(|path| (path.clone(), fs::read(path).unwrap())).collect()
+    }
+}
+
+impl Drop for Folder {
+    fn drop(&mut self) {
+        let _ = fs::remove_dir_all(&self.0);
+    }
+}
+
+#[test]
+fn a_stopped_run_goes_on_from_its_snapshot() {
+    let folder = Folder::new("resume");
+    let reads = "--mass 1e11 --track t.txt --overwrite --csv c.csv --list l.csv --svg s.svg";
+    folder.goes(&format!("run a.obj k.txt {reads}"));
+    let whole = ["c.csv", "l.csv", "s.svg"].map(|name| folder.read(name));
+    let said = folder.goes("run a.obj k.txt --mass 1e11 --snapshot s.snap --steps 9 --list never.csv");
+    assert!(said.contains("9 steps done, 47 left") && said.contains("cauchy resume s.snap"), "{said}");
+    assert!(!Path::new(&folder.0.join("never.csv")).exists());
+    let said = folder.goes("resume s.snap --raw --steps 20 --snapshot ./s.snap");
+    assert!(said.contains("20 steps done, 27 left"), "{said}");
+    let said = folder.goes(&format!("resume s.snap {reads}"));
+    assert!(said.contains("27 steps done, none left"), "{said}");
+    assert!(["c.csv", "l.csv", "s.svg"].map(|name| folder.read(name)) == whole);
+}
+
+#[test]
+fn the_convention_is_named_and_followed() {
+    let folder = Folder::new("conventions");
+    let raw = folder.goes("run a.obj k.txt --raw");
+    assert!(raw.contains("by the convention raw: weights as entered"), "{raw}");
+    let rho0 = folder.goes("run a.obj k.txt --rho0 --bulk 1500");
+    assert!(rho0.contains("density at the origin brought to 1500 kg/m³"), "{rho0}");
+    let mass = folder.goes("run a.obj k.txt --mass 1e11");
+    assert!(mass.contains("field mass brought to 1e11 kg"), "{mass}");
+}
+
+#[test]
+fn what_a_planner_must_not_overlook_is_said() {
+    let folder = Folder::new("cautions");
+    folder.write("none.txt", "0.1 0.1 0.1 2 0 1\n");
+    let said = folder.goes("run a.obj none.txt --mass 1e11");
+    assert!(said.contains("the target is NOT met") && said.contains("NOT brought to the bulk"), "{said}");
+    folder.write("less.txt", "0.1 0.1 0.1 2 -5 1\n");
+    let said = folder.goes("run a.obj less.txt --mass 1e11");
+    assert!(said.contains("every weight changes its sign"), "{said}");
+    folder.write("out.obj", "v 0 0 0\nv 0.9 0 0\nv 0 0.8 0\nv 0 0 0.7\nf 1 2 3\nf 1 4 2\nf 1 3 4\nf 2 4 3\n");
+    let said = folder.goes("run out.obj k.txt --raw");
+    assert!(said.contains("inside out and have been turned"), "{said}");
+    let reports = [said, folder.goes("run a.obj k.txt --raw")].map(|page| {
+        let report = page.split("Mass report").nth(1).unwrap().to_string();
+        report.lines().find(|line| line.contains("by this convention")).unwrap()[..60].to_string()
+    });
+    assert_eq!(reports[0], reports[1]);
+    folder.write("low.txt", "default 2\n0.1 0.1 0.1 2 5 -1\n");
+    let said = folder.goes("run a.obj low.txt --raw");
+    assert!(said.contains("place 0: exponent -1 is not above 0, the default is taken"), "{said}");
+    folder.write("flat.obj", "v 0 0 0\nv 1 0 0\nv 0 1 0\nf 1 2 3\n");
+    let said = folder.goes("run flat.obj k.txt --raw");
+    assert!(said.contains("encloses no volume"), "{said}");
+}
+
+#[test]
+fn bad_files_are_named() {
+    let folder = Folder::new("bad-files");
+    folder.write("bad.obj", format!("{BODY}f 1 2 9\n"));
+    folder.write("bad.txt", "# one\n0 0 0 1 1\n");
+    folder.write("binary", [0u8, 159, 146, 150, 10, 255]);
+    folder.write("empty", "");
+    folder.fails("run none.obj k.txt --raw", 1, "none.obj: no such file");
+    folder.fails("run . k.txt --raw", 1, ".: is a folder");
+    folder.fails("run bad.obj k.txt --raw", 1, "bad.obj, line 9: corner 9 of 4 vertices");
+    folder.fails("run binary k.txt --raw", 1, "binary, line 1: ");
+    folder.fails("run empty k.txt --raw", 1, "empty: has no face");
+    folder.fails("run a.obj bad.txt --raw", 1, "bad.txt, line 2: a kernel has six numbers");
+    folder.fails("run a.obj binary --raw", 1, "binary, line 1: ");
+    folder.fails("run a.obj empty --raw", 1, "empty: has no kernel");
+    folder.fails("run a.obj k.txt --raw --track none.txt", 1, "none.txt: no such file");
+    folder.fails("run a.obj k.txt --raw --track a.obj", 1, "a.obj, line 1: a point has three numbers");
+    folder.fails("run a.obj k.txt", 2, "name a convention");
+    folder.fails("run a.obj k.txt --row", 2, "--row is no option");
+    folder.fails("", 2, "nothing asked");
+}
+
+#[test]
+fn bad_snapshots_are_named() {
+    let folder = Folder::new("bad-snapshots");
+    folder.goes("run a.obj k.txt --raw --snapshot s.snap");
+    let mut bytes = folder.read("s.snap");
+    folder.write("cut.snap", &bytes[..bytes.len() - 1]);
+    bytes[2000] ^= 4;
+    folder.write("bad.snap", bytes);
+    folder.fails("resume cut.snap --raw", 1, "cut.snap: damaged: bytes are missing");
+    folder.fails("resume bad.snap --raw", 1, "bad.snap: damaged: its checksum does not fit");
+    folder.fails("resume a.obj --raw", 1, "a.obj: not a snapshot of a store");
+    folder.fails("resume none.snap --raw", 1, "none.snap: no such file");
+}
+
+#[test]
+fn no_file_is_lost() {
+    let folder = Folder::new("outputs");
+    folder.write("old", "kept");
+    let run = "run a.obj k.txt --raw --track t.txt";
+    folder.fails(&format!("{run} --csv old"), 1, "old: is there already; --overwrite replaces it");
+    folder.fails(&format!("{run} --snapshot old"), 1, "old: is there already");
+    folder.fails(&format!("{run} --csv x --svg ./x"), 2, "two outputs are to go there");
+    folder.fails(&format!("{run} --list a.obj --overwrite"), 2, "a.obj: it is read");
+    folder.fails(&format!("{run} --csv ./t.txt --overwrite"), 2, "t.txt: it is read");
+    folder.fails(&format!("{run} --csv none/x"), 1, "none/x: no such file or folder");
+    folder.fails(&format!("{run} --csv . --overwrite"), 1, ".: is a folder");
+    folder.fails(&format!("{run} --csv /dev/null --overwrite"), 1, "/dev/null: is not a plain file");
+    folder.goes(&format!("{run} --csv old --overwrite"));
+    assert!(folder.read("old").starts_with(b"distance_m"));
+    folder.write("aim", "");
+    std::os::unix::fs::symlink("aim", folder.0.join("link")).unwrap();
+    folder.goes(&format!("{run} --csv link --overwrite"));
+    assert!(folder.0.join("link").is_symlink() && folder.read("aim").starts_with(b"distance_m"));
+    assert!(folder.files().iter().all(|(path, _)| !path.to_string_lossy().contains(".part")));
+}
+
+#[test]
+fn help_and_version_are_given() {
+    let folder = Folder::new("help");
+    for line in ["help", "--help", "-h", "run --help"] {
+        assert!(folder.goes(line).contains("cauchy run MESH.obj KERNELS.txt CONVENTION"));
+    }
+    assert!(folder.goes("--version").starts_with("cauchy "));
+}
+
+#[test]
+fn a_closed_output_is_no_fault() {
+    let folder = Folder::new("pipe");
+    let line = format!("{} run a.obj k.txt --raw --list l.csv | head -c 1", env!("CARGO_BIN_EXE_cauchy"));
+    let output = Command::new("sh").current_dir(&folder.0).args(["-c", &line]).output().unwrap();
+    assert!(output.stderr.is_empty(), "{output:?}");
+    assert!(folder.read("l.csv").starts_with(b"place,"));
+}

@@ -1,0 +1,145 @@
+//! The crate over the archive, as a user sees it.
+use cauchy::{Convention, Kernel, Mesh, OpenError, Placed, Refusal, SnapshotError, Steps, Store, density};
+
+const VERTICES: [[f64; 3]; 4] = [[0.0, 0.0, 0.0], [900.0, 0.0, 0.0], [0.0, 800.0, 0.0], [0.0, 0.0, 700.0]];
+const FACES: [[u32; 3]; 4] = [[0, 2, 1], [0, 1, 3], [0, 3, 2], [1, 2, 3]];
+const FLAT: Kernel = Kernel { c: [100.0, 150.0, 50.0], sigma: 0.002, w: 1200.0, alpha: 1.0 };
+const STEEP: Kernel = Kernel { c: [50.0, 20.0, 90.0], sigma: 0.01, w: -300.0, alpha: 2.0 };
+const BY_MASS: Convention = Convention::Mass { target: 1e11, bulk: 1190.0 };
+
+fn opened() -> Store {
+    Store::open(900.0, Mesh { vertices: &VERTICES, faces: &FACES }).unwrap()
+}
+
+fn filled() -> Store {
+    let mut store = opened();
+    store.put(2, FLAT).unwrap();
+    store.put(30, STEEP).unwrap();
+    store
+}
+
+#[test]
+fn a_refusal_changes_no_byte() {
+    let mut store = filled();
+    let before = store.to_bytes();
+    assert_eq!(store.put(32, FLAT), Err(Refusal::NoPlace));
+    assert_eq!(store.clear(3), Err(Refusal::Vacant));
+    assert_eq!(store.clear(u32::MAX), Err(Refusal::NoPlace));
+    assert_eq!(store.reweigh(3, 1.0), Err(Refusal::Vacant));
+    assert_eq!(store.reweigh(32, 1.0), Err(Refusal::NoPlace));
+    assert_eq!(store.density(BY_MASS, [0.0; 3]), Err(Refusal::Unfinished));
+    assert_eq!(store.list(BY_MASS), Err(Refusal::Unfinished));
+    assert_eq!(store.report(Convention::Raw), Err(Refusal::Unfinished));
+    assert_eq!(store.to_bytes(), before);
+}
+
+#[test]
+fn a_bad_mesh_is_refused() {
+    let open = |vertices: &[[f64; 3]], faces: &[[u32; 3]]| match Store::open(1.0, Mesh { vertices, faces }) {
+        Err(OpenError::Refused(refusal)) => refusal,
+        other => panic!("{other:?}"),
+    };
+    assert_eq!(open(&[], &[[0, 0, 0]]), Refusal::LooseCorner);
+    assert_eq!(open(&VERTICES, &[[0, 1, 4]]), Refusal::LooseCorner);
+    assert_eq!(open(&vec![[0.0; 3]; 1_048_577], &[]), Refusal::Oversize);
+    assert_eq!(open(&VERTICES, &vec![[0; 3]; 2_097_153]), Refusal::Oversize);
+    assert!(Store::open(f64::NAN, Mesh { vertices: &[], faces: &[] }).is_ok());
+}
+
+#[test]
+fn steps_add_up() {
+    let mut store = opened();
+    assert_eq!(store.put(0, FLAT), Ok(Placed { pieces: 1, need: 4 }));
+    assert_eq!(store.put(5, STEEP), Ok(Placed { pieces: 13, need: 52 }));
+    assert_eq!(store.advance(6), Ok(Steps { done: 6, left: 50 }));
+    assert_eq!(store.reweigh(5, 9.0), Ok(()));
+    assert_eq!(store.left(), Ok(50));
+    assert_eq!(store.clear(5), Ok(()));
+    assert_eq!(store.left(), Ok(0));
+    assert_eq!(store.put(5, FLAT), Ok(Placed { pieces: 1, need: 4 }));
+    assert_eq!(store.advance(u64::MAX), Ok(Steps { done: 4, left: 0 }));
+}
+
+#[test]
+fn portions_of_any_size_leave_the_same_store() {
+    let finished = |portion| {
+        let mut store = filled();
+        while store.advance(portion).unwrap().left > 0 {}
+        store.to_bytes()
+    };
+    let whole = finished(u64::MAX);
+    for portion in [1, 3, 4, 5, 7, 1000] {
+        assert_eq!(finished(portion), whole, "portions of {portion}");
+    }
+}
+
+#[test]
+fn readings_agree_with_each_other() {
+    let mut store = filled();
+    store.advance(u64::MAX).unwrap();
+    let at = [120.0, 60.0, 30.0];
+    for by in [Convention::Raw, Convention::Rho0 { bulk: 1500.0 }, BY_MASS] {
+        let list = store.list(by).unwrap();
+        assert_eq!(store.density(by, at), density(&list, at));
+        let report = store.report(by).unwrap();
+        let mass = store.mesh().mass(&list).unwrap();
+        assert!((mass / report.mass.applied_mass - 1.0).abs() < 1e-12, "{by:?}");
+        assert_eq!((report.kernels, report.pieces), (2, 14));
+        assert_eq!(report.mass.volume, store.mesh().volume().unwrap());
+    }
+    assert_eq!(store.report(BY_MASS).unwrap().mass.target_mass, 1e11);
+    assert_eq!(store.held(2).unwrap().kernel, FLAT);
+    assert_eq!(store.held(30).unwrap().error, store.report(Convention::Raw).unwrap().error);
+}
+
+#[test]
+fn a_snapshot_goes_on_where_it_was_taken() {
+    let mut whole = filled();
+    whole.advance(u64::MAX).unwrap();
+    for steps in [0, 1, 4, 9, 55, 56] {
+        let mut store = filled();
+        store.advance(steps).unwrap();
+        let mut resumed = Store::from_bytes(&store.to_bytes()).unwrap();
+        resumed.advance(u64::MAX).unwrap();
+        assert_eq!(resumed.to_bytes(), whole.to_bytes(), "after {steps} steps");
+    }
+}
+
+#[test]
+fn every_damaged_byte_of_a_snapshot_is_seen() {
+    let bytes = filled().to_bytes();
+    for i in 0..bytes.len() {
+        let mut damaged = bytes.clone();
+        damaged[i] ^= 1 << (i % 8);
+        let told = Store::from_bytes(&damaged).unwrap_err();
+        match i {
+            0..8 => assert_eq!(told, SnapshotError::Foreign),
+            8..24 => assert_eq!(told, SnapshotError::Length),
+            _ => assert_eq!(told, SnapshotError::Checksum),
+        }
+    }
+}
+
+#[test]
+fn every_cut_or_longer_snapshot_is_seen() {
+    let bytes = filled().to_bytes();
+    for length in 0..bytes.len() {
+        let told = Store::from_bytes(&bytes[..length]).unwrap_err();
+        assert_eq!(told, if length < 8 { SnapshotError::Foreign } else { SnapshotError::Length });
+    }
+    let longer = [bytes.as_slice(), &[0]].concat();
+    assert_eq!(Store::from_bytes(&longer).unwrap_err(), SnapshotError::Length);
+}
+
+#[test]
+fn stores_work_in_threads() {
+    let finish = |mut store: Store| {
+        store.advance(u64::MAX).unwrap();
+        store.to_bytes()
+    };
+    let alone = finish(filled());
+    let threads: Vec<_> = (0..4).map(|_| std::thread::spawn(move || finish(filled()))).collect();
+    for thread in threads {
+        assert_eq!(thread.join().unwrap(), alone);
+    }
+}
