@@ -35,26 +35,19 @@ fn quotient(t: f64, v: f64) -> f64
     (t - turned(t, arc_core(v))) / (t * t * t)
 }
 
-fn invert(t: &[f64], v: &mut [f64])
-    requires { ⌜ (length (now t) ≡ 28) × (length (now v) ≡ 28) ⌝ }
+// What the halvings start from, and guesses for the first, of which nothing is promised.
+fn invert(t: &[f64], v: &mut [f64], y: &mut [f64])
+    requires { ⌜ (length (now t) ≡ 28) × (length (now v) ≡ 28) × (length (now y) ≡ 28) ⌝ }
     ensures { λ _. ⌜ Each inverted (now (t .entry)) (now (v .exit)) ⌝ }
 {
     for i in 0..28usize {
-        v[i] = inverted(t[i]);
-    }
-}
-
-// Guesses for the first halving, of which nothing is promised.
-fn guess_first(v: &[f64], y: &mut [f64])
-    requires { ⌜ (length (now v) ≡ 28) × (length (now y) ≡ 28) ⌝ }
-{
-    for i in 0..28usize {
-        let a = v[i];
+        let a = inverted(t[i]);
+        v[i] = a;
         y[i] = near_unit(1.0 + a * a);
     }
 }
 
-// Guesses for the second, which has roots of at most 1.1716.
+// Guesses for the second halving, which has roots of at most 1.1716.
 fn guess_second(v: &[f64], y: &mut [f64])
     requires { ⌜ (length (now v) ≡ 28) × (length (now y) ≡ 28) ⌝ }
 {
@@ -89,20 +82,11 @@ fn halve(y: &[f64], v: &mut [f64]) -> u64
     flag
 }
 
-fn halve_first(v: &mut [f64], y: &mut [f64]) -> u64
+// A halving, from the guesses y.
+fn halve_by(v: &mut [f64], y: &mut [f64]) -> u64
     requires { ⌜ (length (now v) ≡ 28) × (length (now y) ≡ 28) ⌝ }
     ensures { λ r. ⌜ (r ≡ 0 → Each halved (now (v .entry)) (now (v .exit))) ⌝ }
 {
-    guess_first(v, y);
-    sharpen_all(v, y);
-    halve(y, v)
-}
-
-fn halve_second(v: &mut [f64], y: &mut [f64]) -> u64
-    requires { ⌜ (length (now v) ≡ 28) × (length (now y) ≡ 28) ⌝ }
-    ensures { λ r. ⌜ (r ≡ 0 → Each halved (now (v .entry)) (now (v .exit))) ⌝ }
-{
-    guess_second(v, y);
     sharpen_all(v, y);
     halve(y, v)
 }
@@ -122,9 +106,10 @@ pub fn arcs(t: &[f64], v: &mut [f64], g: &mut [f64]) -> u64
     requires { ⌜ (length (now t) ≡ 28) × (length (now v) ≡ 28) × (length (now g) ≡ 28) ⌝ }
     ensures { λ r. ⌜ (r ≡ 0 → All (λ i z. Large z) (now (t .entry)) → Each radialG (now (t .entry)) (now (g .exit))) ⌝ }
 {
-    invert(t, v);
-    let first = halve_first(v, g);
-    let second = halve_second(v, g);
+    invert(t, v, g);
+    let first = halve_by(v, g);
+    guess_second(v, g);
+    let second = halve_by(v, g);
     quotients(t, v, g);
     first | second
 }
