@@ -1,11 +1,10 @@
 // The radial factors of 28 radii of at least 0.1, by the arc tangent.
 ghost use mathlib.Core.Path.{_≡_};
-ghost use lib.ListN.{length, getD};
-ghost use lib.Ieee.{nan};
+ghost use lib.ListN.{length};
 ghost use Rattle.powers.specs.Arc.{halved};
 ghost use Rattle.radial.specs.Radial.{radialG};
-ghost use Rattle.lanes.specs.Factors.{All, Each};
-ghost use Rattle.lanes.specs.Stages.{Large, inverted, turned, quotient};
+ghost use Rattle.lanes.specs.Factors.{Each};
+ghost use Rattle.lanes.specs.Stages.{inverted, turned, quotient, AllLarge, Quotients};
 use powers::arc::arc_core;
 use root::lanes::near_one;
 use root::lanes::near_unit;
@@ -93,7 +92,7 @@ fn halve_by(v: &mut [f64], y: &mut [f64]) -> u64
 
 fn quotients(t: &[f64], v: &[f64], g: &mut [f64])
     requires { ⌜ (length (now t) ≡ 28) × (length (now v) ≡ 28) × (length (now g) ≡ 28) ⌝ }
-    ensures { λ _. ⌜ All (λ i z. z ≡ quotient (getD (now (t .entry)) i nan) (getD (now (v .entry)) i nan)) (now (g .exit)) ⌝ }
+    ensures { λ _. ⌜ Quotients (now (t .entry)) (now (v .entry)) (now (g .exit)) ⌝ }
 {
     for i in 0..28usize {
         g[i] = quotient(t[i], v[i]);
@@ -104,7 +103,7 @@ fn quotients(t: &[f64], v: &[f64], g: &mut [f64])
 // holds the factors.
 pub fn arcs(t: &[f64], v: &mut [f64], g: &mut [f64]) -> u64
     requires { ⌜ (length (now t) ≡ 28) × (length (now v) ≡ 28) × (length (now g) ≡ 28) ⌝ }
-    ensures { λ r. ⌜ (r ≡ 0 → All (λ i z. Large z) (now (t .entry)) → Each radialG (now (t .entry)) (now (g .exit))) ⌝ }
+    ensures { λ r. ⌜ (r ≡ 0 → AllLarge (now (t .entry)) → Each radialG (now (t .entry)) (now (g .exit))) ⌝ }
 {
     invert(t, v, g);
     let first = halve_by(v, g);

@@ -5,29 +5,8 @@ use borrow.Author.Needs.{needs}
 use Rattle.lanes.proofs.arcs.arcs.Statement.{statement}
 use Rattle.lanes.proofs.arcs.arcs.Tie as tie
 
-invert-requires : tie.Need-invert-requires
-invert-requires c κs = search needs
-
-halve-by-requires : tie.Need-halve-by-requires
-halve-by-requires c κs = search needs
-
-guess-second-requires : tie.Need-guess-second-requires
-guess-second-requires c κs = search needs
-
-halve-by-requires-2 : tie.Need-halve-by-requires-2
-halve-by-requires-2 c κs = search needs
-
-quotients-requires : tie.Need-quotients-requires
-quotients-requires c κs = search needs
-
-same-length : tie.Need-same-length
-same-length c = search needs
-
-same-length-2 : tie.Need-same-length-2
-same-length-2 c = search needs
-
 returns : tie.Need-returns
-returns c = 
+returns c =
     let s = c .before .before .before .before .before .before .before .before .before in
     let f = s .before .before .before .before .before .before .before .before .before .before .before .before in
     let i = f .before .before .before .before .before .before .before in
@@ -37,11 +16,11 @@ pub arcs-spec : {M : Type 1} → statement M
 arcs-spec =
     tie.close
     (tie.spec
-    invert-requires
-    halve-by-requires
-    guess-second-requires
-    halve-by-requires-2
-    quotients-requires
-    same-length
-    same-length-2
+    (λ c κs. search needs)
+    (λ c κs. search needs)
+    (λ c κs. search needs)
+    (λ c κs. search needs)
+    (λ c κs. search needs)
+    (λ c. search needs)
+    (λ c. search needs)
     returns)
