@@ -18,7 +18,7 @@ one-by-one-spec =
     (tie.spec
     Inv-loop
     μ-loop
-    (λ c. none-filled (c .before .before .args .g .now) (search needs))
+    (λ c. search (none-filled, needs))
     (λ c. search needs)
     (λ c. search needs)
     (λ c κs. search needs)
@@ -29,4 +29,4 @@ one-by-one-spec =
     (λ c. search needs)
     (λ c. fills (c .before .before .before .before .loop .inv) (search needs) cc)
     (λ c. search needs)
-    (λ c. all-filled (c .before .loop .inv) (search needs)))
+    (λ c. search (all-filled, needs)))

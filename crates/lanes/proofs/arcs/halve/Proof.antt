@@ -27,7 +27,7 @@ halve-spec =
     (tie.spec
     Inv-loop
     μ-loop
-    (λ c. none-filled (c .before .before .args .v .now) (search needs))
+    (λ c. search (none-filled, needs))
     (λ c. search needs)
     (λ c. search needs)
     (λ c. search needs)
@@ -39,4 +39,4 @@ halve-spec =
     (λ c. search needs)
     loop-again
     (λ c. search needs)
-    (λ c. all-if (c .before .loop .inv) (search needs)))
+    (λ c. search (all-if, needs)))

@@ -21,7 +21,7 @@ invert-spec =
     (tie.spec
     Inv-loop
     μ-loop
-    (λ c. (none-filled (c .before .before .before .args .v .now) (search needs), search needs))
+    (λ c. search (none-filled, needs))
     (λ c. search needs)
     (λ c. search needs)
     (λ c κs. search needs)
@@ -32,7 +32,7 @@ invert-spec =
     (λ c. search needs)
     (λ c. search needs)
     (λ c. search needs)
-    (λ c. (fills (c .before .before .before .before .loop .inv .0) (search needs) cc, search needs))
+    (λ c. search (fills, needs))
     (λ c. search needs)
     (λ c. search needs)
-    (λ c. all-filled (c .before .loop .inv .0) (search needs)))
+    (λ c. search (all-filled, needs)))

@@ -21,7 +21,7 @@ quotients-spec =
     (tie.spec
     Inv-loop
     μ-loop
-    (λ c. none-filled (c .before .before .before .args .g .now) (search needs))
+    (λ c. search (none-filled, needs))
     (λ c. search needs)
     (λ c. search needs)
     (λ c. search needs)
@@ -31,6 +31,6 @@ quotients-spec =
     (λ c. search needs)
     (λ c. search needs)
     (λ c. search needs)
-    (λ c. fills (c .before .before .before .before .loop .inv) (search needs) cc)
+    (λ c. search (fills, needs))
     (λ c. search needs)
-    (λ c. all-filled (c .before .loop .inv) (search needs)))
+    (λ c. search (all-filled, needs)))

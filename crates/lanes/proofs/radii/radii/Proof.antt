@@ -16,11 +16,6 @@ Inv-loop x y sigma t₀ flag₀ low₀ i₀ t flag low i = Filled (If flag (Of (
 abbrev μ-loop : tie.MeasureT-loop
 μ-loop x y sigma t₀ flag₀ low₀ i₀ t flag low i = 28 - i
 
-loop-holds : tie.Need-loop-holds Inv-loop μ-loop
-loop-holds c =
-    let t = c .before .before .before .args .t .now in
-    (none-filled t (search needs), none-filled t (search needs))
-
 loop-again : tie.Need-loop-again Inv-loop μ-loop
 loop-again c =
     let a = c .before .before .before .any-lane in
@@ -36,7 +31,7 @@ radii-spec =
     (tie.spec
     Inv-loop
     μ-loop
-    loop-holds
+    (λ c. search (none-filled, needs))
     (λ c. search needs)
     (λ c. search needs)
     (λ c. search needs)
@@ -49,4 +44,4 @@ radii-spec =
     (λ c. search needs)
     loop-again
     (λ c. search needs)
-    (λ c. (all-if (c .before .loop .inv .0) (search needs), all-if (c .before .loop .inv .1) (search needs))))
+    (λ c. search (all-if, needs)))

@@ -26,7 +26,7 @@ all-series-spec =
     (tie.spec
     Inv-loop
     μ-loop
-    (λ c. none-filled (c .before .before .args .g .now) (search needs))
+    (λ c. search (none-filled, needs))
     (λ c. search needs)
     (λ c. search needs)
     (λ c κs. search needs)
@@ -37,4 +37,4 @@ all-series-spec =
     (λ c. search needs)
     loop-again
     (λ c. search needs)
-    (λ c. all-if (c .before .loop .inv) (search needs)))
+    (λ c. search (all-if, needs)))
