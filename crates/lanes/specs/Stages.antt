@@ -1,8 +1,8 @@
 -- What a step computes of one point and of 28, for the functions' contracts. Definitions only.
 use mathlib.Core.Path.{_≡_}
+use mathlib.Core.Bool.{true, cond}
 use mathlib.Core.List.{List}
 use lib.ListN.{getD}
-use mathlib.Core.Bool.{true, cond}
 use lib.Ieee.{Float, nan, binary64, lt, le}
 use Rattle.base.specs.Floats.{_⊖_, _⊗_, _⊘_, abs}
 use Rattle.base.specs.Constants.{one, halfPi, tenth}

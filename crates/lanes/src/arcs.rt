@@ -1,4 +1,5 @@
-// The radial factors of 28 radii of at least 0.1, by the arc tangent.
+// The radial factors of 28 radii of at least 0.1, by the arc tangent. The steps take runs of 28
+// floats, as each `requires` says.
 ghost use mathlib.Core.Path.{_≡_};
 ghost use lib.ListN.{length};
 ghost use Rattle.powers.specs.Arc.{halved};
@@ -27,14 +28,15 @@ fn turned(s: f64, a: f64) -> f64
     if s > 1.0 { h } else { a }
 }
 
-// The factor of t, v being what two halvings leave.
+// The factor of a t of at least 0.1, v being what two halvings leave.
 fn quotient(t: f64, v: f64) -> f64
     ensures { λ r. ⌜ r ≡ quotient t v ⌝ }
 {
     (t - turned(t, arc_core(v))) / (t * t * t)
 }
 
-// What the halvings start from, and guesses for the first, of which nothing is promised.
+// What the halvings start from, and guesses for the first, of which nothing is promised. In a loop
+// of its own the division is written out 28 times, with branches.
 fn invert(t: &[f64], v: &mut [f64], y: &mut [f64])
     requires { ⌜ (length (now t) ≡ 28) × (length (now v) ≡ 28) × (length (now y) ≡ 28) ⌝ }
     ensures { λ _. ⌜ Each inverted (now (t .entry)) (now (v .exit)) ⌝ }
@@ -81,7 +83,7 @@ fn halve(y: &[f64], v: &mut [f64]) -> u64
     flag
 }
 
-// A halving, from the guesses y.
+// A halving, by guesses that are made better first.
 fn halve_by(v: &mut [f64], y: &mut [f64]) -> u64
     requires { ⌜ (length (now v) ≡ 28) × (length (now y) ≡ 28) ⌝ }
     ensures { λ r. ⌜ (r ≡ 0 → Each halved (now (v .entry)) (now (v .exit))) ⌝ }
@@ -90,6 +92,7 @@ fn halve_by(v: &mut [f64], y: &mut [f64]) -> u64
     halve(y, v)
 }
 
+// The factors of the radii t, v being what the halvings leave.
 fn quotients(t: &[f64], v: &[f64], g: &mut [f64])
     requires { ⌜ (length (now t) ≡ 28) × (length (now v) ≡ 28) × (length (now g) ≡ 28) ⌝ }
     ensures { λ _. ⌜ Quotients (now (t .entry)) (now (v .entry)) (now (g .exit)) ⌝ }

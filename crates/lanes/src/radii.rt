@@ -1,4 +1,5 @@
-// The radii of 28 points, from the squares of their distances: sigma times the root.
+// The radii of 28 points, from the squares of their distances: sigma times the root. The steps take
+// runs of 28 floats, as each `requires` says.
 ghost use mathlib.Core.Path.{_≡_};
 ghost use lib.ListN.{length};
 ghost use Rattle.lanes.specs.Stages.{Large, Radii};

@@ -1,4 +1,4 @@
--- `guess_second` is safe. Assumes nothing.
+-- `guess_second` keeps within its runs. Assumes nothing.
 use Prim.Native.Nat.{_-_, _≤_}
 use mathlib.Core.Path.{_≡_}
 use lib.ListN.{length}

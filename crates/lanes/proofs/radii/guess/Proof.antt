@@ -1,4 +1,4 @@
--- `guess` is safe. Assumes nothing.
+-- `guess` keeps within its runs. Assumes nothing.
 use Prim.Native.Nat.{_-_, _≤_}
 use mathlib.Core.Path.{_≡_}
 use lib.ListN.{length}

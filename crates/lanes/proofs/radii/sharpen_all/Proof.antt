@@ -1,4 +1,4 @@
--- `sharpen_all` is safe. Assumes nothing.
+-- `sharpen_all` keeps within its runs. Assumes nothing.
 use Prim.Native.Nat.{_-_, _≤_}
 use mathlib.Core.Path.{_≡_}
 use lib.ListN.{length}
