@@ -52,6 +52,7 @@ returns c =
             b-small = subst (λ (x : ℕ). x < 2 ^ 37) (b' .ensures) (lt-of-le-of-lt (m .1) y);
             r-near = subst (λ (x : ℕ). x < 2 ^ 63) (r' .ensures) (lt-of-le-of-lt (n .0) z);
             w-near = subst (λ (x : ℕ). x < 2 ^ 63) (w' .ensures) (lt-of-le-of-lt (n .1) z);
+            k-most = omega arith;
           }
           (s .pre .0)
           (s .pre .1),
