@@ -59,3 +59,7 @@ fills-if a b f h q = fills-on f h (λ j z p e. p (or-zero a b e .0)) (λ e. q (o
 
 pub all-if : {P : ℕ → Float → Type 0} {first ys : List Float} {i : ℕ} {flag : ℕ} → Filled (If flag P) first i ys → 28 ≤ i → flag ≡ 0 → All P ys
 all-if f h e = record { at = λ j l. f .done j (lt-of-lt-of-le l h) e }
+
+-- a flag that is set
+pub flagged : {P : Type 0} → _≡_ {A = ℕ} 1 0 → P
+flagged e = absurd (omega arith)

@@ -16,6 +16,10 @@ factor sigma x = radialG (sigma ⊗ squareRoot binary64 x)
 pub record All (p : ℕ → Float → Type 0) (ys : List Float) : Type 0 where
   pub at : (i : ℕ) → i < 28 → p i (getD ys i nan)
 
+-- y is f of the element of xs at place i
+abbrev pub Of : (Float → Float) → List Float → ℕ → Float → Type 0
+Of f xs i y = y ≡ f (getD xs i nan)
+
 -- each of the 28 elements of ys is f of the element of xs at its place
 abbrev pub Each : (Float → Float) → List Float → List Float → Type 0
-Each f xs ys = All (λ i y. y ≡ f (getD xs i nan)) ys
+Each f xs ys = All (Of f xs) ys

@@ -1,11 +1,15 @@
--- What a step computes of one point, for the functions' contracts. Definitions only.
+-- What a step computes of one point and of 28, for the functions' contracts. Definitions only.
 use mathlib.Core.Path.{_≡_}
 use mathlib.Core.Bool.{true, cond}
-use lib.Ieee.{Float, binary64, lt, le}
+use mathlib.Core.List.{List}
+use lib.ListN.{getD}
+use lib.Ieee.{Float, nan, binary64, lt, le}
 use Rattle.base.specs.Floats.{_⊖_, _⊗_, _⊘_, abs}
 use Rattle.base.specs.Constants.{one, halfPi, tenth}
 use Rattle.root.specs.Root.{squareRoot}
 use Rattle.powers.specs.Arc.{arcCore}
+use Rattle.lanes.specs.declared.radii.Found.{Found}
+use Rattle.lanes.specs.Factors.{All, Each}
 
 -- sigma times the distance, whose square is x
 abbrev pub radius : Float → Float → Float
@@ -30,3 +34,14 @@ turned s r = cond (lt one s) (halfPi ⊖ r) r
 -- (t - A(t)) / t³, v being what two halvings leave of `inverted t`
 unfoldable pub quotient : Float → Float → Float
 quotient t v = (t ⊖ turned t (arcCore v)) ⊘ (t ⊗ t ⊗ t)
+
+-- ---- of 28 points
+abbrev pub AllLarge : List Float → Type 0
+AllLarge ts = All (λ i t. Large t) ts
+
+-- what the flags tell of the radii
+abbrev pub Radii : Float → List Float → Found → List Float → Type 0
+Radii sigma xs r ts = (r .flag ≡ 0 → Each (radius sigma) xs ts) × (r .low ≡ 0 → AllLarge ts)
+
+abbrev pub Quotients : List Float → List Float → List Float → Type 0
+Quotients ts vs gs = All (λ i g. g ≡ quotient (getD ts i nan) (getD vs i nan)) gs

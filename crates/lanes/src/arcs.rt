@@ -1,11 +1,11 @@
-// The radial factors of 28 radii of at least 0.1, by the arc tangent.
+// The radial factors of 28 radii of at least 0.1, by the arc tangent. The steps take runs of 28
+// floats, as each `requires` says.
 ghost use mathlib.Core.Path.{_≡_};
-ghost use lib.ListN.{length, getD};
-ghost use lib.Ieee.{nan};
+ghost use lib.ListN.{length};
 ghost use Rattle.powers.specs.Arc.{halved};
 ghost use Rattle.radial.specs.Radial.{radialG};
-ghost use Rattle.lanes.specs.Factors.{All, Each};
-ghost use Rattle.lanes.specs.Stages.{Large, inverted, turned, quotient};
+ghost use Rattle.lanes.specs.Factors.{Each};
+ghost use Rattle.lanes.specs.Stages.{inverted, turned, quotient, AllLarge, Quotients};
 use powers::arc::arc_core;
 use root::lanes::near_one;
 use root::lanes::near_unit;
@@ -28,33 +28,27 @@ fn turned(s: f64, a: f64) -> f64
     if s > 1.0 { h } else { a }
 }
 
-// The factor of t, v being what two halvings leave.
+// The factor of a t of at least 0.1, v being what two halvings leave.
 fn quotient(t: f64, v: f64) -> f64
     ensures { λ r. ⌜ r ≡ quotient t v ⌝ }
 {
     (t - turned(t, arc_core(v))) / (t * t * t)
 }
 
-fn invert(t: &[f64], v: &mut [f64])
-    requires { ⌜ (length (now t) ≡ 28) × (length (now v) ≡ 28) ⌝ }
+// What the halvings start from, and guesses for the first, of which nothing is promised. In a loop
+// of its own the division is written out 28 times, with branches.
+fn invert(t: &[f64], v: &mut [f64], y: &mut [f64])
+    requires { ⌜ (length (now t) ≡ 28) × (length (now v) ≡ 28) × (length (now y) ≡ 28) ⌝ }
     ensures { λ _. ⌜ Each inverted (now (t .entry)) (now (v .exit)) ⌝ }
 {
     for i in 0..28usize {
-        v[i] = inverted(t[i]);
-    }
-}
-
-// Guesses for the first halving, of which nothing is promised.
-fn guess_first(v: &[f64], y: &mut [f64])
-    requires { ⌜ (length (now v) ≡ 28) × (length (now y) ≡ 28) ⌝ }
-{
-    for i in 0..28usize {
-        let a = v[i];
+        let a = inverted(t[i]);
+        v[i] = a;
         y[i] = near_unit(1.0 + a * a);
     }
 }
 
-// Guesses for the second, which has roots of at most 1.1716.
+// Guesses for the second halving, which has roots of at most 1.1716.
 fn guess_second(v: &[f64], y: &mut [f64])
     requires { ⌜ (length (now v) ≡ 28) × (length (now y) ≡ 28) ⌝ }
 {
@@ -89,27 +83,19 @@ fn halve(y: &[f64], v: &mut [f64]) -> u64
     flag
 }
 
-fn halve_first(v: &mut [f64], y: &mut [f64]) -> u64
+// A halving, by guesses that are made better first.
+fn halve_by(v: &mut [f64], y: &mut [f64]) -> u64
     requires { ⌜ (length (now v) ≡ 28) × (length (now y) ≡ 28) ⌝ }
     ensures { λ r. ⌜ (r ≡ 0 → Each halved (now (v .entry)) (now (v .exit))) ⌝ }
 {
-    guess_first(v, y);
     sharpen_all(v, y);
     halve(y, v)
 }
 
-fn halve_second(v: &mut [f64], y: &mut [f64]) -> u64
-    requires { ⌜ (length (now v) ≡ 28) × (length (now y) ≡ 28) ⌝ }
-    ensures { λ r. ⌜ (r ≡ 0 → Each halved (now (v .entry)) (now (v .exit))) ⌝ }
-{
-    guess_second(v, y);
-    sharpen_all(v, y);
-    halve(y, v)
-}
-
+// The factors of the radii t, v being what the halvings leave.
 fn quotients(t: &[f64], v: &[f64], g: &mut [f64])
     requires { ⌜ (length (now t) ≡ 28) × (length (now v) ≡ 28) × (length (now g) ≡ 28) ⌝ }
-    ensures { λ _. ⌜ All (λ i z. z ≡ quotient (getD (now (t .entry)) i nan) (getD (now (v .entry)) i nan)) (now (g .exit)) ⌝ }
+    ensures { λ _. ⌜ Quotients (now (t .entry)) (now (v .entry)) (now (g .exit)) ⌝ }
 {
     for i in 0..28usize {
         g[i] = quotient(t[i], v[i]);
@@ -120,11 +106,12 @@ fn quotients(t: &[f64], v: &[f64], g: &mut [f64])
 // holds the factors.
 pub fn arcs(t: &[f64], v: &mut [f64], g: &mut [f64]) -> u64
     requires { ⌜ (length (now t) ≡ 28) × (length (now v) ≡ 28) × (length (now g) ≡ 28) ⌝ }
-    ensures { λ r. ⌜ (r ≡ 0 → All (λ i z. Large z) (now (t .entry)) → Each radialG (now (t .entry)) (now (g .exit))) ⌝ }
+    ensures { λ r. ⌜ (r ≡ 0 → AllLarge (now (t .entry)) → Each radialG (now (t .entry)) (now (g .exit))) ⌝ }
 {
-    invert(t, v);
-    let first = halve_first(v, g);
-    let second = halve_second(v, g);
+    invert(t, v, g);
+    let first = halve_by(v, g);
+    guess_second(v, g);
+    let second = halve_by(v, g);
     quotients(t, v, g);
     first | second
 }

@@ -1,8 +1,8 @@
-// The radii of 28 points, from the squares of their distances: sigma times the root.
+// The radii of 28 points, from the squares of their distances: sigma times the root. The steps take
+// runs of 28 floats, as each `requires` says.
 ghost use mathlib.Core.Path.{_≡_};
 ghost use lib.ListN.{length};
-ghost use Rattle.lanes.specs.Factors.{All, Each};
-ghost use Rattle.lanes.specs.Stages.{radius, Large};
+ghost use Rattle.lanes.specs.Stages.{Large, Radii};
 use root::lanes::any_lane;
 use root::lanes::near;
 use root::lanes::sharpen;
@@ -41,7 +41,7 @@ fn not_large(t: f64) -> u64
 // The radii, by the guesses y.
 fn radii(x: &[f64], y: &[f64], sigma: f64, t: &mut [f64]) -> Found
     requires { ⌜ (length (now x) ≡ 28) × (length (now y) ≡ 28) × (length (now t) ≡ 28) ⌝ }
-    ensures { λ r. ⌜ (r .flag ≡ 0 → Each (radius sigma) (now (x .entry)) (now (t .exit))) × (r .low ≡ 0 → All (λ i z. Large z) (now (t .exit))) ⌝ }
+    ensures { λ r. ⌜ Radii sigma (now (x .entry)) r (now (t .exit)) ⌝ }
 {
     let mut flag = 0u64;
     let mut low = 0u64;
@@ -58,7 +58,7 @@ fn radii(x: &[f64], y: &[f64], sigma: f64, t: &mut [f64]) -> Found
 // The radii in t; y is for guesses.
 pub fn radii_of(x: &[f64], sigma: f64, y: &mut [f64], t: &mut [f64]) -> Found
     requires { ⌜ (length (now x) ≡ 28) × (length (now y) ≡ 28) × (length (now t) ≡ 28) ⌝ }
-    ensures { λ r. ⌜ (r .flag ≡ 0 → Each (radius sigma) (now (x .entry)) (now (t .exit))) × (r .low ≡ 0 → All (λ i z. Large z) (now (t .exit))) ⌝ }
+    ensures { λ r. ⌜ Radii sigma (now (x .entry)) r (now (t .exit)) ⌝ }
 {
     guess(x, y);
     sharpen_all(x, y);

@@ -1,4 +1,5 @@
-// The radial factors of 28 small radii, by the series.
+// The radial factors of 28 small radii, by the series. `all_series` takes runs of 28 floats, as its
+// `requires` says.
 ghost use mathlib.Core.Path.{_≡_};
 ghost use lib.ListN.{length};
 ghost use Rattle.radial.specs.Radial.{radialG};

@@ -37,8 +37,8 @@ near-w g r w h l s e = omega arith
 past-w : (g r w : ℕ) → g < 2 ^ 53 → g < r → r < 2 ^ 62 → w < 2 ^ 64 → (w + r) % 2 ^ 64 ≡ g → (w / 2 ^ 63 ≡ 1) × (w + r ≡ g + 2 ^ 64)
 past-w g r w h l m s e = omega arith
 
-past-r : (g r w : ℕ) → g < 2 ^ 53 → r < 2 ^ 62 → w + r ≡ g + 2 ^ 64 → (w + (2 * g + 1)) % 2 ^ 64 < 2 ^ 63 → r ≤ 3 * g + 1
-past-r g r w h m e f = omega arith
+past-r : (g r w k : ℕ) → g < 2 ^ 53 → r < 2 ^ 62 → w + r ≡ g + 2 ^ 64 → (w + k) % 2 ^ 64 < 2 ^ 63 → k ≤ 2 * g + 2 → r ≤ 3 * g + 2
+past-r g r w k h m e f l = omega arith
 
 -- r below 0, where n is -r
 under-g : (g r n : ℕ) → 2 ^ 52 ≤ g → g < 2 ^ 53 → n ≤ 2 ^ 63 → r + n ≡ 2 ^ 64 → (r + (g - 1)) % 2 ^ 64 < 2 ^ 63 → n < g
@@ -52,7 +52,7 @@ down-r : (b n ll r : ℕ) → b + n ≡ 2 ^ 64 → 0 < n → n ≤ 2 ^ 36 → ll
 down-r b n ll r k p u l s e = omega arith
 
 -- ---- what the flags say
-pub record Fine (d g hh hl ll a b r w : ℕ) : Type 0 where
+pub record Fine (d g hh hl ll a b r w k : ℕ) : Type 0 where
   pub square : g * g ≡ hh * 4503599627370496 + 2 * hl * 67108864 + ll
   pub hh-most : hh ≤ 2 ^ 54
   pub hl-most : hl ≤ 2 ^ 53
@@ -67,13 +67,14 @@ pub record Fine (d g hh hl ll a b r w : ℕ) : Type 0 where
   pub a-small : a < 2 ^ 37
   pub b-small : (b + 2 ^ 36) % 2 ^ 64 < 2 ^ 37
   pub r-near : (r + (g - 1)) % 2 ^ 64 < 2 ^ 63
-  pub w-near : (w + (2 * g + 1)) % 2 ^ 64 < 2 ^ 63
+  pub w-near : (w + k) % 2 ^ 64 < 2 ^ 63
+  pub k-most : k ≤ 2 * g + 2
 
 -- d * 2 ^ 52 is g * g and r more
 above-g : (d g r : ℕ) → d * 2 ^ 52 ≡ g * g + r → r ≤ g → 0 < g → Rounded d g
 above-g d g r e h p = record { above = omega arith; below = omega arith }
 
-next-g : (d g r : ℕ) → d * 2 ^ 52 ≡ g * g + r → g < r → r ≤ 3 * g + 1 → Rounded d (g + 1)
+next-g : (d g r : ℕ) → d * 2 ^ 52 ≡ g * g + r → g < r → r ≤ 3 * g + 2 → Rounded d (g + 1)
 next-g d g r e l h = let s = sq-suc g in record { above = omega arith; below = omega arith }
 
 -- or n less
@@ -96,14 +97,14 @@ kept d g w e h = let k : g ≡ g + w / 2 ^ 63 = omega arith in subst (Rounded d)
 next : (d g w : ℕ) → w / 2 ^ 63 ≡ 1 → Rounded d (g + 1) → Rounded d (g + w / 2 ^ 63)
 next d g w e h = subst (λ (z : ℕ). Rounded d (g + z)) (sym e) h
 
-module _ {d g hh hl ll a b r w : ℕ} (f : Fine d g hh hl ll a b r w) (g0 : 2 ^ 52 ≤ g) (g1 : g < 2 ^ 53) where
+module _ {d g hh hl ll a b r w k : ℕ} (f : Fine d g hh hl ll a b r w k) (g0 : 2 ^ 52 ≤ g) (g1 : g < 2 ^ 53) where
   -- g * g is n more than d * 2 ^ 52
   under : (n : ℕ) → n ≤ 2 ^ 63 → r + n ≡ 2 ^ 64 → d * 2 ^ 52 + n ≡ g * g → Rounded d (g + w / 2 ^ 63)
   under n m e s = let l = under-g g r n g0 g1 m e (f .r-near) in kept d g w (under-w g r w n g1 l e (f .w-most) (f .w-is)) (below-g d g n s l)
 
   over : r < 2 ^ 62 → d * 2 ^ 52 ≡ g * g + r → Rounded d (g + w / 2 ^ 63)
   over m s = elim (below-or g r) [
-    | inl l ↦ let p = past-w g r w g1 l m (f .w-most) (f .w-is) in next d g w (p .0) (next-g d g r s l (past-r g r w g1 m (p .1) (f .w-near)))
+    | inl l ↦ let p = past-w g r w g1 l m (f .w-most) (f .w-is) in next d g w (p .0) (next-g d g r s l (past-r g r w k g1 m (p .1) (f .w-near) (f .k-most)))
     | inr l ↦ kept d g w (near-w g r w g1 l (f .w-most) (f .w-is)) (above-g d g r s l (some g0))
   ]
     where

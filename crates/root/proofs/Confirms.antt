@@ -114,8 +114,8 @@ module _ (d g hh x ll : ℕ) (sq : g * g ≡ hh * 4503599627370496 + 2 * x * 671
   pub at-g : ((d - hh) * 67108864 - 2 * x) * 67108864 + (g - 1) - ll < 2 * g → Rounded d g
   at-g h = let r = residue in record { above = omega arith; below = omega arith }
 
-  pub at-next : 2 * g ≤ ((d - hh) * 67108864 - 2 * x) * 67108864 + (g - 1) - ll → ((d - hh) * 67108864 - 2 * x) * 67108864 + (g - 1) - ll - 2 * g < 2 * g + 2 → Rounded d (g + 1)
-  at-next k h = let r = residue in let e = sq-suc g in record { above = omega arith; below = omega arith }
+  pub at-next : {t : ℕ} → 2 * g ≤ ((d - hh) * 67108864 - 2 * x) * 67108864 + (g - 1) - ll → ((d - hh) * 67108864 - 2 * x) * 67108864 + (g - 1) - ll - 2 * g < t → t ≤ 2 * g + 2 → Rounded d (g + 1)
+  at-next k h m = let r = residue in let e = sq-suc g in record { above = omega arith; below = omega arith }
 
   pub at-third : 2 * g ≤ ((d - hh) * 67108864 - 2 * x) * 67108864 + (g - 1) - ll → 2 * g + 2 ≤ ((d - hh) * 67108864 - 2 * x) * 67108864 + (g - 1) - ll - 2 * g → ((d - hh) * 67108864 - 2 * x) * 67108864 + (g - 1) - ll - 2 * g < 2 * (2 * g) + 6 → Rounded d (g + 2)
   at-third k m h = let r = residue in let e = sq-two g in record { above = omega arith; below = omega arith }

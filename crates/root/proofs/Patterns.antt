@@ -123,8 +123,8 @@ unit-least d a l r = go (mul-le-mul-right a l) (r .above)
     go : 2 ^ 52 * a ≤ a * a → a * a < d * 2 ^ 52 + a → 2 ^ 52 ≤ d
     go h k = omega arith
 
-unit-most : (d a u : ℕ) → a ≤ 2 ^ 53 → Rounded d a → (u + d) % 2 ^ 64 ≡ 2 ^ 53 → u < 2 ^ 63 → d ≤ 2 ^ 53
-unit-most d a u m r e z = go (mul-le-mul m m) (r .below)
+unit-most : (d a u t : ℕ) → a ≤ 2 ^ 53 → Rounded d a → (u + d) % 2 ^ 64 ≡ t → t ≤ 2 ^ 53 → u < 2 ^ 63 → d ≤ 2 ^ 53
+unit-most d a u t m r e y z = go (mul-le-mul m m) (r .below)
   where
     go : a * a ≤ 2 ^ 53 * 2 ^ 53 → d * 2 ^ 52 ≤ a * a + a → d ≤ 2 ^ 53
     go h k = let w : d < 2 ^ 55 = omega arith in omega arith
@@ -143,8 +143,8 @@ under-two x b d a f o e l k r =
     subst (λ (z : ℕ). ofBits binary64 (((z + 51) / 2 + 485) * 2 ^ 52 % 2 ^ 64 + a) ≡ squareRoot binary64 x) q
     (root-at x b a f o l' h' (subst (λ (z : ℕ). Rounded ((2 ^ 52 + b % 2 ^ 52) * 2 ^ ((z + 51) % 2)) a) (sym q) (subst (λ (z : ℕ). Rounded z a) (s ∙ sym (mul-one (2 ^ 52 + b % 2 ^ 52))) r)))
 
-pub unit-root : (x : Float) (b d a u : ℕ) → T (fits binary64 x) → (b ≡ 0) ⊎ (b ≡ toBits binary64 x) → (d + 4602678819172646912) % 2 ^ 64 ≡ b → 2 ^ 52 ≤ a → a ≤ 2 ^ 53 → (u + d) % 2 ^ 64 ≡ 2 ^ 53 → u < 2 ^ 63 → Rounded d a → ofBits binary64 (4602678819172646912 + a) ≡ squareRoot binary64 x
-unit-root x b d a u f o e l m i j r = elim (eq-or-lt-of-le (unit-most d a u m r i j)) [
+pub unit-root : {t : ℕ} (x : Float) (b d a u : ℕ) → T (fits binary64 x) → (b ≡ 0) ⊎ (b ≡ toBits binary64 x) → (d + 4602678819172646912) % 2 ^ 64 ≡ b → 2 ^ 52 ≤ a → a ≤ 2 ^ 53 → (u + d) % 2 ^ 64 ≡ t → t ≤ 2 ^ 53 → u < 2 ^ 63 → Rounded d a → ofBits binary64 (4602678819172646912 + a) ≡ squareRoot binary64 x
+unit-root {t} x b d a u f o e l m i y j r = elim (eq-or-lt-of-le (unit-most d a u t m r i y j)) [
   | inl k ↦ at-two x b d a f o e k r
   | inr k ↦ under-two x b d a f o e (unit-least d a l r) k r
 ]

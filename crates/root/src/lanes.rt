@@ -136,7 +136,13 @@ fn near_part(bits: u64) -> f64
     requires { ⌜ bits < 5000000000000000000 ⌝ }
 {
     let h = f64::from_bits(bits) * 0.5;
-    refine(h, refine(h, refine(h, f64::from_bits(0x5FE6_EB50_C7B5_37A9 - (bits >> 1)))))
+    refine(
+        h,
+        refine(
+            h,
+            refine(h, f64::from_bits(0x5FE6_EB50_C7B5_37A9 - (bits >> 1))),
+        ),
+    )
 }
 
 // A float near 1 / √f for the significand f of x.
@@ -147,13 +153,22 @@ pub fn near(x: f64) -> f64 {
 // A float near 1 / √f, for an f from 1 to 2.
 pub fn near_unit(f: f64) -> f64 {
     let h = f * 0.5;
-    refine(h, refine(h, 1.5736807460508961 + f * (-0.7222365662447514 + f * 0.14496474855286987)))
+    refine(
+        h,
+        refine(
+            h,
+            1.5736807460508961 + f * (-0.7222365662447514 + f * 0.14496474855286987),
+        ),
+    )
 }
 
 // A float near 1 / √f, for an f from 1 to 1.1716.
 pub fn near_one(f: f64) -> f64 {
     let h = f * 0.5;
-    refine(h, 1.8020376955656294 + f * (-1.1083747033609792 + f * 0.3062971124678496))
+    refine(
+        h,
+        1.8020376955656294 + f * (-1.1083747033609792 + f * 0.3062971124678496),
+    )
 }
 
 // A float at √f or a last digit below it, from a y near 1 / √f, for an f from 1 up to 4.

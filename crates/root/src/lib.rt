@@ -6,6 +6,7 @@ ghost use Prim.Native.Nat.{ℕ, _+_, _*_, _^_, _≤_, _<_};
 ghost use lib.Ieee.{binary64};
 ghost use Rattle.root.specs.Root.{squareRoot, Floor, Rounded};
 use base::split::split;
+
 pub mod lanes;
 
 // A whole root and what is left.
@@ -49,9 +50,21 @@ fn by_digits(d: u64) -> u64
     (q >> 1) + (q & 1)
 }
 
-// A step of Newton's towards 1 / √(2h), from y. Nothing is promised of a guess.
+// A step of Newton's towards 1 / √(2h), from y: products that do not wait for each other. Nothing is
+// promised of a guess.
 fn refine(h: f64, y: f64) -> f64 {
-    y * (1.5 - h * y * y)
+    1.5 * y - (h * y) * (y * y)
+}
+
+// A first step towards 1 / √f, with the factors that even out the errors of the y that a pattern gives.
+fn first(f: f64, y: f64) -> f64 {
+    1.68191391 * y - (0.703952253 * f * y) * (y * y)
+}
+
+// A step towards √f from f * y, where y is near 1 / √f, that leaves the third power of the error.
+fn finish(f: f64, y: f64) -> f64 {
+    let s = f * y;
+    s + (f - s * s) * (0.875 * y - (0.375 * y) * (s * y))
 }
 
 // A float near √f, of the pattern `bits`, for an f from 1 up to 4.
@@ -59,11 +72,8 @@ fn near_root(bits: u64) -> f64
     requires { ⌜ bits < 5000000000000000000 ⌝ }
 {
     let f = f64::from_bits(bits);
-    let h = f * 0.5;
-    let y0 = f64::from_bits(0x5FE6_EB50_C7B5_37A9 - (bits >> 1));
-    let y = refine(h, refine(h, refine(h, y0)));
-    let s = f * y;
-    s + (0.5 * y) * (f - s * s)
+    let y = first(f, f64::from_bits(0x5FE3_FFFF_2000_0000 - (bits >> 1)));
+    finish(f, refine(f * 0.5, y))
 }
 
 // A number near the root of sig * 2^(52 + odd), mostly one below it rounded.

@@ -1,28 +1,16 @@
 -- `one_by_one` meets its contract: a loop that sets each element. Assumes nothing.
-use Prim.Native.Nat.{ℕ, _-_}
-use mathlib.Core.Path.{_≡_}
-use lib.ListN.{getD}
-use lib.Ieee.{Float, nan}
+use Prim.Native.Nat.{_-_}
 use borrow.Author.Needs.{needs}
-use Rattle.lanes.specs.Factors.{factor}
+use Rattle.lanes.specs.Factors.{factor, Of}
 use Rattle.lanes.proofs.Filling.{Filled, none-filled, fills, all-filled}
 use Rattle.lanes.proofs.one_by_one.Statement.{statement}
 use Rattle.lanes.proofs.one_by_one.Tie as tie
 
 abbrev Inv-loop : tie.InvT-loop
-Inv-loop x sigma g₀ i₀ g i = Filled (λ (j : ℕ) (z : Float). z ≡ factor sigma (getD x j nan)) g₀ i g
+Inv-loop x sigma g₀ i₀ g i = Filled (Of (factor sigma) x) g₀ i g
 
 abbrev μ-loop : tie.MeasureT-loop
 μ-loop x sigma g₀ i₀ g i = 28 - i
-
-loop-holds : tie.Need-loop-holds Inv-loop μ-loop
-loop-holds c = none-filled (c .before .before .args .g .now) (search needs)
-
-loop-again : tie.Need-loop-again Inv-loop μ-loop
-loop-again c = fills (c .before .before .before .before .loop .inv) (search needs) cc
-
-returns : tie.Need-returns Inv-loop μ-loop
-returns c = all-filled (c .before .loop .inv) (search needs)
 
 pub one-by-one-spec : {M : Type 1} → statement M
 one-by-one-spec =
@@ -30,7 +18,7 @@ one-by-one-spec =
     (tie.spec
     Inv-loop
     μ-loop
-    loop-holds
+    (λ c. search (none-filled, needs))
     (λ c. search needs)
     (λ c. search needs)
     (λ c κs. search needs)
@@ -39,6 +27,6 @@ one-by-one-spec =
     (λ c. search needs)
     (λ c. search needs)
     (λ c. search needs)
-    loop-again
+    (λ c. fills (c .before .before .before .before .loop .inv) (search needs) cc)
     (λ c. search needs)
-    returns)
+    (λ c. search (all-filled, needs)))

@@ -5,39 +5,15 @@ use borrow.Author.Needs.{needs}
 use Rattle.lanes.proofs.staged.Statement.{statement}
 use Rattle.lanes.proofs.staged.Tie as tie
 
-radii-of-requires : tie.Need-radii-of-requires
-radii-of-requires c κs = search needs
-
-arcs-requires : tie.Need-arcs-requires
-arcs-requires c κs = search needs
-
-same-length : tie.Need-same-length
-same-length c = search needs
-
-same-length-2 : tie.Need-same-length-2
-same-length-2 c = search needs
-
-same-length-3 : tie.Need-same-length-3
-same-length-3 c = search needs
-
 returns : tie.Need-returns
-returns c = 
+returns c =
     let a = c .before .before .before .before .before in
     let r = a .before .before .before .before .before .before .before .before .before .before in
     let p = r .before .before .before .before .before .before .before .args in
     λ e. let z = or-zero (r .radii-of .result .flag) (a .arcs .result) e in by-radii (p .sigma) (p .x .now) (r .radii-of .ensures .0 (z .0)) (a .arcs .ensures (z .1) (r .radii-of .ensures .1 (a .before .before .before .before .if1 .taken)))
 
-all-series-requires : tie.Need-all-series-requires
-all-series-requires c κs = search needs
-
-same-length-4 : tie.Need-same-length-4
-same-length-4 c = search needs
-
-same-length-5 : tie.Need-same-length-5
-same-length-5 c = search needs
-
 returns-2 : tie.Need-returns-2
-returns-2 c = 
+returns-2 c =
     let s = c .before .before .before in
     let r = s .before .before .before .before .before .before .before .before .before in
     let p = r .before .before .before .before .before .before .before .args in
@@ -47,13 +23,13 @@ pub staged-spec : {M : Type 1} → statement M
 staged-spec =
     tie.close
     (tie.spec
-    radii-of-requires
-    arcs-requires
-    same-length
-    same-length-2
-    same-length-3
+    (λ c κs. search needs)
+    (λ c κs. search needs)
+    (λ c. search needs)
+    (λ c. search needs)
+    (λ c. search needs)
     returns
-    all-series-requires
-    same-length-4
-    same-length-5
+    (λ c κs. search needs)
+    (λ c. search needs)
+    (λ c. search needs)
     returns-2)

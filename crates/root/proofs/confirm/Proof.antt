@@ -34,7 +34,7 @@ confirm-spec =
     (λ c. inr (at-g (c .before .before .before .before .before .before .args .d) (c .before .before .before .before .before .before .args .g) ((c .before .before .before .before .before .before .args .g) / 67108864 * ((c .before .before .before .before .before .before .args .g) / 67108864)) ((c .before .before .before .before .before .before .args .g) / 67108864 * bitAnd (c .before .before .before .before .before .before .args .g) 67108863) (bitAnd (c .before .before .before .before .before .before .args .g) 67108863 * bitAnd (c .before .before .before .before .before .before .args .g) 67108863) (square-cut (c .before .before .before .before .before .before .args .g)) (c .before .before .before .before .before .before .pre .1) (c .before .before .before .before .before .if1 .left) (c .before .before .before .if3 .left) (c .before .if5 .left) (c .if6 .taken)))
     (λ c. search needs)
     (λ c. search needs)
-    (λ c. inr (at-next (c .before .before .before .before .before .before .before .args .d) (c .before .before .before .before .before .before .before .args .g) ((c .before .before .before .before .before .before .before .args .g) / 67108864 * ((c .before .before .before .before .before .before .before .args .g) / 67108864)) ((c .before .before .before .before .before .before .before .args .g) / 67108864 * bitAnd (c .before .before .before .before .before .before .before .args .g) 67108863) (bitAnd (c .before .before .before .before .before .before .before .args .g) 67108863 * bitAnd (c .before .before .before .before .before .before .before .args .g) 67108863) (square-cut (c .before .before .before .before .before .before .before .args .g)) (c .before .before .before .before .before .before .before .pre .1) (c .before .before .before .before .before .before .if1 .left) (c .before .before .before .before .if3 .left) (c .before .before .if5 .left) (c .before .if6 .left) (c .if7 .taken)))
+    (λ c. inr (at-next (c .before .before .before .before .before .before .before .args .d) (c .before .before .before .before .before .before .before .args .g) ((c .before .before .before .before .before .before .before .args .g) / 67108864 * ((c .before .before .before .before .before .before .before .args .g) / 67108864)) ((c .before .before .before .before .before .before .before .args .g) / 67108864 * bitAnd (c .before .before .before .before .before .before .before .args .g) 67108863) (bitAnd (c .before .before .before .before .before .before .before .args .g) 67108863 * bitAnd (c .before .before .before .before .before .before .before .args .g) 67108863) (square-cut (c .before .before .before .before .before .before .before .args .g)) (c .before .before .before .before .before .before .before .pre .1) (c .before .before .before .before .before .before .if1 .left) (c .before .before .before .before .if3 .left) (c .before .before .if5 .left) (c .before .if6 .left) (c .if7 .taken) (omega arith)))
     (λ c. search needs)
     (λ c. search needs)
     (λ c. search needs)

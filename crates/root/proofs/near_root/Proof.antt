@@ -12,7 +12,7 @@ near-root-spec =
     (tie.spec
     (λ c. no-nan-below (c .args .bits) (omega arith))
     (λ c. search needs)
-    (λ c. no-nan-below (6910469410427058089 - c .args .bits / 2) (omega arith))
+    (λ c. no-nan-below (6909647724535087104 - c .args .bits / 2) (omega arith))
     (λ c κs. search needs)
     (λ c κs. search needs)
     (λ c κs. search needs)

@@ -1,5 +1,5 @@
 -- `root::root` meets its contract. Assumes nothing.
-use mathlib.Core.Path.{_≡_, sym, ap, _∙_, subst}
+use mathlib.Core.Path.{_≡_, refl, sym, ap, _∙_, subst}
 use mathlib.Core.Logic.{_⊎_, inl, inr}
 use mathlib.Core.Bool.{false}
 use Prim.Native.Nat.{ℕ, _+_, _-_, _*_, _/_, _%_, _^_, _≤_, _<_}
@@ -7,16 +7,14 @@ use native.Mathlib.Nat.{not-le-of-lt}
 use native.Mathlib.Omega.{arith}
 use lib.Dec.{T}
 use borrow.Author.Needs.{needs}
-use lib.Pow.{pow-pos}
 use lib.Ieee.{Float, inf, binary64, toBits, fits}
-use lib.Ieee.Positive.{positive, value-pos}
+use lib.Ieee.Positive.{positive}
 use Rattle.base.specs.Split.{unitsAt}
 use Rattle.base.specs.FloatLaws.{no-nan, the-rest, no-nan-below, zero-over-zero}
-use Rattle.base.specs.UnitLaws.{bits-under, bits-above, own-units}
+use Rattle.base.specs.UnitLaws.{bits-under, bits-above}
 use Rattle.root.specs.Root.{squareRoot, Rounded}
-use Rattle.root.specs.Rounds.{root-of-value}
 use Rattle.root.specs.Cases.{of-nan, of-zero, of-negative, of-infinity}
-use Rattle.root.proofs.Assemble.{low-bit, made, most}
+use Rattle.root.proofs.Assemble.{low-bit, most, root-made}
 use Rattle.root.proofs.root.Statement.{statement}
 use Rattle.root.proofs.root.Tie as tie
 
@@ -55,10 +53,8 @@ small c = omega (arith, most (units c) (c .before .split .result .sig) (c .befor
 
 returns-5 : tie.Need-returns-5
 returns-5 c =
-    let x = c .before .before .before .before .before .before .args .x in
-    let v = own-units x (held (c .before .before .before .before .before .before)) (c .before .before .if4 .left) in
-    made (units c) (c .before .split .result .sig) (c .before .split .result .ex) (c .nearest .result) (c .before .split .ensures) (rounded c)
-    ∙ sym (root-of-value x (units c) v (value-pos x (units c) (2 ^ 1074) (over (c .before .before)) (pow-pos 1074) v))
+    let s = c .before .before .before .before .before .before in
+    root-made (s .args .x) (toBits binary64 (s .args .x)) (c .before .split .result .sig) (c .before .split .result .ex) (c .nearest .result) (held s) refl (c .before .before .if4 .left) (c .before .split .ensures) (rounded c)
 
 pub root-spec : {M : Type 1} → statement M
 root-spec =

@@ -5,39 +5,22 @@ use borrow.Author.Needs.{needs}
 use Rattle.lanes.proofs.arcs.arcs.Statement.{statement}
 use Rattle.lanes.proofs.arcs.arcs.Tie as tie
 
-invert-requires : tie.Need-invert-requires
-invert-requires c κs = search needs
-
-halve-first-requires : tie.Need-halve-first-requires
-halve-first-requires c κs = search needs
-
-halve-second-requires : tie.Need-halve-second-requires
-halve-second-requires c κs = search needs
-
-quotients-requires : tie.Need-quotients-requires
-quotients-requires c κs = search needs
-
-same-length : tie.Need-same-length
-same-length c = search needs
-
-same-length-2 : tie.Need-same-length-2
-same-length-2 c = search needs
-
 returns : tie.Need-returns
-returns c = 
+returns c =
     let s = c .before .before .before .before .before .before .before .before .before in
-    let f = s .before .before .before .before .before .before .before in
-    let i = f .before .before .before .before .before in
-    λ e l. let z = or-zero (f .halve-first .result) (s .halve-second .result) e in by-arcs l (i .invert .ensures) (f .halve-first .ensures (z .0)) (s .halve-second .ensures (z .1)) (c .before .before .quotients .ensures)
+    let f = s .before .before .before .before .before .before .before .before .before .before .before .before in
+    let i = f .before .before .before .before .before .before .before in
+    λ e l. let z = or-zero (f .halve-by .result) (s .halve-by2 .result) e in by-arcs l (i .invert .ensures) (f .halve-by .ensures (z .0)) (s .halve-by2 .ensures (z .1)) (c .before .before .quotients .ensures)
 
 pub arcs-spec : {M : Type 1} → statement M
 arcs-spec =
     tie.close
     (tie.spec
-    invert-requires
-    halve-first-requires
-    halve-second-requires
-    quotients-requires
-    same-length
-    same-length-2
+    (λ c κs. search needs)
+    (λ c κs. search needs)
+    (λ c κs. search needs)
+    (λ c κs. search needs)
+    (λ c κs. search needs)
+    (λ c. search needs)
+    (λ c. search needs)
     returns)

@@ -1,8 +1,8 @@
 -- `invert` meets its contract: a loop that sets each element. Assumes nothing.
-use Prim.Native.Nat.{ℕ, _-_}
+use Prim.Native.Nat.{_-_}
 use mathlib.Core.Path.{_≡_}
-use lib.ListN.{getD}
-use lib.Ieee.{Float, nan}
+use lib.ListN.{length}
+use Rattle.lanes.specs.Factors.{Of}
 use Rattle.lanes.specs.Stages.{inverted}
 use Rattle.lanes.proofs.Filling.{Filled, none-filled, fills, all-filled}
 use borrow.Author.Needs.{needs}
@@ -10,43 +10,10 @@ use Rattle.lanes.proofs.arcs.invert.Statement.{statement}
 use Rattle.lanes.proofs.arcs.invert.Tie as tie
 
 abbrev Inv-loop : tie.InvT-loop
-Inv-loop t v₀ i₀ v i = Filled (λ (j : ℕ) (z : Float). z ≡ inverted (getD t j nan)) v₀ i v
+Inv-loop t v₀ y₀ i₀ v y i = Filled (Of inverted t) v₀ i v × (length y ≡ 28)
 
 abbrev μ-loop : tie.MeasureT-loop
-μ-loop t v₀ i₀ v i = 28 - i
-
-loop-holds : tie.Need-loop-holds Inv-loop μ-loop
-loop-holds c = none-filled (c .before .before .args .v .now) (search needs)
-
-mul-inverted : tie.Need-mul-inverted Inv-loop μ-loop
-mul-inverted c = search needs
-
-shared-slice-read-inverted : tie.Need-shared-slice-read-inverted Inv-loop μ-loop
-shared-slice-read-inverted c = search needs
-
-inverted-requires : tie.Need-inverted-requires Inv-loop μ-loop
-inverted-requires c κs = search needs
-
-mul-v : tie.Need-mul-v Inv-loop μ-loop
-mul-v c = search needs
-
-slice-write-v : tie.Need-slice-write-v Inv-loop μ-loop
-slice-write-v c = search needs
-
-add-i : tie.Need-add-i Inv-loop μ-loop
-add-i c = search needs
-
-loop-less : tie.Need-loop-less Inv-loop μ-loop
-loop-less c = search needs
-
-loop-again : tie.Need-loop-again Inv-loop μ-loop
-loop-again c = fills (c .before .before .before .loop .inv) (search needs) cc
-
-same-length : tie.Need-same-length Inv-loop μ-loop
-same-length c = search needs
-
-returns : tie.Need-returns Inv-loop μ-loop
-returns c = all-filled (c .before .loop .inv) (search needs)
+μ-loop t v₀ y₀ i₀ v y i = 28 - i
 
 pub invert-spec : {M : Type 1} → statement M
 invert-spec =
@@ -54,14 +21,18 @@ invert-spec =
     (tie.spec
     Inv-loop
     μ-loop
-    loop-holds
-    mul-inverted
-    shared-slice-read-inverted
-    inverted-requires
-    mul-v
-    slice-write-v
-    add-i
-    loop-less
-    loop-again
-    same-length
-    returns)
+    (λ c. search (none-filled, needs))
+    (λ c. search needs)
+    (λ c. search needs)
+    (λ c κs. search needs)
+    (λ c. search needs)
+    (λ c. search needs)
+    (λ c κs. search needs)
+    (λ c. search needs)
+    (λ c. search needs)
+    (λ c. search needs)
+    (λ c. search needs)
+    (λ c. search (fills, needs))
+    (λ c. search needs)
+    (λ c. search needs)
+    (λ c. search (all-filled, needs)))

@@ -1,4 +1,4 @@
--- `sharpen_all` is safe. Assumes nothing.
+-- `sharpen_all` keeps within its runs. Assumes nothing.
 use Prim.Native.Nat.{_-_, _≤_}
 use mathlib.Core.Path.{_≡_}
 use lib.ListN.{length}
@@ -12,61 +12,22 @@ Inv-loop v y₀ i₀ y i = (i ≤ 28) × (length y ≡ 28)
 abbrev μ-loop : tie.MeasureT-loop
 μ-loop v y₀ i₀ y i = 28 - i
 
-loop-holds : tie.Need-loop-holds Inv-loop μ-loop
-loop-holds c = search needs
-
-mul-a : tie.Need-mul-a Inv-loop μ-loop
-mul-a c = search needs
-
-shared-slice-read-a : tie.Need-shared-slice-read-a Inv-loop μ-loop
-shared-slice-read-a c = search needs
-
-mul-sharpen-unit : tie.Need-mul-sharpen-unit Inv-loop μ-loop
-mul-sharpen-unit c = search needs
-
-slice-read-sharpen-unit : tie.Need-slice-read-sharpen-unit Inv-loop μ-loop
-slice-read-sharpen-unit c = search needs
-
-sharpen-unit-requires : tie.Need-sharpen-unit-requires Inv-loop μ-loop
-sharpen-unit-requires c κs = search needs
-
-mul-y : tie.Need-mul-y Inv-loop μ-loop
-mul-y c = search needs
-
-slice-write-y : tie.Need-slice-write-y Inv-loop μ-loop
-slice-write-y c = search needs
-
-add-i : tie.Need-add-i Inv-loop μ-loop
-add-i c = search needs
-
-loop-less : tie.Need-loop-less Inv-loop μ-loop
-loop-less c = search needs
-
-loop-again : tie.Need-loop-again Inv-loop μ-loop
-loop-again c = search needs
-
-same-length : tie.Need-same-length Inv-loop μ-loop
-same-length c = search needs
-
-returns : tie.Need-returns Inv-loop μ-loop
-returns c = search needs
-
 pub sharpen-all-spec : {M : Type 1} → statement M
 sharpen-all-spec =
     tie.close
     (tie.spec
     Inv-loop
     μ-loop
-    loop-holds
-    mul-a
-    shared-slice-read-a
-    mul-sharpen-unit
-    slice-read-sharpen-unit
-    sharpen-unit-requires
-    mul-y
-    slice-write-y
-    add-i
-    loop-less
-    loop-again
-    same-length
-    returns)
+    (λ c. search needs)
+    (λ c. search needs)
+    (λ c. search needs)
+    (λ c. search needs)
+    (λ c. search needs)
+    (λ c κs. search needs)
+    (λ c. search needs)
+    (λ c. search needs)
+    (λ c. search needs)
+    (λ c. search needs)
+    (λ c. search needs)
+    (λ c. search needs)
+    (λ c. search needs))

@@ -31,31 +31,31 @@ returns c =
     let r' = c .before .wrapping-add-u642 in
     let w' = c .wrapping-add-u643 in
     let m = or-most (a .result) (b' .result) in
-    let n = or-most (r' .result) (w' .result) in
-    (
+    let n = or-most (r' .result) (w' .result) in (
       least g (w .result) (s .pre .0),
       most g (w .result) (s .pre .1) (w .ok),
       λ y z.
-        sound
-        record {
-          square = square-cut g;
-          hh-most = q .0;
-          hl-most = q .1;
-          ll-most = q .2;
-          b-most = b .ok;
-          r-most = r .ok;
-          w-most = w .ok;
-          a-is = a .ensures;
-          b-is = b .ensures;
-          r-is = r .ensures;
-          w-is = w .ensures;
-          a-small = lt-of-le-of-lt (m .0) y;
-          b-small = subst (λ (x : ℕ). x < 2 ^ 37) (b' .ensures) (lt-of-le-of-lt (m .1) y);
-          r-near = subst (λ (x : ℕ). x < 2 ^ 63) (r' .ensures) (lt-of-le-of-lt (n .0) z);
-          w-near = subst (λ (x : ℕ). x < 2 ^ 63) (w' .ensures) (lt-of-le-of-lt (n .1) z);
-        }
-        (s .pre .0)
-        (s .pre .1),
+          sound
+          record {
+            square = square-cut g;
+            hh-most = q .0;
+            hl-most = q .1;
+            ll-most = q .2;
+            b-most = b .ok;
+            r-most = r .ok;
+            w-most = w .ok;
+            a-is = a .ensures;
+            b-is = b .ensures;
+            r-is = r .ensures;
+            w-is = w .ensures;
+            a-small = lt-of-le-of-lt (m .0) y;
+            b-small = subst (λ (x : ℕ). x < 2 ^ 37) (b' .ensures) (lt-of-le-of-lt (m .1) y);
+            r-near = subst (λ (x : ℕ). x < 2 ^ 63) (r' .ensures) (lt-of-le-of-lt (n .0) z);
+            w-near = subst (λ (x : ℕ). x < 2 ^ 63) (w' .ensures) (lt-of-le-of-lt (n .1) z);
+            k-most = omega arith;
+          }
+          (s .pre .0)
+          (s .pre .1),
     )
   where
     least : (g w : ℕ) → 2 ^ 52 ≤ g → 2 ^ 52 ≤ g + w / 2 ^ 63

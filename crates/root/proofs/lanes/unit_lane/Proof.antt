@@ -19,7 +19,7 @@ returns c z =
     let u = c .before .before .wrapping-sub-u642 in
     let k = c .joined .ensures z in
     let m = or-most (a .result .far) (u .result) in
-    unit-root (c .before .before .before .before .before .before .before .before .args .f) (p .result) (d .result) (a .result .digits) (u .result) (subst T (sym (c .before .before .before .before .before .before .before .before .good .0 .1)) tt) (p .ensures .1) (d .ensures) (a .ensures .0) (a .ensures .1) (u .ensures) (lt-of-le-of-lt (m .1) (k .1)) (a .ensures .2 (k .0) (lt-of-le-of-lt (m .0) (k .1)))
+    unit-root (c .before .before .before .before .before .before .before .before .args .f) (p .result) (d .result) (a .result .digits) (u .result) (subst T (sym (c .before .before .before .before .before .before .before .before .good .0 .1)) tt) (p .ensures .1) (d .ensures) (a .ensures .0) (a .ensures .1) (u .ensures) (omega arith) (lt-of-le-of-lt (m .1) (k .1)) (a .ensures .2 (k .0) (lt-of-le-of-lt (m .0) (k .1)))
 
 pub unit-lane-spec : {M : Type 1} → statement M
 unit-lane-spec =
