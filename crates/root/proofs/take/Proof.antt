@@ -1,6 +1,6 @@
 -- `root::take` meets its contract: `split`'s parts, or those of a normal pattern. Assumes nothing.
 use mathlib.Core.Path.{sym, subst}
-use Prim.Native.Nat.{ℕ, _+_, _/_, _%_, _*_, _^_, _<_}
+use Prim.Native.Nat.{ℕ, _+_, _/_, _^_}
 use native.Mathlib.Omega.{arith}
 use borrow.Author.Needs.{needs}
 use Rattle.base.specs.Split.{Scaled, unitsAt}
