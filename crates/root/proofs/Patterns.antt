@@ -90,7 +90,7 @@ normal-units b l = cond-no (eqb (b / 2 ^ 52) 0) (b % 2 ^ 52) ((2 ^ 52 + b % 2 ^ 
     none : b / 2 ^ 52 ≡ 0 → ⊥
     none e = omega arith
 
-normal : (b : ℕ) → 2 ^ 52 ≤ b → b < 9218868437227405312 → Scaled (unitsAt b) (2 ^ 52 + b % 2 ^ 52) (b / 2 ^ 52 + 51)
+pub normal : (b : ℕ) → 2 ^ 52 ≤ b → b < 9218868437227405312 → Scaled (unitsAt b) (2 ^ 52 + b % 2 ^ 52) (b / 2 ^ 52 + 51)
 normal b l h =
     let s = 2 ^ 52 + b % 2 ^ 52 in
     let f = b / 2 ^ 52 in

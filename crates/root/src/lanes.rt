@@ -10,7 +10,7 @@
 ghost use mathlib.Core.Path.{_≡_};
 ghost use mathlib.Core.Logic.{_⊎_};
 ghost use mathlib.Core.Bool.{true, not};
-ghost use Prim.Native.Nat.{ℕ, _+_, _*_, _^_, _≤_, _<_};
+ghost use Prim.Native.Nat.{_+_, _*_, _^_, _≤_, _<_};
 ghost use lib.Dec.{T};
 ghost use lib.Ieee.{binary64, toBits, lt, isNan};
 ghost use Rattle.root.specs.Root.{squareRoot, Rounded};
@@ -69,8 +69,8 @@ fn check(d: u64, g: u64) -> Checked
     }
 }
 
-// One flag of both; the one shift is after all words are or-ed, since LLVM makes a comparison of a shift
-// of one, which SSE2 has not.
+// One flag of both. Several words are or-ed before they are shifted: of one alone LLVM would make a
+// comparison, which SSE2 has not for 64 bits.
 fn joined(coarse: u64, far: u64) -> u64
     ensures { λ r. ⌜ (r ≡ 0 → (coarse < 2 ^ 37) × (far < 2 ^ 63)) ⌝ }
 {
@@ -120,13 +120,13 @@ pub fn unit_lane(f: f64, s: f64) -> Lane
 }
 
 // The pattern of b's significand, as a float from 1 up to 4 with the parity of b's exponent.
-fn part(b: u64) -> u64
+pub fn part(b: u64) -> u64
     ensures { λ r. ⌜ r < 5000000000000000000 ⌝ }
 {
     ((b ^ 0x10_0000_0000_0000) & 0x1F_FFFF_FFFF_FFFF) + (1023 << 52)
 }
 
-// A step of Newton's towards 1 / √(2h), from y.
+// A step of Newton's towards 1 / √(2h), from y, in the fewest operations.
 fn refine(h: f64, y: f64) -> f64 {
     y * (1.5 - h * y * y)
 }

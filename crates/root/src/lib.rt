@@ -4,8 +4,10 @@ ghost use mathlib.Core.Path.{_≡_};
 ghost use mathlib.Core.Logic.{_⊎_};
 ghost use Prim.Native.Nat.{ℕ, _+_, _*_, _^_, _≤_, _<_};
 ghost use lib.Ieee.{binary64};
+ghost use Rattle.base.specs.Split.{Scaled, unitsAt};
 ghost use Rattle.root.specs.Root.{squareRoot, Floor, Rounded};
 use base::split::split;
+use lanes::part;
 
 pub mod lanes;
 
@@ -50,8 +52,8 @@ fn by_digits(d: u64) -> u64
     (q >> 1) + (q & 1)
 }
 
-// A step of Newton's towards 1 / √(2h), from y: products that do not wait for each other. Nothing is
-// promised of a guess.
+// A step of Newton's towards 1 / √(2h), from y, in the shortest chain of operations. Nothing is promised
+// of a guess.
 fn refine(h: f64, y: f64) -> f64 {
     1.5 * y - (h * y) * (y * y)
 }
@@ -76,12 +78,12 @@ fn near_root(bits: u64) -> f64
     finish(f, refine(f * 0.5, y))
 }
 
-// A number near the root of sig * 2^(52 + odd), mostly one below it rounded.
-fn guess(sig: u64, odd: u64) -> u64
-    requires { ⌜ (sig < 2 ^ 53) × (odd < 2) ⌝ }
+// A number near the digits of the root of an f from 1 up to 4, of the pattern `bits`, mostly one below.
+fn guess(bits: u64) -> u64
+    requires { ⌜ bits < 5000000000000000000 ⌝ }
     ensures { λ r. ⌜ (0 < r) × (r < 2 ^ 53) ⌝ }
 {
-    let s = near_root(sig + ((1022 + odd) << 52));
+    let s = near_root(bits);
     if s != s {
         return 1;
     }
@@ -132,17 +134,44 @@ fn confirm(d: u64, g: u64) -> u64
     0
 }
 
-// The root of d * 2^52, rounded, where d is sig * 2^odd.
-fn nearest(sig: u64, odd: u64) -> u64
-    requires { ⌜ (2 ^ 52 ≤ sig) × (sig < 2 ^ 53) × (odd < 2) ⌝ }
+// The root of d * 2^52, rounded, where d is sig * 2^odd and `bits` the pattern to guess from.
+fn nearest(sig: u64, odd: u64, bits: u64) -> u64
+    requires { ⌜ (2 ^ 52 ≤ sig) × (sig < 2 ^ 53) × (odd < 2) × (bits < 5000000000000000000) ⌝ }
     ensures { λ r. ⌜ Rounded (sig * 2 ^ odd) r ⌝ }
 {
     let d = sig << odd;
-    let a = confirm(d, guess(sig, odd));
+    let a = confirm(d, guess(bits));
     if a == 0 {
         return by_digits(d);
     }
     a
+}
+
+// A significand, its exponent, and the pattern that the guess starts from.
+struct Apart {
+    sig: u64,
+    ex: u64,
+    bits: u64,
+}
+
+// A pattern taken apart. A normal one's guess does not wait for the significand and the exponent.
+fn take(b: u64) -> Apart
+    requires { ⌜ (0 < b) × (b < 9218868437227405312) ⌝ }
+    ensures { λ r. ⌜ Scaled (unitsAt b) (r .sig) (r .ex) × (r .bits < 5000000000000000000) ⌝ }
+{
+    if b < 0x10_0000_0000_0000 {
+        let p = split(b);
+        return Apart {
+            sig: p.sig,
+            ex: p.ex,
+            bits: p.sig + ((1022 + (p.ex & 1)) << 52),
+        };
+    }
+    Apart {
+        sig: (b & 0xF_FFFF_FFFF_FFFF) | 0x10_0000_0000_0000,
+        ex: (b >> 52) + 51,
+        bits: part(b),
+    }
 }
 
 // The square root: IEEE 754's, to nearest even.
@@ -162,8 +191,8 @@ pub fn root(x: f64) -> f64
     if b >= 0x7FF0_0000_0000_0000 {
         return x;
     }
-    let p = split(b);
+    let p = take(b);
     let ex = p.ex;
-    let a = nearest(p.sig, ex & 1);
+    let a = nearest(p.sig, ex & 1, p.bits);
     f64::from_bits((((ex >> 1) + 485) << 52) + a)
 }

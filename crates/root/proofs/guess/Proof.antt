@@ -12,8 +12,6 @@ pub guess-spec : {M : Type 1} → statement M
 guess-spec =
     tie.close
     (tie.spec
-    (λ c. search needs)
-    (λ c. search needs)
     (λ c κs. search needs)
     (λ c. search needs)
     (λ c. no-nan (c .before .near-root .result) (c .if1 .left))

@@ -1,7 +1,6 @@
 -- `root::lanes::pattern` meets its contract. Assumes nothing.
 use mathlib.Core.Path.{sym, subst}
 use lib.Dec.{T}
-use borrow.Author.Needs.{needs}
 use Rattle.root.proofs.Patterns.{raised-bits, zero-no-nan}
 use Rattle.root.proofs.lanes.pattern.Statement.{statement}
 use Rattle.root.proofs.lanes.pattern.Tie as tie
