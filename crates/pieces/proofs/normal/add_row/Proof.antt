@@ -11,6 +11,7 @@ use Rattle.pieces.specs.Fit.{crossed, targetAt, rowAt}
 use Rattle.pieces.proofs.normal.add_row.Statement.{statement}
 use Rattle.pieces.proofs.normal.add_row.Tie as tie
 
+-- the left side of row a added to, then its right side
 both : (m m₁ : Matrix) (a terms : ℕ) (basis : List Float) (target : Float) → m₁ ≡ set m a (crossed terms basis (getD basis a nan) (getD m a []))
     → set m₁ a (targetAt terms (getD basis a nan) target (getD m₁ a [])) ≡ rowAt terms basis target a m
 both m m₁ a terms basis target e = rw e (row-again a m _ (targetAt terms (getD basis a nan) target))

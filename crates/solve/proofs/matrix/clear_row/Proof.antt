@@ -14,15 +14,14 @@ use Rattle.solve.specs.Elimination.{Matrix, cell, cleared, clearAt}
 use Rattle.solve.proofs.matrix.clear_row.Statement.{statement}
 use Rattle.solve.proofs.matrix.clear_row.Tie as tie
 
+-- a negligible factor leaves the row, which is stored again as it stands
 skips : (n col row : ℕ) (p : List Float) (m : Matrix) (a : Float) → eqb row col ≡ false → a ≡ abs (cell m row col) → le a skipLimit ≡ true
     → m ≡ clearAt n col p row m
 unfolding cleared
 skips n col row p m a h e t = simp (h, sym e, t, set-getD)
 
 returns-2 : tie.Need-returns-2
-returns-2 c =
-    let i = c .before .before in
-    skips _ _ _ _ _ _ (ne-eqb _ _ (i .before .if1 .left)) (c .before .abs .ensures) (c .if2 .taken)
+returns-2 c = skips _ _ _ _ _ _ (ne-eqb _ _ (c .before .before .before .if1 .left)) (c .before .abs .ensures) (c .if2 .taken)
 
 returns-3 : tie.Need-returns-3
 unfolding cleared
