@@ -1,4 +1,5 @@
 pub mod Fit
+pub mod Samples
 pub mod Pieces
 pub mod Kernels
 pub mod PieceLaws

@@ -2,10 +2,10 @@
 // Internal: a function with a `requires` is called by proved code alone.
 ghost use mathlib.Core.Path.{_≡_};
 ghost use Prim.Native.Nat.{_<_, _≤_};
-ghost use Rattle.pieces.specs.Fit.{approx, errorAt, peakError};
+ghost use Rattle.base.specs.Floats.{_⊖_, abs, greater};
+ghost use Rattle.pieces.specs.Fit.{approx, peakError};
+ghost use Rattle.pieces.specs.Samples.{Samples};
 use crate::points::Curve;
-use crate::points::sample_of;
-use crate::points::target_of;
 use base::floats::abs;
 use base::floats::greater_of;
 
@@ -23,33 +23,37 @@ fn approximate(terms: usize, scales: &[f64; 16], coefficients: &[f64; 16], u: f6
     sum
 }
 
-// The greatest deviation so far, with sample j looked at.
+// The greatest deviation so far, with the sample at u looked at.
 fn error_at(
     terms: usize,
     scales: &[f64; 16],
     coefficients: &[f64; 16],
-    curve: Curve,
-    j: usize,
+    u: f64,
+    target: f64,
     e: f64,
 ) -> f64
-    requires { ⌜ (terms ≤ 16) × (1 < curve .samples) × (curve .samples ≤ 48) × (j < curve .samples) ⌝ }
-    ensures { λ r. ⌜ r ≡ errorAt terms (now (scales .entry)) (now (coefficients .entry)) curve j e ⌝ }
+    requires { ⌜ terms ≤ 16 ⌝ }
+    ensures { λ r. ⌜ r ≡ greater e (abs (approx terms (now (scales .entry)) (now (coefficients .entry)) u ⊖ target)) ⌝ }
 {
-    let u = sample_of(curve, j);
-    let target = target_of(curve.alpha, u);
-    let value = approximate(terms, scales, coefficients, u);
-    greater_of(e, abs(value - target))
+    greater_of(e, abs(approximate(terms, scales, coefficients, u) - target))
 }
 
 // The greatest deviation over the samples, relative to the peak.
-pub fn peak_error(terms: usize, scales: &[f64; 16], coefficients: &[f64; 16], curve: Curve) -> f64
-    requires { ⌜ (terms ≤ 16) × (1 < curve .samples) × (curve .samples ≤ 48) ⌝ }
+pub fn peak_error(
+    terms: usize,
+    scales: &[f64; 16],
+    coefficients: &[f64; 16],
+    curve: Curve,
+    us: &[f64; 48],
+    targets: &[f64; 48],
+) -> f64
+    requires { ⌜ (terms ≤ 16) × (curve .samples ≤ 48) × Samples curve (now us) (now targets) ⌝ }
     ensures { λ r. ⌜ r ≡ peakError terms (now (scales .entry)) (now (coefficients .entry)) curve ⌝ }
 {
     let mut e = 0.0;
     let mut j = 0;
     while j < curve.samples {
-        e = error_at(terms, scales, coefficients, curve, j, e);
+        e = error_at(terms, scales, coefficients, us[j], targets[j], e);
         j += 1;
     }
     e

@@ -2,10 +2,11 @@
 // Internal: a function with a `requires` is called by proved code alone.
 ghost use mathlib.Core.Path.{_≡_};
 ghost use Prim.Native.Nat.{_<_, _≤_};
-ghost use Rattle.pieces.specs.Fit.{termOf, basisOf, crossed, rowAt, sampled, sampleAt, equations, ridged};
+ghost use mathlib.Core.List.{[]};
+ghost use lib.ListN.{getD, set};
+ghost use Rattle.pieces.specs.Fit.{zeros, termOf, basisOf, crossed, rowAt, sampled, equations, ridged};
+ghost use Rattle.pieces.specs.Samples.{Samples};
 use crate::points::Curve;
-use crate::points::sample_of;
-use crate::points::target_of;
 
 // The value at u of the term of a scale.
 fn term_of(scale: f64, u: f64) -> f64
@@ -26,14 +27,14 @@ fn fill_basis(basis: &mut [f64; 16], terms: usize, scales: &[f64; 16], u: f64)
     }
 }
 
-// Adds wa times each term's value to the left side of a row.
-fn cross(row: &mut [f64; 17], terms: usize, basis: &[f64; 16], wa: f64)
-    requires { ⌜ terms ≤ 16 ⌝ }
-    ensures { λ _. ⌜ now (row .exit) ≡ crossed terms (now (basis .entry)) wa (now (row .entry)) ⌝ }
+// Adds wa times each term's value to the left side of row a.
+fn cross(m: &mut [[f64; 17]; 16], a: usize, terms: usize, basis: &[f64; 16], wa: f64)
+    requires { ⌜ (terms ≤ 16) × (a < 16) ⌝ }
+    ensures { λ _. ⌜ now (m .exit) ≡ set (now (m .entry)) a (crossed terms (now (basis .entry)) wa (getD (now (m .entry)) a [])) ⌝ }
 {
     let mut b = 0;
     while b < terms {
-        row[b] = row[b] + wa * basis[b];
+        m[a][b] = m[a][b] + wa * basis[b];
         b += 1;
     }
 }
@@ -44,10 +45,8 @@ fn add_row(m: &mut [[f64; 17]; 16], terms: usize, basis: &[f64; 16], target: f64
     ensures { λ _. ⌜ now (m .exit) ≡ rowAt terms (now (basis .entry)) target a (now (m .entry)) ⌝ }
 {
     let wa = basis[a];
-    let mut row = m[a];
-    cross(&mut row, terms, basis, wa);
-    row[terms] = row[terms] + wa * target;
-    m[a] = row;
+    cross(m, a, terms, basis, wa);
+    m[a][terms] = m[a][terms] + wa * target;
 }
 
 // Adds one sample to every row.
@@ -62,26 +61,31 @@ fn add_sample(m: &mut [[f64; 17]; 16], terms: usize, basis: &[f64; 16], target: 
     }
 }
 
-// Adds sample j of the curve.
-fn add_sample_at(m: &mut [[f64; 17]; 16], terms: usize, scales: &[f64; 16], curve: Curve, j: usize)
-    requires { ⌜ (terms ≤ 16) × (1 < curve .samples) × (curve .samples ≤ 48) × (j < curve .samples) ⌝ }
-    ensures { λ _. ⌜ now (m .exit) ≡ sampleAt terms (now (scales .entry)) curve j (now (m .entry)) ⌝ }
+// Adds the sample at u.
+fn add_sample_at(m: &mut [[f64; 17]; 16], terms: usize, scales: &[f64; 16], u: f64, target: f64)
+    requires { ⌜ terms ≤ 16 ⌝ }
+    ensures { λ _. ⌜ now (m .exit) ≡ sampled terms (basisOf terms (now (scales .entry)) u zeros) target (now (m .entry)) ⌝ }
 {
-    let u = sample_of(curve, j);
-    let target = target_of(curve.alpha, u);
     let mut basis = [0.0; 16];
     fill_basis(&mut basis, terms, scales, u);
     add_sample(m, terms, &basis, target);
 }
 
 // Adds all samples of the curve.
-pub fn add_samples(m: &mut [[f64; 17]; 16], terms: usize, scales: &[f64; 16], curve: Curve)
-    requires { ⌜ (terms ≤ 16) × (1 < curve .samples) × (curve .samples ≤ 48) ⌝ }
+pub fn add_samples(
+    m: &mut [[f64; 17]; 16],
+    terms: usize,
+    scales: &[f64; 16],
+    curve: Curve,
+    us: &[f64; 48],
+    targets: &[f64; 48],
+)
+    requires { ⌜ (terms ≤ 16) × (curve .samples ≤ 48) × Samples curve (now us) (now targets) ⌝ }
     ensures { λ _. ⌜ now (m .exit) ≡ equations terms (now (scales .entry)) curve (now (m .entry)) ⌝ }
 {
     let mut j = 0;
     while j < curve.samples {
-        add_sample_at(m, terms, scales, curve, j);
+        add_sample_at(m, terms, scales, us[j], targets[j]);
         j += 1;
     }
 }

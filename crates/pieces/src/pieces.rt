@@ -3,12 +3,15 @@ ghost use mathlib.Core.Path.{_≡_};
 ghost use Prim.Native.Nat.{_<_, _≤_};
 ghost use Rattle.solve.specs.Elimination.{eliminated};
 ghost use Rattle.pieces.specs.Fit.{coefficientsOf};
+ghost use Rattle.pieces.specs.Samples.{Samples};
 ghost use Rattle.pieces.specs.Pieces.{sizeOf, keep, kept, fitted, decomposed, pieceAlpha};
 use crate::error::peak_error;
 use crate::normal::add_ridge;
 use crate::normal::add_samples;
 use crate::points::Curve;
+use crate::points::fill_points;
 use crate::points::fill_scales;
+use crate::points::fill_targets;
 use base::floats::abs;
 use base::floats::greater_of;
 use kernel::kernel::Kernel;
@@ -106,16 +109,22 @@ fn keep_pieces(
     out
 }
 
-// Fits the curve and keeps the pieces.
-fn fit(terms: usize, curve: Curve, sigma: f64) -> Pieces
-    requires { ⌜ (terms ≤ 16) × (terms ≡ 1 → ⊥) × (1 < curve .samples) × (curve .samples ≤ 48) ⌝ }
+// Fits the curve, whose samples are given, and keeps the pieces.
+fn fit_samples(
+    terms: usize,
+    curve: Curve,
+    us: &[f64; 48],
+    targets: &[f64; 48],
+    sigma: f64,
+) -> Pieces
+    requires { ⌜ (terms ≤ 16) × (terms ≡ 1 → ⊥) × (curve .samples ≤ 48) × Samples curve (now us) (now targets) ⌝ }
     ensures { λ r. ⌜ r ≡ fitted terms curve sigma ⌝ }
 {
     let mut scales = [0.0; 16];
     fill_scales(&mut scales, terms);
     let zeros = [0.0; 17];
     let mut m = [zeros; 16];
-    add_samples(&mut m, terms, &scales, curve);
+    add_samples(&mut m, terms, &scales, curve, us, targets);
     add_ridge(&mut m, terms);
     let mut coefficients = [0.0; 16];
     solve_for(&mut coefficients, &mut m, terms);
@@ -123,9 +132,21 @@ fn fit(terms: usize, curve: Curve, sigma: f64) -> Pieces
         count: 0,
         sigma: [0.0; 16],
         coefficient: [0.0; 16],
-        error: peak_error(terms, &scales, &coefficients, curve),
+        error: peak_error(terms, &scales, &coefficients, curve, us, targets),
     };
     keep_pieces(none, terms, sigma, &scales, &coefficients)
+}
+
+// Samples the curve and fits it.
+fn fit(terms: usize, curve: Curve, sigma: f64) -> Pieces
+    requires { ⌜ (terms ≤ 16) × (terms ≡ 1 → ⊥) × (1 < curve .samples) × (curve .samples ≤ 48) ⌝ }
+    ensures { λ r. ⌜ r ≡ fitted terms curve sigma ⌝ }
+{
+    let mut us = [0.0; 48];
+    fill_points(&mut us, curve);
+    let mut targets = [0.0; 48];
+    fill_targets(&mut targets, &us, curve);
+    fit_samples(terms, curve, &us, &targets, sigma)
 }
 
 // The pieces of a kernel on a body of this radius.

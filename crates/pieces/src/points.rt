@@ -4,6 +4,7 @@ ghost use mathlib.Core.Path.{_≡_};
 ghost use Prim.Native.Nat.{_<_, _≤_};
 ghost use Rattle.base.specs.Floats.{whole};
 ghost use Rattle.pieces.specs.Fit.{scaleOf, scalesOf, sampleOf, targetOf};
+ghost use Rattle.pieces.specs.Samples.{table, valueAt};
 use powers::power::power;
 use powers::power::ten;
 
@@ -44,7 +45,7 @@ pub fn fill_scales(scales: &mut [f64; 16], terms: usize)
 }
 
 // Sample j: the peak itself, then logarithmic from 1e-4 to the farthest.
-pub fn sample_of(curve: Curve, j: usize) -> f64
+fn sample_of(curve: Curve, j: usize) -> f64
     requires { ⌜ (1 < curve .samples) × (curve .samples ≤ 48) × (j < curve .samples) ⌝ }
     ensures { λ r. ⌜ r ≡ sampleOf curve j ⌝ }
 {
@@ -56,8 +57,32 @@ pub fn sample_of(curve: Curve, j: usize) -> f64
 }
 
 // The kernel's own value at u, relative to its peak.
-pub fn target_of(alpha: f64, u: f64) -> f64
+fn target_of(alpha: f64, u: f64) -> f64
     ensures { λ r. ⌜ r ≡ targetOf alpha u ⌝ }
 {
     power(1.0 + u * u, -alpha)
+}
+
+// Writes the points of the samples.
+pub fn fill_points(us: &mut [f64; 48], curve: Curve)
+    requires { ⌜ (1 < curve .samples) × (curve .samples ≤ 48) ⌝ }
+    ensures { λ _. ⌜ now (us .exit) ≡ table (sampleOf curve) (curve .samples) (now (us .entry)) ⌝ }
+{
+    let mut j = 0;
+    while j < curve.samples {
+        us[j] = sample_of(curve, j);
+        j += 1;
+    }
+}
+
+// Writes the kernel's own values at the points.
+pub fn fill_targets(targets: &mut [f64; 48], us: &[f64; 48], curve: Curve)
+    requires { ⌜ curve .samples ≤ 48 ⌝ }
+    ensures { λ _. ⌜ now (targets .exit) ≡ table (valueAt curve (now (us .entry))) (curve .samples) (now (targets .entry)) ⌝ }
+{
+    let mut j = 0;
+    while j < curve.samples {
+        targets[j] = target_of(curve.alpha, us[j]);
+        j += 1;
+    }
 }

@@ -3,7 +3,9 @@
 // Internal: a function with a `requires` is called by proved code alone.
 ghost use mathlib.Core.Path.{_≡_};
 ghost use Prim.Native.Nat.{_<_, _≤_};
-ghost use Rattle.solve.specs.Elimination.{exchanged, over, less, cleared, clearAt, swept, scaled};
+ghost use mathlib.Core.List.{[]};
+ghost use lib.ListN.{getD, set};
+ghost use Rattle.solve.specs.Elimination.{exchanged, over, less, clearAt, swept, scaled};
 use base::floats::abs;
 
 // Exchanges rows a and b.
@@ -42,31 +44,27 @@ pub fn scale(m: &mut [[f64; 17]; 16], n: usize, col: usize)
 }
 
 // Subtracts factor times the pivot's row from a row, from column col on.
-fn subtract(row: &mut [f64; 17], pivot_row: &[f64; 17], n: usize, col: usize, factor: f64)
-    requires { ⌜ (n ≤ 16) × (col ≤ n) ⌝ }
-    ensures { λ _. ⌜ now (row .exit) ≡ less n col (now («pivot_row» .entry)) factor (now (row .entry)) ⌝ }
+fn subtract(
+    m: &mut [[f64; 17]; 16],
+    row: usize,
+    pivot_row: &[f64; 17],
+    n: usize,
+    col: usize,
+    factor: f64,
+)
+    requires { ⌜ (n ≤ 16) × (col ≤ n) × (row < 16) ⌝ }
+    ensures { λ _. ⌜ now (m .exit) ≡ set (now (m .entry)) row (less n col (now («pivot_row» .entry)) factor (getD (now (m .entry)) row [])) ⌝ }
 {
     let width = n + 1;
     let mut j = col;
     while j < width {
-        row[j] = row[j] - factor * pivot_row[j];
+        m[row][j] = m[row][j] - factor * pivot_row[j];
         j += 1;
     }
 }
 
-// Clears a row's column col by the pivot's row; a negligible factor is skipped, its cell left.
-fn clear(row: &mut [f64; 17], pivot_row: &[f64; 17], n: usize, col: usize)
-    requires { ⌜ (n ≤ 16) × (col ≤ n) ⌝ }
-    ensures { λ _. ⌜ now (row .exit) ≡ cleared n col (now («pivot_row» .entry)) (now (row .entry)) ⌝ }
-{
-    let factor = row[col];
-    if abs(factor) <= 1e-30 {
-        return;
-    }
-    subtract(row, pivot_row, n, col, factor);
-}
-
-// Clears column col of one row of the matrix, unless it is the pivot's own.
+// Clears column col of one row by the pivot's row, unless it is the pivot's own; a negligible factor
+// is skipped, its cell left.
 fn clear_row(m: &mut [[f64; 17]; 16], pivot_row: &[f64; 17], n: usize, col: usize, row: usize)
     requires { ⌜ (n ≤ 16) × (col < n) × (row < n) ⌝ }
     ensures { λ _. ⌜ now (m .exit) ≡ clearAt n col (now («pivot_row» .entry)) row (now (m .entry)) ⌝ }
@@ -74,9 +72,11 @@ fn clear_row(m: &mut [[f64; 17]; 16], pivot_row: &[f64; 17], n: usize, col: usiz
     if row == col {
         return;
     }
-    let mut cells = m[row];
-    clear(&mut cells, pivot_row, n, col);
-    m[row] = cells;
+    let factor = m[row][col];
+    if abs(factor) <= 1e-30 {
+        return;
+    }
+    subtract(m, row, pivot_row, n, col, factor);
 }
 
 // Clears column col of every row but row col, which is the pivot's.

@@ -1,15 +1,8 @@
 -- `error_at` meets its contract, by its callees'. Assumes nothing.
 use borrow.Author.Needs.{needs}
 use mathlib.Core.Path.{_∙_}
-use Rattle.pieces.specs.Fit.{errorAt}
 use Rattle.pieces.proofs.error.error_at.Statement.{statement}
 use Rattle.pieces.proofs.error.error_at.Tie as tie
-
-returns : tie.Need-returns
-unfolding errorAt
-returns c =
-    c .greater-of .ensures
-    ∙ simp (c .before .abs .ensures, c .before .before .approximate .ensures, c .before .before .before .target-of .ensures, c .before .before .before .before .sample-of .ensures)
 
 pub error-at-spec : {M : Type 1} → statement M
 error-at-spec =
@@ -18,6 +11,4 @@ error-at-spec =
     (λ c κs. search needs)
     (λ c κs. search needs)
     (λ c κs. search needs)
-    (λ c κs. search needs)
-    (λ c κs. search needs)
-    returns)
+    (λ c. c .greater-of .ensures ∙ simp (c .before .abs .ensures, c .before .before .approximate .ensures)))

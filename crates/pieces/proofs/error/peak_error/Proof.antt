@@ -8,14 +8,23 @@ use Rattle.pieces.proofs.error.peak_error.Statement.{statement}
 use Rattle.pieces.proofs.error.peak_error.Tie as tie
 
 abbrev Inv-loop : tie.InvT-loop
-Inv-loop terms scales coefficients curve e₀ j₀ e j = Left (errorAt terms scales coefficients curve) (curve .samples) j e (peakError terms scales coefficients curve)
+Inv-loop terms scales coefficients curve us targets e₀ j₀ e j = Left (errorAt terms scales coefficients curve) (curve .samples) j e (peakError terms scales coefficients curve)
 
 abbrev μ-loop : tie.MeasureT-loop
-μ-loop terms scales coefficients curve e₀ j₀ e j = curve .samples - j
+μ-loop terms scales coefficients curve us targets e₀ j₀ e j = curve .samples - j
 
 loop-holds : tie.Need-loop-holds Inv-loop μ-loop
 unfolding peakError
 loop-holds c = from-zero refl
+
+loop-again : tie.Need-loop-again Inv-loop μ-loop
+unfolding errorAt
+loop-again c =
+    let t = c .before .before .before in
+    let l = t .before .before in
+    let s = l .before .pre .2 in
+    let h = t .if1 .taken in
+    goes (l .loop .inv) h (simp (c .error-at .ensures, s .point _ h, s .value _ h))
 
 pub peak-error-spec : {M : Type 1} → statement M
 peak-error-spec =
@@ -24,8 +33,12 @@ peak-error-spec =
     Inv-loop
     μ-loop
     loop-holds
+    (λ c. search needs)
+    (λ c. search needs)
+    (λ c. search needs)
+    (λ c. search needs)
     (λ c κs. search needs)
     (λ c. search needs)
     (λ c. search needs)
-    (λ c. search (goes, needs))
+    loop-again
     (λ c. search (ended, needs)))

@@ -1,16 +1,14 @@
--- `fit` meets its contract, by its callees'. Assumes nothing.
+-- `fit` meets its contract: the two tables hold the curve's samples. Assumes nothing.
 use borrow.Author.Needs.{needs}
-use Rattle.pieces.proofs.Fits.{fits}
+use Rattle.pieces.proofs.Tables.{holds}
 use Rattle.pieces.proofs.pieces.fit.Statement.{statement}
 use Rattle.pieces.proofs.pieces.fit.Tie as tie
 
-returns : tie.Need-returns
-returns c =
-    let p = c .before .before .before in
-    let k = p .before .before .before in
-    let r = k .before .before .before in
-    let s = r .before .before in
-    fits _ _ _ _ _ _ _ _ _ (s .before .before .before .fill-scales .ensures) (s .add-samples .ensures) (r .add-ridge .ensures) (k .solve-for .ensures) (p .peak-error .ensures) (c .keep-pieces .ensures)
+fit-samples-requires : tie.Need-fit-samples-requires
+fit-samples-requires c κs =
+    let p = c .before .before .before .before .before in
+    let z = p .before .before in
+    (z .pre .0, z .pre .1, z .pre .3, holds _ _ _ (z .pre .3) (p .fill-points .ensures) (c .before .before .fill-targets .ensures))
 
 pub fit-spec : {M : Type 1} → statement M
 fit-spec =
@@ -18,8 +16,5 @@ fit-spec =
     (tie.spec
     (λ c κs. search needs)
     (λ c κs. search needs)
-    (λ c κs. search needs)
-    (λ c κs. search needs)
-    (λ c κs. search needs)
-    (λ c κs. search needs)
-    returns)
+    fit-samples-requires
+    (λ c. search needs))
