@@ -8,9 +8,9 @@ pub mod held;
 #[cfg(original)]
 pub mod histories;
 pub mod inputs;
-pub mod meshes;
 #[cfg(original)]
 pub mod machine;
+pub mod meshes;
 #[cfg(original)]
 pub mod original;
 pub mod pieces;
