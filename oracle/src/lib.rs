@@ -14,6 +14,8 @@ pub mod meshes;
 #[cfg(original)]
 pub mod original;
 pub mod pieces;
+#[cfg(original)]
+pub mod program;
 pub mod steps;
 #[cfg(original)]
 pub mod store;
