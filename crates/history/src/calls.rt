@@ -33,6 +33,16 @@ pub type Floats = [f64; 1787];
 
 pub type Words = [u32; 135];
 
+fn put_opened(o: Opened) {
+    match o {
+        Opened::Mesh(verts, faces) => {
+            put_number(b" verts ", verts as u64);
+            put_number(b" faces ", faces as u64);
+        }
+        Opened::Refused(r) => put_refusal(r),
+    }
+}
+
 // Opens the store with so many coordinates and corners of the mesh.
 pub fn run_open(f: &mut Floats, w: &mut Words, coordinates: usize, corners: usize, radius: f64) {
     put_number(b"open ", coordinates as u64);
@@ -43,25 +53,23 @@ pub fn run_open(f: &mut Floats, w: &mut Words, coordinates: usize, corners: usiz
     if corners > 39 {
         return;
     }
-    match open(f, w, radius, &XYZ[0..coordinates], &FACES[0..corners]) {
-        Opened::Mesh(verts, faces) => {
-            put_number(b" verts ", verts as u64);
-            put_number(b" faces ", faces as u64);
-        }
-        Opened::Refused(r) => put_refusal(r),
-    }
+    put_opened(open(f, w, radius, &XYZ[0..coordinates], &FACES[0..corners]));
     put_runs(f, w);
 }
 
-pub fn run_put(f: &mut Floats, w: &mut Words, place: u32, k: Kernel) {
-    put_number(b"put ", place as u64);
-    match put(f, w, place, k) {
+fn put_placed(p: Placed) {
+    match p {
         Placed::Needs(pieces, need) => {
             put_number(b" pieces ", pieces as u64);
             put_number(b" need ", need as u64);
         }
         Placed::Refused(r) => put_refusal(r),
     }
+}
+
+pub fn run_put(f: &mut Floats, w: &mut Words, place: u32, k: Kernel) {
+    put_number(b"put ", place as u64);
+    put_placed(put(f, w, place, k));
     put_runs(f, w);
 }
 
@@ -84,33 +92,39 @@ pub fn run_reweigh(f: &mut Floats, w: &mut Words, place: u32, weight: f64) {
     put_runs(f, w);
 }
 
-pub fn run_advance(f: &mut Floats, w: &mut Words, budget: u64) {
-    put_number(b"advance ", budget);
-    match advance(f, w, budget) {
+fn put_steps(a: Advanced) {
+    match a {
         Advanced::Steps { done, left } => {
             put_number(b" done ", done);
             put_number(b" left ", left);
         }
         Advanced::Refused(r) => put_refusal(r),
     }
+}
+
+pub fn run_advance(f: &mut Floats, w: &mut Words, budget: u64) {
+    put_number(b"advance ", budget);
+    put_steps(advance(f, w, budget));
     put_runs(f, w);
+}
+
+fn put_value(d: DensityRead) {
+    match d {
+        DensityRead::Value(x) => put_float(b" value ", x),
+        DensityRead::Refused(r) => put_refusal(r),
+    }
 }
 
 // The density at a point beside the kernels' centre.
 pub fn run_density(f: &Floats, w: &Words, v: Convention) {
     put_text(b"density");
     put_convention(v);
-    match density(f, w, v, [0.75, -0.5, 0.25]) {
-        DensityRead::Value(x) => put_float(b" value ", x),
-        DensityRead::Refused(r) => put_refusal(r),
-    }
+    put_value(density(f, w, v, [0.75, -0.5, 0.25]));
     put_runs(f, w);
 }
 
-pub fn run_report(f: &Floats, w: &Words, v: Convention) {
-    put_text(b"report");
-    put_convention(v);
-    match report(f, w, v) {
+fn put_report(r: Reported) {
+    match r {
         Reported::Report {
             mass,
             filled,
@@ -124,7 +138,20 @@ pub fn run_report(f: &Floats, w: &Words, v: Convention) {
         }
         Reported::Refused(r) => put_refusal(r),
     }
+}
+
+pub fn run_report(f: &Floats, w: &Words, v: Convention) {
+    put_text(b"report");
+    put_convention(v);
+    put_report(report(f, w, v));
     put_runs(f, w);
+}
+
+fn put_listed(l: ListRead) {
+    match l {
+        ListRead::Pieces(n) => put_number(b" pieces ", n as u64),
+        ListRead::Refused(r) => put_refusal(r),
+    }
 }
 
 // The list into the first `room` floats of a run, whose digest is written too: words past the pieces stay.
@@ -132,10 +159,7 @@ fn put_list(f: &Floats, w: &Words, v: Convention, room: usize, out: &mut [f64]) 
     if room > out.len() {
         return;
     }
-    match list(f, w, v, &mut out[0..room]) {
-        ListRead::Pieces(n) => put_number(b" pieces ", n as u64),
-        ListRead::Refused(r) => put_refusal(r),
-    }
+    put_listed(list(f, w, v, &mut out[0..room]));
     put_bits(b" run ", digest_floats(out));
 }
 

@@ -203,10 +203,12 @@ fn finished(f: &mut Floats, w: &mut Words) {
 fn weighed(f: &mut Floats, w: &mut Words) {
     run_reweigh(f, w, 4, infinity());
     run_report(f, w, Convention::Mass(1e9, 2000.0));
+    run_reweigh(f, w, 4, 0.0);
+    run_reweigh(f, w, 31, infinity());
+    run_report(f, w, Convention::Mass(1e9, 2000.0));
     run_reweigh(f, w, 31, nan());
     run_report(f, w, Convention::Mass(1e9, 2000.0));
     run_density(f, w, Convention::Mass(1e9, 2000.0));
-    run_reweigh(f, w, 4, 0.0);
     run_reweigh(f, w, 31, 1e-40);
     run_report(f, w, Convention::Mass(1e9, 2000.0));
     run_list(f, w, Convention::Mass(1e9, 2000.0), 102);

@@ -234,10 +234,12 @@ fn weighed() -> Vec<Step> {
     vec![
         reweigh(4, INFINITY),
         report(mass(1e9, 2000.0)),
+        reweigh(4, 0.0),
+        reweigh(31, INFINITY),
+        report(mass(1e9, 2000.0)),
         reweigh(31, NAN),
         report(mass(1e9, 2000.0)),
         density(mass(1e9, 2000.0)),
-        reweigh(4, 0.0),
         reweigh(31, 1e-40),
         report(mass(1e9, 2000.0)),
         list(mass(1e9, 2000.0), 102),
