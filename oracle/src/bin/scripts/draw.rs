@@ -249,7 +249,7 @@ pub fn long(count: u64) -> Vec<u8> {
     let unit = |i: usize| [0, 1, 2].map(|k| if i == k { "3FF0000000000000" } else { "0000000000000000" }).join(" ");
     let mut lines = vec!["(open (radius 3FF0000000000000) (verts 4) (faces 4))".to_string()];
     lines.extend((0..4).map(|i| format!("(vert {})", unit(i))));
-    lines.extend(["0 2 1", "0 1 3", "1 2 3", "2 0 3"].map(|f| format!("(face {f})")));
+    lines.extend(["0 1 2", "0 3 1", "1 3 2", "2 3 0"].map(|f| format!("(face {f})")));
     let kernel = format!("(c {}) (sigma 3FF0000000000000) (w 4000000000000000) (alpha 3FF0000000000000)", unit(3));
     while (lines.len() as u64) < count {
         let place = r.below(33);

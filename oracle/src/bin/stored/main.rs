@@ -27,7 +27,7 @@ fn main() {
         ["history"] => print!("{}", history::answers()),
         ["history", "--held", file] => held(file, &history::answers()),
         _ => {
-            eprintln!("usage: stored pieces | volumes | history [--table | --held FILE] (history has no table)");
+            eprintln!("usage: stored pieces | volumes [--table | --held FILE], stored history [--held FILE]");
             std::process::exit(2);
         }
     }
