@@ -33,6 +33,16 @@ pub enum Reading {
 }
 
 impl Convention {
+    pub const RAW: Convention = Convention { kind: RAW, target: 0.0, bulk: 0.0 };
+
+    pub fn rho0(bulk: f64) -> Convention {
+        Convention { kind: RHO0, target: 0.0, bulk }
+    }
+
+    pub fn mass_of(target: f64, bulk: f64) -> Convention {
+        Convention { kind: MASS, target, bulk }
+    }
+
     fn is_mass(self) -> bool {
         self.kind != RAW && self.kind != RHO0
     }

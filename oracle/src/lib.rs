@@ -8,12 +8,14 @@ pub mod held;
 #[cfg(original)]
 pub mod histories;
 pub mod inputs;
-pub mod meshes;
 #[cfg(original)]
 pub mod machine;
+pub mod meshes;
 #[cfg(original)]
 pub mod original;
 pub mod pieces;
+#[cfg(original)]
+pub mod program;
 pub mod steps;
 #[cfg(original)]
 pub mod store;

@@ -1,1788 +1,353 @@
-// Plays one long history of a store on lent runs and writes a line for each call: the call, its answer or
-// 01's number of its refusal, and a digest of every word of both runs after it. Words written from
-// outside make the store unsound and sound again. What it writes is held to the file stdout beside
-// src/, which the proved code did not make: it is what 01's machine answers over the original's own
-// text with the second transcription of 01's powers, as `cargo run --release --bin stored history` in
-// oracle/ writes it; `.. history --table` writes the tables below.
-use advance::advance::Advanced;
-use advance::advance::advance;
-use base::floats::from_pattern;
-use base::floats::to_pattern;
-use base::refusal::Refusal;
-use base::refusal::refusal_number;
+// Plays one long history of a store on lent runs, by topics, and writes a line for each call: the call, its answer or 01's number of
+// its refusal, and a digest of every word of both runs after it. Words written from outside make the store unsound and sound again.
+// What it writes is held to the file stdout beside src/, which the proved code did not make: it is what 01's machine answers to the
+// same calls over the original's own text with the second transcription of 01's powers, as `cargo run --release --bin stored history`
+// in oracle/ writes it. Every number that these calls can give is there but 2, whose mesh of 25 MB no program's stack holds; the
+// comparison of the store in oracle/ has it.
+mod body;
+mod calls;
+mod digest;
+mod line;
+
+use crate::calls::Floats;
+use crate::calls::Words;
+use crate::calls::run_advance;
+use crate::calls::run_clear;
+use crate::calls::run_density;
+use crate::calls::run_list;
+use crate::calls::run_open;
+use crate::calls::run_put;
+use crate::calls::run_report;
+use crate::calls::run_reweigh;
+use crate::calls::run_write;
+use density::convention::Convention;
 use kernel::kernel::Kernel;
-use libc::STDOUT_FILENO;
-use put::Placed;
-use put::put;
-use runs::word;
-use store::edit::Edited;
-use store::edit::clear;
-use store::edit::reweigh;
-use store::open::Opened;
-use store::open::open;
 
-// Eight words for each call: its kind, a place or a count, and six more.
-const CALLS: [u64; 1512] = [
-    4,
-    5,
-    0,
-    0,
-    0,
-    0,
-    0,
-    0,
-    5,
-    0,
-    0,
-    0,
-    0,
-    0,
-    0,
-    0,
-    4,
-    0,
-    0,
-    0,
-    0,
-    0,
-    0,
-    0,
-    1,
-    32,
-    0x3fd0_0000_0000_0000,
-    0xbfc0_0000_0000_0000,
-    0x3fe0_0000_0000_0000,
-    0x3fe0_0000_0000_0000,
-    0x4000_0000_0000_0000,
-    0x3ff0_0000_0000_0000,
-    2,
-    0,
-    0,
-    0,
-    0,
-    0,
-    0,
-    0,
-    0,
-    23,
-    36,
-    0x4000_0000_0000_0000,
-    0,
-    0,
-    0,
-    0,
-    0,
-    24,
-    38,
-    0x4000_0000_0000_0000,
-    0,
-    0,
-    0,
-    0,
-    0,
-    24,
-    39,
-    0x4000_0000_0000_0000,
-    0,
-    0,
-    0,
-    0,
-    0,
-    0,
-    3,
-    0x4000_0000_0000_0000,
-    0,
-    0,
-    0,
-    0,
-    0,
-    27,
-    39,
-    0x4000_0000_0000_0000,
-    0,
-    0,
-    0,
-    0,
-    0,
-    30,
-    0,
-    0x4000_0000_0000_0000,
-    0,
-    0,
-    0,
-    0,
-    0,
-    24,
-    36,
-    0x4000_0000_0000_0000,
-    0,
-    0,
-    0,
-    0,
-    4,
-    0,
-    0,
-    0,
-    0,
-    0,
-    0,
-    0,
-    4,
-    0xffff_ffff_ffff_ffff,
-    0,
-    0,
-    0,
-    0,
-    0,
-    0,
-    2,
-    0,
-    0,
-    0,
-    0,
-    0,
-    0,
-    0,
-    3,
-    31,
-    0x3ff0_0000_0000_0000,
-    0,
-    0,
-    0,
-    0,
-    0,
-    2,
-    32,
-    0,
-    0,
-    0,
-    0,
-    0,
-    0,
-    3,
-    0x0000_0000_ffff_ffff,
-    0x3ff0_0000_0000_0000,
-    0,
-    0,
-    0,
-    0,
-    0,
-    1,
-    32,
-    0x3fd0_0000_0000_0000,
-    0xbfc0_0000_0000_0000,
-    0x3fe0_0000_0000_0000,
-    0x3fe0_0000_0000_0000,
-    0x4000_0000_0000_0000,
-    0x3ff0_0000_0000_0000,
-    1,
-    31,
-    0x3fd0_0000_0000_0000,
-    0xbfc0_0000_0000_0000,
-    0x3fe0_0000_0000_0000,
-    0x3fe0_0000_0000_0000,
-    0x4000_0000_0000_0000,
-    0x3ff0_0000_0000_0000,
-    1,
-    4,
-    0x3fd0_0000_0000_0000,
-    0xbfc0_0000_0000_0000,
-    0x3fe0_0000_0000_0000,
-    0x3fe8_0000_0000_0000,
-    0xc008_0000_0000_0000,
-    0x4004_0000_0000_0000,
-    4,
-    1,
-    0,
-    0,
-    0,
-    0,
-    0,
-    0,
-    4,
-    7,
-    0,
-    0,
-    0,
-    0,
-    0,
-    0,
-    4,
-    10,
-    0,
-    0,
-    0,
-    0,
-    0,
-    0,
-    3,
-    4,
-    0x4016_0000_0000_0000,
-    0,
-    0,
-    0,
-    0,
-    0,
-    4,
-    3,
-    0,
-    0,
-    0,
-    0,
-    0,
-    0,
-    4,
-    0,
-    0,
-    0,
-    0,
-    0,
-    0,
-    0,
-    1,
-    0,
-    0x3fd0_0000_0000_0000,
-    0xbfc0_0000_0000_0000,
-    0x3fe0_0000_0000_0000,
-    0x3ff8_0000_0000_0000,
-    0x4092_9800_0000_0000,
-    0x4000_0000_0000_0000,
-    4,
-    20,
-    0,
-    0,
-    0,
-    0,
-    0,
-    0,
-    1,
-    0,
-    0x3fd0_0000_0000_0000,
-    0xbfc0_0000_0000_0000,
-    0x3fe0_0000_0000_0000,
-    0x3fe0_0000_0000_0000,
-    0x4000_0000_0000_0000,
-    0x3ff0_0000_0000_0000,
-    4,
-    5,
-    0,
-    0,
-    0,
-    0,
-    0,
-    0,
-    2,
-    0,
-    0,
-    0,
-    0,
-    0,
-    0,
-    0,
-    2,
-    0,
-    0,
-    0,
-    0,
-    0,
-    0,
-    0,
-    4,
-    100,
-    0,
-    0,
-    0,
-    0,
-    0,
-    0,
-    1,
-    4,
-    0x3fd0_0000_0000_0000,
-    0xbfc0_0000_0000_0000,
-    0x3fe0_0000_0000_0000,
-    0x3fe0_0000_0000_0000,
-    0x3ff0_0000_0000_0000,
-    0x7ff8_0000_0000_0000,
-    3,
-    4,
-    0x8000_0000_0000_0000,
-    0,
-    0,
-    0,
-    0,
-    0,
-    4,
-    11,
-    0,
-    0,
-    0,
-    0,
-    0,
-    0,
-    4,
-    11,
-    0,
-    0,
-    0,
-    0,
-    0,
-    0,
-    1,
-    4,
-    0x3fd0_0000_0000_0000,
-    0xbfc0_0000_0000_0000,
-    0x3fe0_0000_0000_0000,
-    0x3fe8_0000_0000_0000,
-    0xc008_0000_0000_0000,
-    0x4004_0000_0000_0000,
-    3,
-    31,
-    0x7ff8_0000_0000_0000,
-    0,
-    0,
-    0,
-    0,
-    0,
-    4,
-    191,
-    0,
-    0,
-    0,
-    0,
-    0,
-    0,
-    4,
-    0,
-    0,
-    0,
-    0,
-    0,
-    0,
-    0,
-    4,
-    1,
-    0,
-    0,
-    0,
-    0,
-    0,
-    0,
-    4,
-    1,
-    0,
-    0,
-    0,
-    0,
-    0,
-    0,
-    1,
-    31,
-    0x3fd0_0000_0000_0000,
-    0xbfc0_0000_0000_0000,
-    0x3fe0_0000_0000_0000,
-    0x3ff8_0000_0000_0000,
-    0x4092_9800_0000_0000,
-    0x4000_0000_0000_0000,
-    1,
-    30,
-    0x3fd0_0000_0000_0000,
-    0xbfc0_0000_0000_0000,
-    0x3fe0_0000_0000_0000,
-    0x7ff8_0000_0000_0000,
-    0x3ff0_0000_0000_0000,
-    0x3ffb_3333_3333_3333,
-    1,
-    29,
-    0x3fd0_0000_0000_0000,
-    0xbfc0_0000_0000_0000,
-    0x3fe0_0000_0000_0000,
-    0x3fe0_0000_0000_0000,
-    0x7ff0_0000_0000_0000,
-    0xfff0_0000_0000_0000,
-    1,
-    28,
-    0x3fd0_0000_0000_0000,
-    0xbfc0_0000_0000_0000,
-    0x3fe0_0000_0000_0000,
-    0x3fe0_0000_0000_0000,
-    0x3ff0_0000_0000_0000,
-    0x3ff0_0000_0022_5c18,
-    1,
-    27,
-    0x3fd0_0000_0000_0000,
-    0xbfc0_0000_0000_0000,
-    0x3fe0_0000_0000_0000,
-    0x3fe0_0000_0000_0000,
-    0x3ff0_0000_0000_0000,
-    0x3ff0_0000_0044_b830,
-    4,
-    77,
-    0,
-    0,
-    0,
-    0,
-    0,
-    0,
-    5,
-    0,
-    0x0000_0000_ffff_ffff,
-    0,
-    0,
-    0,
-    0,
-    0,
-    4,
-    1,
-    0,
-    0,
-    0,
-    0,
-    0,
-    0,
-    1,
-    32,
-    0x3fd0_0000_0000_0000,
-    0xbfc0_0000_0000_0000,
-    0x3fe0_0000_0000_0000,
-    0x3fe0_0000_0000_0000,
-    0x4000_0000_0000_0000,
-    0x3ff0_0000_0000_0000,
-    2,
-    6,
-    0,
-    0,
-    0,
-    0,
-    0,
-    0,
-    3,
-    4,
-    0x3ff0_0000_0000_0000,
-    0,
-    0,
-    0,
-    0,
-    0,
-    5,
-    0,
-    8,
-    0,
-    0,
-    0,
-    0,
-    0,
-    5,
-    1,
-    0x0000_0000_0020_0001,
-    0,
-    0,
-    0,
-    0,
-    0,
-    4,
-    1,
-    0,
-    0,
-    0,
-    0,
-    0,
-    0,
-    1,
-    32,
-    0x3fd0_0000_0000_0000,
-    0xbfc0_0000_0000_0000,
-    0x3fe0_0000_0000_0000,
-    0x3fe0_0000_0000_0000,
-    0x4000_0000_0000_0000,
-    0x3ff0_0000_0000_0000,
-    2,
-    6,
-    0,
-    0,
-    0,
-    0,
-    0,
-    0,
-    3,
-    4,
-    0x3ff0_0000_0000_0000,
-    0,
-    0,
-    0,
-    0,
-    0,
-    5,
-    1,
-    12,
-    0,
-    0,
-    0,
-    0,
-    0,
-    5,
-    1,
-    13,
-    0,
-    0,
-    0,
-    0,
-    0,
-    4,
-    1,
-    0,
-    0,
-    0,
-    0,
-    0,
-    0,
-    1,
-    32,
-    0x3fd0_0000_0000_0000,
-    0xbfc0_0000_0000_0000,
-    0x3fe0_0000_0000_0000,
-    0x3fe0_0000_0000_0000,
-    0x4000_0000_0000_0000,
-    0x3ff0_0000_0000_0000,
-    2,
-    6,
-    0,
-    0,
-    0,
-    0,
-    0,
-    0,
-    3,
-    4,
-    0x3ff0_0000_0000_0000,
-    0,
-    0,
-    0,
-    0,
-    0,
-    5,
-    1,
-    12,
-    0,
-    0,
-    0,
-    0,
-    0,
-    5,
-    0,
-    1,
-    0,
-    0,
-    0,
-    0,
-    0,
-    4,
-    1,
-    0,
-    0,
-    0,
-    0,
-    0,
-    0,
-    1,
-    32,
-    0x3fd0_0000_0000_0000,
-    0xbfc0_0000_0000_0000,
-    0x3fe0_0000_0000_0000,
-    0x3fe0_0000_0000_0000,
-    0x4000_0000_0000_0000,
-    0x3ff0_0000_0000_0000,
-    2,
-    6,
-    0,
-    0,
-    0,
-    0,
-    0,
-    0,
-    3,
-    4,
-    0x3ff0_0000_0000_0000,
-    0,
-    0,
-    0,
-    0,
-    0,
-    5,
-    0,
-    8,
-    0,
-    0,
-    0,
-    0,
-    0,
-    5,
-    0,
-    0,
-    0,
-    0,
-    0,
-    0,
-    0,
-    4,
-    1,
-    0,
-    0,
-    0,
-    0,
-    0,
-    0,
-    1,
-    32,
-    0x3fd0_0000_0000_0000,
-    0xbfc0_0000_0000_0000,
-    0x3fe0_0000_0000_0000,
-    0x3fe0_0000_0000_0000,
-    0x4000_0000_0000_0000,
-    0x3ff0_0000_0000_0000,
-    2,
-    6,
-    0,
-    0,
-    0,
-    0,
-    0,
-    0,
-    3,
-    4,
-    0x3ff0_0000_0000_0000,
-    0,
-    0,
-    0,
-    0,
-    0,
-    5,
-    0,
-    8,
-    0,
-    0,
-    0,
-    0,
-    0,
-    5,
-    98,
-    8,
-    0,
-    0,
-    0,
-    0,
-    0,
-    4,
-    1,
-    0,
-    0,
-    0,
-    0,
-    0,
-    0,
-    1,
-    32,
-    0x3fd0_0000_0000_0000,
-    0xbfc0_0000_0000_0000,
-    0x3fe0_0000_0000_0000,
-    0x3fe0_0000_0000_0000,
-    0x4000_0000_0000_0000,
-    0x3ff0_0000_0000_0000,
-    2,
-    6,
-    0,
-    0,
-    0,
-    0,
-    0,
-    0,
-    3,
-    4,
-    0x3ff0_0000_0000_0000,
-    0,
-    0,
-    0,
-    0,
-    0,
-    5,
-    98,
-    0,
-    0,
-    0,
-    0,
-    0,
-    0,
-    5,
-    133,
-    0x0000_0000_ffff_ffff,
-    0,
-    0,
-    0,
-    0,
-    0,
-    4,
-    1,
-    0,
-    0,
-    0,
-    0,
-    0,
-    0,
-    1,
-    32,
-    0x3fd0_0000_0000_0000,
-    0xbfc0_0000_0000_0000,
-    0x3fe0_0000_0000_0000,
-    0x3fe0_0000_0000_0000,
-    0x4000_0000_0000_0000,
-    0x3ff0_0000_0000_0000,
-    2,
-    6,
-    0,
-    0,
-    0,
-    0,
-    0,
-    0,
-    3,
-    4,
-    0x3ff0_0000_0000_0000,
-    0,
-    0,
-    0,
-    0,
-    0,
-    5,
-    133,
-    7,
-    0,
-    0,
-    0,
-    0,
-    0,
-    5,
-    2,
-    18,
-    0,
-    0,
-    0,
-    0,
-    0,
-    4,
-    1,
-    0,
-    0,
-    0,
-    0,
-    0,
-    0,
-    1,
-    32,
-    0x3fd0_0000_0000_0000,
-    0xbfc0_0000_0000_0000,
-    0x3fe0_0000_0000_0000,
-    0x3fe0_0000_0000_0000,
-    0x4000_0000_0000_0000,
-    0x3ff0_0000_0000_0000,
-    2,
-    6,
-    0,
-    0,
-    0,
-    0,
-    0,
-    0,
-    3,
-    4,
-    0x3ff0_0000_0000_0000,
-    0,
-    0,
-    0,
-    0,
-    0,
-    5,
-    2,
-    0,
-    0,
-    0,
-    0,
-    0,
-    0,
-    5,
-    14,
-    0,
-    0,
-    0,
-    0,
-    0,
-    0,
-    4,
-    1,
-    0,
-    0,
-    0,
-    0,
-    0,
-    0,
-    1,
-    32,
-    0x3fd0_0000_0000_0000,
-    0xbfc0_0000_0000_0000,
-    0x3fe0_0000_0000_0000,
-    0x3fe0_0000_0000_0000,
-    0x4000_0000_0000_0000,
-    0x3ff0_0000_0000_0000,
-    2,
-    6,
-    0,
-    0,
-    0,
-    0,
-    0,
-    0,
-    3,
-    4,
-    0x3ff0_0000_0000_0000,
-    0,
-    0,
-    0,
-    0,
-    0,
-    5,
-    14,
-    17,
-    0,
-    0,
-    0,
-    0,
-    0,
-    5,
-    14,
-    16,
-    0,
-    0,
-    0,
-    0,
-    0,
-    4,
-    1,
-    0,
-    0,
-    0,
-    0,
-    0,
-    0,
-    1,
-    32,
-    0x3fd0_0000_0000_0000,
-    0xbfc0_0000_0000_0000,
-    0x3fe0_0000_0000_0000,
-    0x3fe0_0000_0000_0000,
-    0x4000_0000_0000_0000,
-    0x3ff0_0000_0000_0000,
-    2,
-    6,
-    0,
-    0,
-    0,
-    0,
-    0,
-    0,
-    3,
-    4,
-    0x3ff0_0000_0000_0000,
-    0,
-    0,
-    0,
-    0,
-    0,
-    5,
-    14,
-    17,
-    0,
-    0,
-    0,
-    0,
-    0,
-    5,
-    14,
-    18,
-    0,
-    0,
-    0,
-    0,
-    0,
-    4,
-    1,
-    0,
-    0,
-    0,
-    0,
-    0,
-    0,
-    1,
-    32,
-    0x3fd0_0000_0000_0000,
-    0xbfc0_0000_0000_0000,
-    0x3fe0_0000_0000_0000,
-    0x3fe0_0000_0000_0000,
-    0x4000_0000_0000_0000,
-    0x3ff0_0000_0000_0000,
-    2,
-    6,
-    0,
-    0,
-    0,
-    0,
-    0,
-    0,
-    3,
-    4,
-    0x3ff0_0000_0000_0000,
-    0,
-    0,
-    0,
-    0,
-    0,
-    5,
-    14,
-    17,
-    0,
-    0,
-    0,
-    0,
-    0,
-    5,
-    15,
-    17,
-    0,
-    0,
-    0,
-    0,
-    0,
-    4,
-    1,
-    0,
-    0,
-    0,
-    0,
-    0,
-    0,
-    1,
-    32,
-    0x3fd0_0000_0000_0000,
-    0xbfc0_0000_0000_0000,
-    0x3fe0_0000_0000_0000,
-    0x3fe0_0000_0000_0000,
-    0x4000_0000_0000_0000,
-    0x3ff0_0000_0000_0000,
-    2,
-    6,
-    0,
-    0,
-    0,
-    0,
-    0,
-    0,
-    3,
-    4,
-    0x3ff0_0000_0000_0000,
-    0,
-    0,
-    0,
-    0,
-    0,
-    5,
-    15,
-    16,
-    0,
-    0,
-    0,
-    0,
-    0,
-    5,
-    16,
-    1,
-    0,
-    0,
-    0,
-    0,
-    0,
-    4,
-    1,
-    0,
-    0,
-    0,
-    0,
-    0,
-    0,
-    1,
-    32,
-    0x3fd0_0000_0000_0000,
-    0xbfc0_0000_0000_0000,
-    0x3fe0_0000_0000_0000,
-    0x3fe0_0000_0000_0000,
-    0x4000_0000_0000_0000,
-    0x3ff0_0000_0000_0000,
-    2,
-    6,
-    0,
-    0,
-    0,
-    0,
-    0,
-    0,
-    3,
-    4,
-    0x3ff0_0000_0000_0000,
-    0,
-    0,
-    0,
-    0,
-    0,
-    5,
-    16,
-    0,
-    0,
-    0,
-    0,
-    0,
-    0,
-    5,
-    97,
-    12,
-    0,
-    0,
-    0,
-    0,
-    0,
-    4,
-    1,
-    0,
-    0,
-    0,
-    0,
-    0,
-    0,
-    1,
-    32,
-    0x3fd0_0000_0000_0000,
-    0xbfc0_0000_0000_0000,
-    0x3fe0_0000_0000_0000,
-    0x3fe0_0000_0000_0000,
-    0x4000_0000_0000_0000,
-    0x3ff0_0000_0000_0000,
-    2,
-    6,
-    0,
-    0,
-    0,
-    0,
-    0,
-    0,
-    3,
-    4,
-    0x3ff0_0000_0000_0000,
-    0,
-    0,
-    0,
-    0,
-    0,
-    5,
-    97,
-    0,
-    0,
-    0,
-    0,
-    0,
-    0,
-    5,
-    21,
-    1,
-    0,
-    0,
-    0,
-    0,
-    0,
-    4,
-    1,
-    0,
-    0,
-    0,
-    0,
-    0,
-    0,
-    1,
-    32,
-    0x3fd0_0000_0000_0000,
-    0xbfc0_0000_0000_0000,
-    0x3fe0_0000_0000_0000,
-    0x3fe0_0000_0000_0000,
-    0x4000_0000_0000_0000,
-    0x3ff0_0000_0000_0000,
-    2,
-    6,
-    0,
-    0,
-    0,
-    0,
-    0,
-    0,
-    3,
-    4,
-    0x3ff0_0000_0000_0000,
-    0,
-    0,
-    0,
-    0,
-    0,
-    5,
-    21,
-    0,
-    0,
-    0,
-    0,
-    0,
-    0,
-    5,
-    22,
-    1,
-    0,
-    0,
-    0,
-    0,
-    0,
-    4,
-    1,
-    0,
-    0,
-    0,
-    0,
-    0,
-    0,
-    1,
-    32,
-    0x3fd0_0000_0000_0000,
-    0xbfc0_0000_0000_0000,
-    0x3fe0_0000_0000_0000,
-    0x3fe0_0000_0000_0000,
-    0x4000_0000_0000_0000,
-    0x3ff0_0000_0000_0000,
-    2,
-    6,
-    0,
-    0,
-    0,
-    0,
-    0,
-    0,
-    3,
-    4,
-    0x3ff0_0000_0000_0000,
-    0,
-    0,
-    0,
-    0,
-    0,
-    5,
-    22,
-    0,
-    0,
-    0,
-    0,
-    0,
-    0,
-    4,
-    12,
-    0,
-    0,
-    0,
-    0,
-    0,
-    0,
-    1,
-    31,
-    0x3fd0_0000_0000_0000,
-    0xbfc0_0000_0000_0000,
-    0x3fe0_0000_0000_0000,
-    0x3fe0_0000_0000_0000,
-    0x4000_0000_0000_0000,
-    0x3ff0_0000_0000_0000,
-    2,
-    30,
-    0,
-    0,
-    0,
-    0,
-    0,
-    0,
-    2,
-    29,
-    0,
-    0,
-    0,
-    0,
-    0,
-    0,
-    3,
-    28,
-    0x7e37_e43c_8800_759c,
-    0,
-    0,
-    0,
-    0,
-    0,
-    4,
-    30,
-    0,
-    0,
-    0,
-    0,
-    0,
-    0,
-    1,
-    0,
-    0x3fd0_0000_0000_0000,
-    0xbfc0_0000_0000_0000,
-    0x3fe0_0000_0000_0000,
-    0,
-    0x4059_0000_0000_0000,
-    0,
-    1,
-    4,
-    0x3fd0_0000_0000_0000,
-    0xbfc0_0000_0000_0000,
-    0x3fe0_0000_0000_0000,
-    0x3fd0_0000_0000_0000,
-    0x4059_0000_0000_0000,
-    0x3fe0_0000_0000_0000,
-    1,
-    8,
-    0x3fd0_0000_0000_0000,
-    0xbfc0_0000_0000_0000,
-    0x3fe0_0000_0000_0000,
-    0x3fe0_0000_0000_0000,
-    0x4059_0000_0000_0000,
-    0x3ff0_0000_0000_0000,
-    1,
-    12,
-    0x3fd0_0000_0000_0000,
-    0xbfc0_0000_0000_0000,
-    0x3fe0_0000_0000_0000,
-    0x3fe8_0000_0000_0000,
-    0x4059_0000_0000_0000,
-    0x3ff8_0000_0000_0000,
-    1,
-    16,
-    0x3fd0_0000_0000_0000,
-    0xbfc0_0000_0000_0000,
-    0x3fe0_0000_0000_0000,
-    0x3ff0_0000_0000_0000,
-    0x4059_0000_0000_0000,
-    0x4000_0000_0000_0000,
-    1,
-    20,
-    0x3fd0_0000_0000_0000,
-    0xbfc0_0000_0000_0000,
-    0x3fe0_0000_0000_0000,
-    0x3ff4_0000_0000_0000,
-    0x4059_0000_0000_0000,
-    0x4004_0000_0000_0000,
-    1,
-    24,
-    0x3fd0_0000_0000_0000,
-    0xbfc0_0000_0000_0000,
-    0x3fe0_0000_0000_0000,
-    0x3ff8_0000_0000_0000,
-    0x4059_0000_0000_0000,
-    0x4008_0000_0000_0000,
-    1,
-    28,
-    0x3fd0_0000_0000_0000,
-    0xbfc0_0000_0000_0000,
-    0x3fe0_0000_0000_0000,
-    0x3ffc_0000_0000_0000,
-    0x4059_0000_0000_0000,
-    0x400c_0000_0000_0000,
-    4,
-    250,
-    0,
-    0,
-    0,
-    0,
-    0,
-    0,
-    3,
-    12,
-    0x401c_0000_0000_0000,
-    0,
-    0,
-    0,
-    0,
-    0,
-    1,
-    12,
-    0x3fd0_0000_0000_0000,
-    0xbfc0_0000_0000_0000,
-    0x3fe0_0000_0000_0000,
-    0x3fe8_0000_0000_0000,
-    0xc008_0000_0000_0000,
-    0x4004_0000_0000_0000,
-    2,
-    16,
-    0,
-    0,
-    0,
-    0,
-    0,
-    0,
-    4,
-    0xffff_ffff_ffff_ffff,
-    0,
-    0,
-    0,
-    0,
-    0,
-    0,
-    4,
-    1,
-    0,
-    0,
-    0,
-    0,
-    0,
-    0,
-    1,
-    31,
-    0x3fd0_0000_0000_0000,
-    0xbfc0_0000_0000_0000,
-    0x3fe0_0000_0000_0000,
-    0x3fe8_0000_0000_0000,
-    0xc008_0000_0000_0000,
-    0x4004_0000_0000_0000,
-    4,
-    0,
-    0,
-    0,
-    0,
-    0,
-    0,
-    0,
-    0,
-    24,
-    0,
-    0x8000_0000_0000_0000,
-    0,
-    0,
-    0,
-    0,
-    1,
-    31,
-    0x3fd0_0000_0000_0000,
-    0xbfc0_0000_0000_0000,
-    0x3fe0_0000_0000_0000,
-    0x3fe8_0000_0000_0000,
-    0xc008_0000_0000_0000,
-    0x4004_0000_0000_0000,
-    1,
-    32,
-    0x3fd0_0000_0000_0000,
-    0xbfc0_0000_0000_0000,
-    0x3fe0_0000_0000_0000,
-    0x3fe0_0000_0000_0000,
-    0x4000_0000_0000_0000,
-    0x3ff0_0000_0000_0000,
-    4,
-    5,
-    0,
-    0,
-    0,
-    0,
-    0,
-    0,
-    3,
-    31,
-    0x4008_0000_0000_0000,
-    0,
-    0,
-    0,
-    0,
-    0,
-    2,
-    31,
-    0,
-    0,
-    0,
-    0,
-    0,
-    0,
-    2,
-    31,
-    0,
-    0,
-    0,
-    0,
-    0,
-    0,
-    0,
-    0,
-    0,
-    0x7ff8_0000_0000_0000,
-    0,
-    0,
-    0,
-    0,
-    1,
-    0,
-    0x3fd0_0000_0000_0000,
-    0xbfc0_0000_0000_0000,
-    0x3fe0_0000_0000_0000,
-    0x3ff8_0000_0000_0000,
-    0x4092_9800_0000_0000,
-    0x4000_0000_0000_0000,
-    4,
-    0xffff_ffff_ffff_ffff,
-    0,
-    0,
-    0,
-    0,
-    0,
-    0,
-    5,
-    3,
-    12,
-    0,
-    0,
-    0,
-    0,
-    0,
-    4,
-    0,
-    0,
-    0,
-    0,
-    0,
-    0,
-    0,
-    5,
-    3,
-    13,
-    0,
-    0,
-    0,
-    0,
-    0,
-    4,
-    0,
-    0,
-    0,
-    0,
-    0,
-    0,
-    0,
-    2,
-    0,
-    0,
-    0,
-    0,
-    0,
-    0,
-    0,
-    0,
-    27,
-    36,
-    0x41cd_cd65_0000_0000,
-    0,
-    0,
-    0,
-    0,
-    0,
-    24,
-    36,
-    0x41cd_cd65_0000_0000,
-    0,
-    0,
-    0,
-    0,
-    1,
-    31,
-    0x3fd0_0000_0000_0000,
-    0xbfc0_0000_0000_0000,
-    0x3fe0_0000_0000_0000,
-    0x3ff8_0000_0000_0000,
-    0x4092_9800_0000_0000,
-    0x4000_0000_0000_0000,
-    4,
-    100,
-    0,
-    0,
-    0,
-    0,
-    0,
-    0,
-    2,
-    31,
-    0,
-    0,
-    0,
-    0,
-    0,
-    0,
-    4,
-    0,
-    0,
-    0,
-    0,
-    0,
-    0,
-    0,
-];
+const ALL: u64 = 18_446_744_073_709_551_615;
 
-const XYZ: [f64; 30] = [
-    -1.0,
-    -1.5,
-    -1.0,
-    1.0,
-    -1.25,
-    -1.0,
-    1.5,
-    1.0,
-    -0.75,
-    -1.0,
-    1.0,
-    -1.0,
-    -1.25,
-    -1.0,
-    1.0,
-    1.0,
-    -1.0,
-    1.0,
-    1.0,
-    1.75,
-    1.0,
-    -1.0,
-    1.0,
-    1.125,
-    4.0,
-    0.0,
-    0.0,
-    0.0,
-    4.0,
-    0.0,
-];
-
-const FACES: [u32; 39] = [
-    0,
-    2,
-    1,
-    0,
-    3,
-    2,
-    4,
-    5,
-    6,
-    4,
-    6,
-    7,
-    0,
-    1,
-    5,
-    0,
-    5,
-    4,
-    1,
-    2,
-    6,
-    1,
-    6,
-    5,
-    2,
-    3,
-    7,
-    2,
-    7,
-    6,
-    3,
-    0,
-    4,
-    3,
-    4,
-    7,
-    0,
-    1,
-    8,
-];
-
-// One more word of a digest.
-fn mixed(sum: u64, word: u64) -> u64 {
-    let turned = (sum << 27) | (sum >> 37);
-    std::num::wrapping_add_u64(turned ^ word, 0x9e37_79b9_7f4a_7c15)
+fn nan() -> f64 {
+    0.0 / 0.0
 }
 
-fn digest_floats(f: &[f64]) -> u64 {
-    let mut sum: u64 = 0;
-    for i in 0..f.len() {
-        sum = mixed(sum, to_pattern(f[i]));
+fn infinity() -> f64 {
+    1.0 / 0.0
+}
+
+// A kernel of the history; all have one centre.
+fn centred(sigma: f64, w: f64, alpha: f64) -> Kernel {
+    Kernel {
+        c: [0.25, -0.125, 0.5],
+        sigma,
+        w,
+        alpha,
     }
-    sum
 }
 
-fn digest_words(w: &[u32]) -> u64 {
-    let mut sum: u64 = 0;
-    for i in 0..w.len() {
-        sum = mixed(sum, word(w, i) as u64);
-    }
-    sum
+// A kernel that stays, so of one piece.
+fn one() -> Kernel {
+    centred(0.5, 2.0, 1.0)
 }
 
-fn put_word(name: &[u8], n: u64) {
-    io::write_all(STDOUT_FILENO, name);
-    io::print_decimal(STDOUT_FILENO, n);
+// Of 13 pieces.
+fn thirteen() -> Kernel {
+    centred(1.5, 1190.0, 2.0)
 }
 
-fn put_refusal(r: Refusal) {
-    put_word(b" no ", refusal_number(r) as u64);
+// Of 16 pieces.
+fn sixteen() -> Kernel {
+    centred(0.75, -3.0, 2.5)
 }
 
-// The end of a call's line.
-fn put_digests(f: &[f64], w: &[u32]) {
-    io::write_all(STDOUT_FILENO, b" ");
-    io::print_hex(STDOUT_FILENO, digest_floats(f), 16);
-    io::write_all(STDOUT_FILENO, b" ");
-    io::print_hex(STDOUT_FILENO, digest_words(w), 16);
-    io::write_all(STDOUT_FILENO, b"\n");
+// Of no piece.
+fn none() -> Kernel {
+    centred(0.5, 1.0, nan())
 }
 
-// Opens the store with so many coordinates and corners from the front of the tables.
-fn run_open(f: &mut [f64], w: &mut [u32], coordinates: usize, corners: usize, radius: f64) {
-    put_word(b"open ", coordinates as u64);
-    put_word(b" ", corners as u64);
-    if coordinates > 30 {
+// Nobody opened it: by its counts the runs are too short, then its corners are loose.
+fn unopened(f: &mut Floats, w: &mut Words) {
+    run_advance(f, w, 5);
+    run_density(f, w, Convention::Raw);
+    run_report(f, w, Convention::Raw);
+    run_list(f, w, Convention::Raw, 0);
+    run_write(f, w, 0, 0);
+    run_advance(f, w, 0);
+    run_put(f, w, 32, one());
+    run_clear(f, w, 0);
+    run_reweigh(f, w, 32, 1.0);
+    run_density(f, w, Convention::Mass(1.0, 1190.0));
+    run_report(f, w, Convention::Rho0(1190.0));
+    run_list(f, w, Convention::Mass(1.0, 1190.0), 0);
+}
+
+// Openings that are refused, the lowest row first, then a good one; readings of a store with no kernel.
+fn opened(f: &mut Floats, w: &mut Words) {
+    run_open(f, w, 23, 36, 2.0);
+    run_open(f, w, 24, 38, 2.0);
+    run_open(f, w, 23, 39, 2.0);
+    run_open(f, w, 24, 39, 2.0);
+    run_open(f, w, 0, 3, 2.0);
+    run_open(f, w, 27, 39, 2.0);
+    run_open(f, w, 30, 0, 2.0);
+    run_open(f, w, 24, 36, 2.0);
+    run_advance(f, w, 0);
+    run_advance(f, w, ALL);
+    run_density(f, w, Convention::Raw);
+    run_density(f, w, Convention::Mass(1e9, 1190.0));
+    run_report(f, w, Convention::Rho0(2000.0));
+    run_report(f, w, Convention::Mass(1e9, 1190.0));
+    run_list(f, w, Convention::Raw, 0);
+    run_list(f, w, Convention::Raw, 7);
+}
+
+// No place, and places that are empty; 31 is the last one.
+fn placed(f: &mut Floats, w: &mut Words) {
+    run_clear(f, w, 0);
+    run_reweigh(f, w, 31, 1.0);
+    run_clear(f, w, 32);
+    run_reweigh(f, w, 4_294_967_295, 1.0);
+    run_put(f, w, 32, one());
+    run_put(f, w, 4_294_967_295, one());
+    run_put(f, w, 31, one());
+    run_reweigh(f, w, 32, 1.0);
+    run_reweigh(f, w, 31, 2.5);
+}
+
+// Small portions, a weight between them.
+fn portioned(f: &mut Floats, w: &mut Words) {
+    run_put(f, w, 4, sixteen());
+    run_advance(f, w, 1);
+    run_advance(f, w, 7);
+    run_density(f, w, Convention::Raw);
+    run_advance(f, w, 10);
+    run_reweigh(f, w, 4, 5.5);
+    run_density(f, w, Convention::Raw);
+    run_advance(f, w, 3);
+    run_advance(f, w, 0);
+}
+
+// What can be read of 17 pieces while work is left, and what not; a list too short is refused after that.
+fn unfinished(f: &mut Floats, w: &mut Words) {
+    run_density(f, w, Convention::Rho0(1190.0));
+    run_density(f, w, Convention::Rho0(-1.0));
+    run_density(f, w, Convention::Mass(0.0, 2000.0));
+    run_density(f, w, Convention::Mass(-0.0, nan()));
+    run_density(f, w, Convention::Mass(nan(), 2000.0));
+    run_density(f, w, Convention::Mass(-1e9, 2000.0));
+    run_density(f, w, Convention::Mass(1e9, 2000.0));
+    run_density(f, w, Convention::Mass(5e-324, 2000.0));
+    run_report(f, w, Convention::Raw);
+    run_report(f, w, Convention::Rho0(1190.0));
+    run_report(f, w, Convention::Mass(0.0, 2000.0));
+    run_report(f, w, Convention::Mass(1e9, 2000.0));
+    run_list(f, w, Convention::Raw, 102);
+    run_list(f, w, Convention::Raw, 101);
+    run_list(f, w, Convention::Rho0(1190.0), 200);
+    run_list(f, w, Convention::Rho0(1190.0), 0);
+    run_list(f, w, Convention::Mass(0.0, 2000.0), 102);
+    run_list(f, w, Convention::Mass(0.0, 2000.0), 101);
+    run_list(f, w, Convention::Mass(1e9, 2000.0), 102);
+    run_list(f, w, Convention::Mass(1e9, 2000.0), 101);
+}
+
+// A lower place goes first; half-done work is overwritten, cleared, and put again.
+fn overwritten(f: &mut Floats, w: &mut Words) {
+    run_put(f, w, 0, thirteen());
+    run_advance(f, w, 20);
+    run_density(f, w, Convention::Raw);
+    run_put(f, w, 0, one());
+    run_density(f, w, Convention::Raw);
+    run_advance(f, w, 5);
+    run_reweigh(f, w, 0, -1.0);
+    run_clear(f, w, 0);
+    run_clear(f, w, 0);
+    run_reweigh(f, w, 0, 1.0);
+    run_advance(f, w, 100);
+    run_put(f, w, 4, none());
+    run_reweigh(f, w, 4, -0.0);
+    run_advance(f, w, 11);
+    run_report(f, w, Convention::Raw);
+    run_advance(f, w, 11);
+    run_report(f, w, Convention::Raw);
+    run_put(f, w, 4, sixteen());
+    run_report(f, w, Convention::Raw);
+    run_advance(f, w, 191);
+    run_list(f, w, Convention::Mass(1e9, 1190.0), 102);
+    run_advance(f, w, 0);
+    run_advance(f, w, 1);
+    run_advance(f, w, 1);
+}
+
+// The readings of 17 finished pieces; a weight given anew needs no work.
+fn finished(f: &mut Floats, w: &mut Words) {
+    run_density(f, w, Convention::Raw);
+    run_density(f, w, Convention::Rho0(1190.0));
+    run_density(f, w, Convention::Rho0(nan()));
+    run_density(f, w, Convention::Mass(1e9, 2000.0));
+    run_density(f, w, Convention::Mass(0.0, 2000.0));
+    run_report(f, w, Convention::Raw);
+    run_report(f, w, Convention::Rho0(2000.0));
+    run_report(f, w, Convention::Mass(1e9, 2000.0));
+    run_report(f, w, Convention::Mass(-0.0, 0.0));
+    run_report(f, w, Convention::Mass(infinity(), infinity()));
+    run_list(f, w, Convention::Raw, 102);
+    run_list(f, w, Convention::Rho0(2000.0), 150);
+    run_list(f, w, Convention::Mass(1e9, 2000.0), 102);
+    run_list(f, w, Convention::Mass(1e9, 2000.0), 101);
+    run_list(f, w, Convention::Raw, 0);
+    run_reweigh(f, w, 4, 5.5);
+    run_density(f, w, Convention::Mass(1e9, 2000.0));
+    run_report(f, w, Convention::Mass(1e9, 2000.0));
+}
+
+// Weights whose mass has no scale: rho0's is taken, or 1.
+fn weighed(f: &mut Floats, w: &mut Words) {
+    run_reweigh(f, w, 4, infinity());
+    run_report(f, w, Convention::Mass(1e9, 2000.0));
+    run_reweigh(f, w, 4, 0.0);
+    run_reweigh(f, w, 31, infinity());
+    run_report(f, w, Convention::Mass(1e9, 2000.0));
+    run_reweigh(f, w, 31, nan());
+    run_report(f, w, Convention::Mass(1e9, 2000.0));
+    run_density(f, w, Convention::Mass(1e9, 2000.0));
+    run_reweigh(f, w, 31, 1e-40);
+    run_report(f, w, Convention::Mass(1e9, 2000.0));
+    run_list(f, w, Convention::Mass(1e9, 2000.0), 102);
+}
+
+// Kernels of every kind, none of them finished.
+fn various(f: &mut Floats, w: &mut Words) {
+    run_put(f, w, 31, thirteen());
+    run_put(f, w, 30, centred(nan(), 1.0, 1.7));
+    run_put(f, w, 29, centred(0.5, infinity(), -infinity()));
+    run_put(f, w, 28, centred(0.5, 1.0, 1.0000000005));
+    run_put(f, w, 27, centred(0.5, 1.0, 1.000000001));
+    run_density(f, w, Convention::Raw);
+    run_advance(f, w, 77);
+}
+
+// One word written from outside, every call, and the word as it was: what is refused before what.
+fn damaged(f: &mut Floats, w: &mut Words, at: usize, value: u32) {
+    if at >= 135 {
         return;
     }
-    if corners > 39 {
-        return;
-    }
-    match open(f, w, radius, &XYZ[0..coordinates], &FACES[0..corners]) {
-        Opened::Mesh(verts, faces) => {
-            put_word(b" verts ", verts as u64);
-            put_word(b" faces ", faces as u64);
-        }
-        Opened::Refused(r) => put_refusal(r),
-    }
+    let was = w[at];
+    run_write(f, w, at, value);
+    run_advance(f, w, 1);
+    run_put(f, w, 32, one());
+    run_clear(f, w, 6);
+    run_reweigh(f, w, 32, 1.0);
+    run_density(f, w, Convention::Mass(1e9, 2000.0));
+    run_report(f, w, Convention::Raw);
+    run_list(f, w, Convention::Raw, 0);
+    run_write(f, w, at, was);
 }
 
-fn run_put(f: &mut [f64], w: &mut [u32], place: u32, k: Kernel) {
-    put_word(b"put ", place as u64);
-    match put(f, w, place, k) {
-        Placed::Needs(pieces, need) => {
-            put_word(b" pieces ", pieces as u64);
-            put_word(b" need ", need as u64);
-        }
-        Placed::Refused(r) => put_refusal(r),
-    }
+// Each way to be unsound: counts, corners, and the words of a place.
+fn unsound(f: &mut Floats, w: &mut Words) {
+    damaged(f, w, 0, 4_294_967_295);
+    damaged(f, w, 1, 2_097_153);
+    damaged(f, w, 1, 13);
+    damaged(f, w, 0, 1);
+    damaged(f, w, 0, 0);
+    damaged(f, w, 98, 8);
+    damaged(f, w, 133, 4_294_967_295);
+    damaged(f, w, 2, 18);
+    damaged(f, w, 2 + 3 * 4, 0);
+    damaged(f, w, 2 + 3 * 4, 16);
+    damaged(f, w, 2 + 3 * 4, 18);
+    damaged(f, w, 3 + 3 * 4, 17);
+    damaged(f, w, 4 + 3 * 4, 1);
+    damaged(f, w, 4 + 3 * 31, 12);
+    damaged(f, w, 3 + 3 * 6, 1);
+    damaged(f, w, 4 + 3 * 6, 1);
 }
 
-fn put_edited(e: Edited) {
-    match e {
-        Edited::Done => {}
-        Edited::Refused(r) => put_refusal(r),
-    }
+// Many places filled, in part by work half done; then all of it.
+fn crowded(f: &mut Floats, w: &mut Words) {
+    run_advance(f, w, 12);
+    run_put(f, w, 31, one());
+    run_clear(f, w, 30);
+    run_clear(f, w, 29);
+    run_reweigh(f, w, 28, 1e300);
+    run_advance(f, w, 30);
+    run_put(f, w, 0, centred(0.0, 100.0, 0.0));
+    run_put(f, w, 4, centred(0.25, 100.0, 0.5));
+    run_put(f, w, 8, centred(0.5, 100.0, 1.0));
+    run_put(f, w, 12, centred(0.75, 100.0, 1.5));
+    run_put(f, w, 16, centred(1.0, 100.0, 2.0));
+    run_put(f, w, 20, centred(1.25, 100.0, 2.5));
+    run_put(f, w, 24, centred(1.5, 100.0, 3.0));
+    run_put(f, w, 28, centred(1.75, 100.0, 3.5));
+    run_advance(f, w, 250);
+    run_reweigh(f, w, 12, 7.0);
+    run_put(f, w, 12, sixteen());
+    run_clear(f, w, 16);
+    run_report(f, w, Convention::Raw);
+    run_advance(f, w, ALL);
+    run_report(f, w, Convention::Mass(4e10, 1190.0));
+    run_density(f, w, Convention::Mass(4e10, 1190.0));
+    run_list(f, w, Convention::Mass(4e10, 1190.0), 1200);
+    run_advance(f, w, 1);
+    run_put(f, w, 31, sixteen());
+    run_advance(f, w, 0);
+    run_report(f, w, Convention::Raw);
 }
 
-fn run_clear(f: &mut [f64], w: &mut [u32], place: u32) {
-    put_word(b"clear ", place as u64);
-    put_edited(clear(f, w, place));
+// No face: every piece is finished at once, and no reading is refused for work.
+fn faceless(f: &mut Floats, w: &mut Words) {
+    run_open(f, w, 24, 0, -0.0);
+    run_put(f, w, 31, sixteen());
+    run_put(f, w, 32, one());
+    run_advance(f, w, 5);
+    run_reweigh(f, w, 31, 3.0);
+    run_report(f, w, Convention::Mass(1e9, 2000.0));
+    run_density(f, w, Convention::Mass(1e9, 2000.0));
+    run_list(f, w, Convention::Mass(1e9, 2000.0), 96);
+    run_list(f, w, Convention::Mass(1e9, 2000.0), 95);
+    run_clear(f, w, 31);
+    run_clear(f, w, 31);
+    run_report(f, w, Convention::Raw);
 }
 
-fn run_reweigh(f: &mut [f64], w: &mut [u32], place: u32, weight: f64) {
-    put_word(b"reweigh ", place as u64);
-    put_edited(reweigh(f, w, place, weight));
+// No mesh at all; a count of pieces finished that does not fit.
+fn meshless(f: &mut Floats, w: &mut Words) {
+    run_open(f, w, 0, 0, nan());
+    run_put(f, w, 0, thirteen());
+    run_advance(f, w, ALL);
+    run_report(f, w, Convention::Rho0(1190.0));
+    damaged(f, w, 3, 12);
+    run_advance(f, w, 0);
+    run_clear(f, w, 0);
 }
 
-fn run_advance(f: &mut [f64], w: &mut [u32], budget: u64) {
-    put_word(b"advance ", budget);
-    match advance(f, w, budget) {
-        Advanced::Steps { done, left } => {
-            put_word(b" done ", done);
-            put_word(b" left ", left);
-        }
-        Advanced::Refused(r) => put_refusal(r),
-    }
-}
-
-// Writes a word of the store from outside.
-fn run_write(w: &mut [u32], at: usize, value: u32) {
-    put_word(b"write ", at as u64);
-    put_word(b" ", value as u64);
-    if at < w.len() {
-        w[at] = value;
-    }
-}
-
-// A call that names a place.
-fn run_placed(f: &mut [f64], w: &mut [u32], kind: u64, place: u32, args: [u64; 6]) {
-    if kind == 1 {
-        let k = Kernel {
-            c: [
-                from_pattern(args[0]),
-                from_pattern(args[1]),
-                from_pattern(args[2]),
-            ],
-            sigma: from_pattern(args[3]),
-            w: from_pattern(args[4]),
-            alpha: from_pattern(args[5]),
-        };
-        run_put(f, w, place, k);
-        return;
-    }
-    if kind == 2 {
-        run_clear(f, w, place);
-        return;
-    }
-    run_reweigh(f, w, place, from_pattern(args[0]));
-}
-
-// A word of the table that is below 2^32.
-fn as_word(n: u64) -> u32 {
-    if n < 0x1_0000_0000 { n as u32 } else { 0 }
-}
-
-// One call of the table, by its kind.
-fn run_call(f: &mut [f64], w: &mut [u32], kind: u64, n: u64, args: [u64; 6]) {
-    if kind == 0 {
-        run_open(f, w, n as usize, args[0] as usize, from_pattern(args[1]));
-        return;
-    }
-    if kind == 4 {
-        run_advance(f, w, n);
-        return;
-    }
-    if kind == 5 {
-        run_write(w, n as usize, as_word(args[0]));
-        return;
-    }
-    run_placed(f, w, kind, as_word(n), args);
-}
-
-// The whole history.
-fn run_calls(f: &mut [f64], w: &mut [u32]) {
-    for i in 0..CALLS.len() / 8 {
-        let at = 8 * i;
-        let args = [
-            CALLS[at + 2],
-            CALLS[at + 3],
-            CALLS[at + 4],
-            CALLS[at + 5],
-            CALLS[at + 6],
-            CALLS[at + 7],
-        ];
-        run_call(f, w, CALLS[at], CALLS[at + 1], args);
-        put_digests(f, w);
-    }
+// The first mesh again, and work that is dropped.
+fn reopened(f: &mut Floats, w: &mut Words) {
+    run_open(f, w, 27, 36, 1e9);
+    run_open(f, w, 24, 36, 1e9);
+    run_put(f, w, 31, thirteen());
+    run_advance(f, w, 100);
+    run_open(f, w, 24, 39, 1e9);
+    run_report(f, w, Convention::Raw);
+    run_clear(f, w, 31);
+    run_advance(f, w, 0);
+    run_report(f, w, Convention::Raw);
 }
 
 fn main() {
     let mut f = [1.5; 1787];
-    let mut w: [u32; 135] = [9; 135];
-    run_calls(&mut f, &mut w);
+    let mut w: Words = [9; 135];
+    unopened(&mut f, &mut w);
+    opened(&mut f, &mut w);
+    placed(&mut f, &mut w);
+    portioned(&mut f, &mut w);
+    unfinished(&mut f, &mut w);
+    overwritten(&mut f, &mut w);
+    finished(&mut f, &mut w);
+    weighed(&mut f, &mut w);
+    various(&mut f, &mut w);
+    unsound(&mut f, &mut w);
+    crowded(&mut f, &mut w);
+    faceless(&mut f, &mut w);
+    meshless(&mut f, &mut w);
+    reopened(&mut f, &mut w);
 }

@@ -4,11 +4,13 @@
 //!   stored pieces --table       its table of arguments
 //!   stored pieces --held FILE   whether FILE is that output: the exit status is 1 if it is not
 //!   stored volumes ..           the same for `volume_rows` (crates/volume_rows)
-//!   stored history [--table | --held FILE]   the same for the program `history` (crates/history), by 01's machine
+//!   stored history [--held FILE]   the same for the program `history` (crates/history), by 01's machine
 #[cfg(original)]
 mod history;
 #[cfg(original)]
 mod pieces;
+#[cfg(original)]
+mod topics;
 #[cfg(original)]
 mod volumes;
 
@@ -23,10 +25,9 @@ fn main() {
         ["volumes", "--table"] => print!("{}", volumes::tables()),
         ["volumes", "--held", file] => held(file, &volumes::answers()),
         ["history"] => print!("{}", history::answers()),
-        ["history", "--table"] => print!("{}", history::table()),
         ["history", "--held", file] => held(file, &history::answers()),
         _ => {
-            eprintln!("usage: stored pieces | volumes | history [--table | --held FILE]");
+            eprintln!("usage: stored pieces | volumes [--table | --held FILE], stored history [--held FILE]");
             std::process::exit(2);
         }
     }

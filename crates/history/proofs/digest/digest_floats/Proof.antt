@@ -1,10 +1,10 @@
--- `history::digest_floats` is safe and ends: the index stays within the run. Assumes nothing.
+-- `history::digest::digest_floats` is safe and ends: the index stays within the run. Assumes nothing.
 use mathlib.Core.Path.{_≡_}
 use Prim.Native.Nat.{_≤_, _-_}
 use lib.ListN.{length}
 use borrow.Author.Needs.{needs}
-use Rattle.history.proofs.digest_floats.Statement.{statement}
-use Rattle.history.proofs.digest_floats.Tie as tie
+use Rattle.history.proofs.digest.digest_floats.Statement.{statement}
+use Rattle.history.proofs.digest.digest_floats.Tie as tie
 
 abbrev Inv-loop : tie.InvT-loop
 Inv-loop f sum₀ i₀ i-end sum i = (i ≤ i-end) × (i-end ≡ length f)

@@ -1,0 +1,75 @@
+//! Runs the program on inputs and holds what it prints to what the machine does.
+use crate::{cases, draw};
+use oracle::program;
+use oracle::tally::Tally;
+use std::io::{Read, Write};
+use std::process::{Command, Stdio};
+
+/// All that the program at this path prints for an input.
+fn printed(bench: &str, input: &[u8]) -> Vec<u8> {
+    let mut child = Command::new(bench).stdin(Stdio::piped()).stdout(Stdio::piped()).spawn().unwrap_or_else(|e| {
+        eprintln!("{bench}: {e}");
+        std::process::exit(2);
+    });
+    let (mut to, mut from) = (child.stdin.take().unwrap(), child.stdout.take().unwrap());
+    let mut told = Vec::new();
+    std::thread::scope(|s| {
+        s.spawn(move || {
+            // a program that ends early shows in what it printed
+            let _ = to.write_all(input);
+        });
+        from.read_to_end(&mut told).expect("its standard output");
+    });
+    let status = child.wait().expect("its end");
+    if !status.success() {
+        told.extend(format!("[{status}]\n").bytes());
+    }
+    told
+}
+
+/// Each line of both, one after the other, and whether there is a line more.
+fn hold(tally: &mut Tally, name: &str, told: &[u8], want: &[u8]) {
+    let (mut told, mut want) = (told.split_inclusive(|b| *b == b'\n'), want.split_inclusive(|b| *b == b'\n'));
+    for n in 1.. {
+        let (is, asked) = (told.next(), want.next());
+        if (is, asked) == (None, None) {
+            return;
+        }
+        tally.count(is != asked, || format!("{name}, printed line {n}: {}, not {}", shown(is), shown(asked)));
+    }
+}
+
+fn shown(line: Option<&[u8]>) -> String {
+    line.map_or("no line".into(), |line| line[..line.len().min(300)].escape_ascii().to_string())
+}
+
+/// The cases: the machine, and the program if there is one.
+pub fn cases(bench: Option<&str>) {
+    let (mut machine, mut program) = (Tally::new(), Tally::new());
+    for case in cases::all() {
+        hold(&mut machine, &case.name, program::answers(&case.input).as_bytes(), case.printed.as_bytes());
+        if let Some(bench) = bench {
+            hold(&mut program, &case.name, &printed(bench, &case.input), case.printed.as_bytes());
+        }
+    }
+    machine.line("bench", "cases, by the machine", "");
+    if bench.is_some() {
+        program.line("bench", "cases, by the program", "");
+        machine.add(program);
+    }
+    machine.end();
+}
+
+/// The inputs of the seeds from `seed` on.
+pub fn compare(bench: &str, count: u64, seed: u64) {
+    let mut tally = Tally::new();
+    let (mut bytes, mut lines) = (0, 0);
+    for seed in seed..seed + count {
+        let script = draw::script(seed);
+        bytes += script.input.len();
+        lines += program::lines(&script.input).count();
+        hold(&mut tally, &format!("seed {seed}"), &printed(bench, &script.input), script.printed.as_bytes());
+    }
+    tally.line("bench", &format!("{count} scripts"), &format!("{lines} lines of input, {bytes} bytes"));
+    tally.end();
+}

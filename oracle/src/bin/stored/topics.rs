@@ -1,0 +1,370 @@
+//! The calls of the program `history`, in its topics.
+use crate::history::Step;
+use oracle::conventions::Convention;
+use oracle::histories::Call;
+use oracle::pieces::Kernel;
+
+pub fn steps() -> Vec<Step> {
+    let topics = [
+        unopened(),
+        opened(),
+        placed(),
+        portioned(),
+        unfinished(),
+        overwritten(),
+        finished(),
+        weighed(),
+        various(),
+        unsound(),
+        crowded(),
+        faceless(),
+        meshless(),
+        reopened(),
+    ];
+    topics.concat()
+}
+
+const NAN: f64 = f64::from_bits(0x7ff8_0000_0000_0000);
+const INFINITY: f64 = f64::INFINITY;
+const RAW: Convention = Convention::RAW;
+
+fn rho0(bulk: f64) -> Convention {
+    Convention::rho0(bulk)
+}
+
+fn mass(target: f64, bulk: f64) -> Convention {
+    Convention::mass_of(target, bulk)
+}
+
+fn centred(sigma: f64, w: f64, alpha: f64) -> Kernel {
+    Kernel { c: [0.25, -0.125, 0.5], sigma, w, alpha }
+}
+
+/// Of one piece, 13, 16 and none.
+fn one() -> Kernel {
+    centred(0.5, 2.0, 1.0)
+}
+
+fn thirteen() -> Kernel {
+    centred(1.5, 1190.0, 2.0)
+}
+
+fn sixteen() -> Kernel {
+    centred(0.75, -3.0, 2.5)
+}
+
+fn none() -> Kernel {
+    centred(0.5, 1.0, NAN)
+}
+
+fn open(coordinates: usize, corners: usize, radius: f64) -> Step {
+    Step::Open(coordinates, corners, radius)
+}
+
+fn put(place: u32, k: Kernel) -> Step {
+    Step::Call(Call::Put(place, k))
+}
+
+fn clear(place: u32) -> Step {
+    Step::Call(Call::Clear(place))
+}
+
+fn reweigh(place: u32, w: f64) -> Step {
+    Step::Call(Call::Reweigh(place, w))
+}
+
+fn advance(n: u64) -> Step {
+    Step::Call(Call::Advance(n))
+}
+
+fn density(by: Convention) -> Step {
+    Step::Call(Call::Density(by, [0.75, -0.5, 0.25]))
+}
+
+fn report(by: Convention) -> Step {
+    Step::Call(Call::Report(by))
+}
+
+fn list(by: Convention, room: usize) -> Step {
+    Step::Call(Call::List(by, room))
+}
+
+/// Nobody opened it: by its counts the runs are too short, then its corners are loose.
+fn unopened() -> Vec<Step> {
+    vec![
+        advance(5),
+        density(RAW),
+        report(RAW),
+        list(RAW, 0),
+        Step::Write(0, 0),
+        advance(0),
+        put(32, one()),
+        clear(0),
+        reweigh(32, 1.0),
+        density(mass(1.0, 1190.0)),
+        report(rho0(1190.0)),
+        list(mass(1.0, 1190.0), 0),
+    ]
+}
+
+/// Openings that are refused, the lowest row first, then a good one; readings of a store with no kernel.
+fn opened() -> Vec<Step> {
+    vec![
+        open(23, 36, 2.0),
+        open(24, 38, 2.0),
+        open(23, 39, 2.0),
+        open(24, 39, 2.0),
+        open(0, 3, 2.0),
+        open(27, 39, 2.0),
+        open(30, 0, 2.0),
+        open(24, 36, 2.0),
+        advance(0),
+        advance(u64::MAX),
+        density(RAW),
+        density(mass(1e9, 1190.0)),
+        report(rho0(2000.0)),
+        report(mass(1e9, 1190.0)),
+        list(RAW, 0),
+        list(RAW, 7),
+    ]
+}
+
+/// No place, and places that are empty; 31 is the last one.
+fn placed() -> Vec<Step> {
+    vec![
+        clear(0),
+        reweigh(31, 1.0),
+        clear(32),
+        reweigh(u32::MAX, 1.0),
+        put(32, one()),
+        put(u32::MAX, one()),
+        put(31, one()),
+        reweigh(32, 1.0),
+        reweigh(31, 2.5),
+    ]
+}
+
+/// Small portions, a weight between them.
+fn portioned() -> Vec<Step> {
+    vec![put(4, sixteen()), advance(1), advance(7), density(RAW), advance(10), reweigh(4, 5.5), density(RAW), advance(3), advance(0)]
+}
+
+/// What can be read of 17 pieces while work is left, and what not; a list too short is refused after that.
+fn unfinished() -> Vec<Step> {
+    vec![
+        density(rho0(1190.0)),
+        density(rho0(-1.0)),
+        density(mass(0.0, 2000.0)),
+        density(mass(-0.0, NAN)),
+        density(mass(NAN, 2000.0)),
+        density(mass(-1e9, 2000.0)),
+        density(mass(1e9, 2000.0)),
+        density(mass(5e-324, 2000.0)),
+        report(RAW),
+        report(rho0(1190.0)),
+        report(mass(0.0, 2000.0)),
+        report(mass(1e9, 2000.0)),
+        list(RAW, 102),
+        list(RAW, 101),
+        list(rho0(1190.0), 200),
+        list(rho0(1190.0), 0),
+        list(mass(0.0, 2000.0), 102),
+        list(mass(0.0, 2000.0), 101),
+        list(mass(1e9, 2000.0), 102),
+        list(mass(1e9, 2000.0), 101),
+    ]
+}
+
+/// A lower place goes first; half-done work is overwritten, cleared, and put again.
+fn overwritten() -> Vec<Step> {
+    vec![
+        put(0, thirteen()),
+        advance(20),
+        density(RAW),
+        put(0, one()),
+        density(RAW),
+        advance(5),
+        reweigh(0, -1.0),
+        clear(0),
+        clear(0),
+        reweigh(0, 1.0),
+        advance(100),
+        put(4, none()),
+        reweigh(4, -0.0),
+        advance(11),
+        report(RAW),
+        advance(11),
+        report(RAW),
+        put(4, sixteen()),
+        report(RAW),
+        advance(191),
+        list(mass(1e9, 1190.0), 102),
+        advance(0),
+        advance(1),
+        advance(1),
+    ]
+}
+
+/// The readings of 17 finished pieces; a weight given anew needs no work.
+fn finished() -> Vec<Step> {
+    vec![
+        density(RAW),
+        density(rho0(1190.0)),
+        density(rho0(NAN)),
+        density(mass(1e9, 2000.0)),
+        density(mass(0.0, 2000.0)),
+        report(RAW),
+        report(rho0(2000.0)),
+        report(mass(1e9, 2000.0)),
+        report(mass(-0.0, 0.0)),
+        report(mass(INFINITY, INFINITY)),
+        list(RAW, 102),
+        list(rho0(2000.0), 150),
+        list(mass(1e9, 2000.0), 102),
+        list(mass(1e9, 2000.0), 101),
+        list(RAW, 0),
+        reweigh(4, 5.5),
+        density(mass(1e9, 2000.0)),
+        report(mass(1e9, 2000.0)),
+    ]
+}
+
+/// Weights whose mass has no scale: rho0's is taken, or 1.
+fn weighed() -> Vec<Step> {
+    vec![
+        reweigh(4, INFINITY),
+        report(mass(1e9, 2000.0)),
+        reweigh(4, 0.0),
+        reweigh(31, INFINITY),
+        report(mass(1e9, 2000.0)),
+        reweigh(31, NAN),
+        report(mass(1e9, 2000.0)),
+        density(mass(1e9, 2000.0)),
+        reweigh(31, 1e-40),
+        report(mass(1e9, 2000.0)),
+        list(mass(1e9, 2000.0), 102),
+    ]
+}
+
+/// Kernels of every kind, none of them finished.
+fn various() -> Vec<Step> {
+    vec![
+        put(31, thirteen()),
+        put(30, centred(NAN, 1.0, 1.7)),
+        put(29, centred(0.5, INFINITY, -INFINITY)),
+        put(28, centred(0.5, 1.0, 1.0000000005)),
+        put(27, centred(0.5, 1.0, 1.000000001)),
+        density(RAW),
+        advance(77),
+    ]
+}
+
+/// One word written from outside, every call, and the word as it was: what is refused before what.
+fn damaged(at: usize, value: u32) -> Vec<Step> {
+    vec![
+        Step::Write(at, value),
+        advance(1),
+        put(32, one()),
+        clear(6),
+        reweigh(32, 1.0),
+        density(mass(1e9, 2000.0)),
+        report(RAW),
+        list(RAW, 0),
+        Step::Mend(at),
+    ]
+}
+
+/// Each way to be unsound: counts, corners, and the words of a place.
+fn unsound() -> Vec<Step> {
+    let damages = [
+        (0, u32::MAX),
+        (1, 2_097_153),
+        (1, 13),
+        (0, 1),
+        (0, 0),
+        (98, 8),
+        (133, u32::MAX),
+        (2, 18),
+        (2 + 3 * 4, 0),
+        (2 + 3 * 4, 16),
+        (2 + 3 * 4, 18),
+        (3 + 3 * 4, 17),
+        (4 + 3 * 4, 1),
+        (4 + 3 * 31, 12),
+        (3 + 3 * 6, 1),
+        (4 + 3 * 6, 1),
+    ];
+    damages.map(|(at, value)| damaged(at, value)).concat()
+}
+
+/// Many places filled, in part by work half done; then all of it.
+fn crowded() -> Vec<Step> {
+    vec![
+        advance(12),
+        put(31, one()),
+        clear(30),
+        clear(29),
+        reweigh(28, 1e300),
+        advance(30),
+        put(0, centred(0.0, 100.0, 0.0)),
+        put(4, centred(0.25, 100.0, 0.5)),
+        put(8, centred(0.5, 100.0, 1.0)),
+        put(12, centred(0.75, 100.0, 1.5)),
+        put(16, centred(1.0, 100.0, 2.0)),
+        put(20, centred(1.25, 100.0, 2.5)),
+        put(24, centred(1.5, 100.0, 3.0)),
+        put(28, centred(1.75, 100.0, 3.5)),
+        advance(250),
+        reweigh(12, 7.0),
+        put(12, sixteen()),
+        clear(16),
+        report(RAW),
+        advance(u64::MAX),
+        report(mass(4e10, 1190.0)),
+        density(mass(4e10, 1190.0)),
+        list(mass(4e10, 1190.0), 1200),
+        advance(1),
+        put(31, sixteen()),
+        advance(0),
+        report(RAW),
+    ]
+}
+
+/// No face: every piece is finished at once, and no reading is refused for work.
+fn faceless() -> Vec<Step> {
+    vec![
+        open(24, 0, -0.0),
+        put(31, sixteen()),
+        put(32, one()),
+        advance(5),
+        reweigh(31, 3.0),
+        report(mass(1e9, 2000.0)),
+        density(mass(1e9, 2000.0)),
+        list(mass(1e9, 2000.0), 96),
+        list(mass(1e9, 2000.0), 95),
+        clear(31),
+        clear(31),
+        report(RAW),
+    ]
+}
+
+/// No mesh at all; a count of pieces finished that does not fit.
+fn meshless() -> Vec<Step> {
+    [vec![open(0, 0, NAN), put(0, thirteen()), advance(u64::MAX), report(rho0(1190.0))], damaged(3, 12), vec![advance(0), clear(0)]]
+        .concat()
+}
+
+/// The first mesh again, and work that is dropped.
+fn reopened() -> Vec<Step> {
+    vec![
+        open(27, 36, 1e9),
+        open(24, 36, 1e9),
+        put(31, thirteen()),
+        advance(100),
+        open(24, 39, 1e9),
+        report(RAW),
+        clear(31),
+        advance(0),
+        report(RAW),
+    ]
+}
