@@ -1,70 +1,52 @@
+-- One more line, and its three stores. Assumes nothing.
+use mathlib.Core.Path.{refl}
+use native.Mathlib.Omega.{arith}
+use mir.Syntax.{w32}
+use borrow.Author.Needs.{fits-under}
+use Prim.Native.Nat.{_*_}
+use Rattle.session.proofs.Lines.{stored3, face-below}
 use borrow.Author.Needs.{needs}
 use Rattle.session.proofs.respond.add_face.Statement.{statement}
 use Rattle.session.proofs.respond.add_face.Tie as tie
-use Rattle.session.proofs.respond.add_face.Reads as reads
-use Rattle.session.proofs.respond.add_face.Lts as lts
 
--- src/respond.rt:52:18
-cast-at : tie.Need-cast-at
-cast-at c = search needs
-
--- src/respond.rt:52:14
-mul-at : tie.Need-mul-at
-mul-at c = search needs
-
--- src/respond.rt:53:5
-mul-corners : tie.Need-mul-corners
-mul-corners c = search needs
-
--- src/respond.rt:53:5
 element-write-corners : tie.Need-element-write-corners
-element-write-corners c = ?
+element-write-corners c =
+    let c1 = c .before in
+    omega (arith, c1 .pre .0 .1, face-below (c1 .args .o) (c1 .pre .1 .0) (c1 .pre .1 .1))
 
--- src/respond.rt:54:13
-add-corners : tie.Need-add-corners
-add-corners c = search needs
-
--- src/respond.rt:54:5
-mul-corners-2 : tie.Need-mul-corners-2
-mul-corners-2 c = search needs
-
--- src/respond.rt:54:5
 element-write-corners-2 : tie.Need-element-write-corners-2
-element-write-corners-2 c = ?
+element-write-corners-2 c =
+    let c1 = c .before in
+    omega (arith, c1 .pre .0 .1, face-below (c1 .args .o) (c1 .pre .1 .0) (c1 .pre .1 .1))
 
--- src/respond.rt:55:13
-add-corners-2 : tie.Need-add-corners-2
-add-corners-2 c = search needs
-
--- src/respond.rt:55:5
-mul-corners-3 : tie.Need-mul-corners-3
-mul-corners-3 c = search needs
-
--- src/respond.rt:55:5
 element-write-corners-3 : tie.Need-element-write-corners-3
-element-write-corners-3 c = ?
+element-write-corners-3 c =
+    let c1 = c .before in
+    omega (arith, c1 .pre .0 .1, face-below (c1 .args .o) (c1 .pre .1 .0) (c1 .pre .1 .1))
 
--- src/respond.rt:61:21
 add-t15 : tie.Need-add-t15
-add-t15 c = ?
+add-t15 c =
+    let c2 = c .before .before in
+    fits-under w32 _ 1001 (omega (arith, c2 .pre .0 .1, face-below (c2 .args .o) (c2 .pre .1 .0) (c2 .pre .1 .1))) tt
 
--- src/respond.rt:48:1
 returns : tie.Need-returns
-returns c = ?
+returns c =
+    let a = c .before .before .args in
+    (refl, stored3 (a .corners .now) (3 * a .o .«faces_read») (a .a) (a .b) (a .c))
 
 pub add-face-spec : {M : Type 1} → statement M
 add-face-spec =
     tie.close
     (tie.spec
-    cast-at
-    mul-at
-    mul-corners
+    (λ c. search needs)
+    (λ c. search needs)
+    (λ c. search needs)
     element-write-corners
-    add-corners
-    mul-corners-2
+    (λ c. search needs)
+    (λ c. search needs)
     element-write-corners-2
-    add-corners-2
-    mul-corners-3
+    (λ c. search needs)
+    (λ c. search needs)
     element-write-corners-3
     add-t15
     returns)

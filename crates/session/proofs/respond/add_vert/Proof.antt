@@ -1,70 +1,52 @@
+-- One more line, and its three stores. Assumes nothing.
+use mathlib.Core.Path.{refl}
+use native.Mathlib.Omega.{arith}
+use mir.Syntax.{w32}
+use borrow.Author.Needs.{fits-under}
+use Prim.Native.Nat.{_*_}
+use Rattle.session.proofs.Lines.{stored3, vert-below}
 use borrow.Author.Needs.{needs}
 use Rattle.session.proofs.respond.add_vert.Statement.{statement}
 use Rattle.session.proofs.respond.add_vert.Tie as tie
-use Rattle.session.proofs.respond.add_vert.Reads as reads
-use Rattle.session.proofs.respond.add_vert.Lts as lts
 
--- src/respond.rt:34:18
-cast-at : tie.Need-cast-at
-cast-at c = search needs
-
--- src/respond.rt:34:14
-mul-at : tie.Need-mul-at
-mul-at c = search needs
-
--- src/respond.rt:35:5
-mul-coords : tie.Need-mul-coords
-mul-coords c = search needs
-
--- src/respond.rt:35:5
 element-write-coords : tie.Need-element-write-coords
-element-write-coords c = ?
+element-write-coords c =
+    let c1 = c .before in
+    omega (arith, c1 .pre .0 .0, vert-below (c1 .args .o) (c1 .pre .1))
 
--- src/respond.rt:36:12
-add-coords : tie.Need-add-coords
-add-coords c = search needs
-
--- src/respond.rt:36:5
-mul-coords-2 : tie.Need-mul-coords-2
-mul-coords-2 c = search needs
-
--- src/respond.rt:36:5
 element-write-coords-2 : tie.Need-element-write-coords-2
-element-write-coords-2 c = ?
+element-write-coords-2 c =
+    let c1 = c .before in
+    omega (arith, c1 .pre .0 .0, vert-below (c1 .args .o) (c1 .pre .1))
 
--- src/respond.rt:37:12
-add-coords-2 : tie.Need-add-coords-2
-add-coords-2 c = search needs
-
--- src/respond.rt:37:5
-mul-coords-3 : tie.Need-mul-coords-3
-mul-coords-3 c = search needs
-
--- src/respond.rt:37:5
 element-write-coords-3 : tie.Need-element-write-coords-3
-element-write-coords-3 c = ?
+element-write-coords-3 c =
+    let c1 = c .before in
+    omega (arith, c1 .pre .0 .0, vert-below (c1 .args .o) (c1 .pre .1))
 
--- src/respond.rt:42:21
 add-t15 : tie.Need-add-t15
-add-t15 c = ?
+add-t15 c =
+    let c2 = c .before .before in
+    fits-under w32 _ 501 (omega (arith, c2 .pre .0 .0, vert-below (c2 .args .o) (c2 .pre .1))) tt
 
--- src/respond.rt:30:1
 returns : tie.Need-returns
-returns c = ?
+returns c =
+    let a = c .before .before .args in
+    (refl, stored3 (a .coords .now) (3 * a .o .«verts_read») (a .x) (a .y) (a .z))
 
 pub add-vert-spec : {M : Type 1} → statement M
 add-vert-spec =
     tie.close
     (tie.spec
-    cast-at
-    mul-at
-    mul-coords
+    (λ c. search needs)
+    (λ c. search needs)
+    (λ c. search needs)
     element-write-coords
-    add-coords
-    mul-coords-2
+    (λ c. search needs)
+    (λ c. search needs)
     element-write-coords-2
-    add-coords-2
-    mul-coords-3
+    (λ c. search needs)
+    (λ c. search needs)
     element-write-coords-3
     add-t15
     returns)

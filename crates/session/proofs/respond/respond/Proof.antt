@@ -1,58 +1,43 @@
+-- A line where one of the opening is due, or any other. Assumes nothing.
+use mathlib.Core.Path.{sym, _∙_}
+use Rattle.session.specs.Session.{respond}
 use borrow.Author.Needs.{needs}
 use Rattle.session.proofs.respond.respond.Statement.{statement}
 use Rattle.session.proofs.respond.respond.Tie as tie
-use Rattle.session.proofs.respond.respond.Reads as reads
-use Rattle.session.proofs.respond.respond.Lts as lts
-use Rattle.session.proofs.opening.due.Reads as due-reads
-use Rattle.session.proofs.respond.in_opening.Reads as in-opening-reads
-use Rattle.session.proofs.respond.outside.Reads as outside-reads
 
--- src/respond.rt:294:8
-due-requires : tie.Need-due-requires
-due-requires c κs = search needs
-
--- src/respond.rt:295:9
 in-opening-requires : tie.Need-in-opening-requires
-in-opening-requires c κs = ?
+in-opening-requires c κs =
+    let c5 = c .before .before .before .before .before in
+    let c6 = c5 .before in
+    let c9 = c6 .before .before .before in
+    (c9 .pre, sym (c6 .due .ensures) ∙ c5 .if1 .taken)
 
--- src/respond.rt:295:9
-same-length : tie.Need-same-length
-same-length c = search needs
-
--- src/respond.rt:295:9
-same-length-2 : tie.Need-same-length-2
-same-length-2 c = search needs
-
--- src/respond.rt:295:9
 returns : tie.Need-returns
-returns c = ?
+unfolding respond
+returns c =
+    let c4 = c .before .before .before .before in
+    let c10 = c4 .before .before .before .before .before .before in
+    let c11 = c10 .before in
+    rw (sym (c11 .due .ensures) ∙ c10 .if1 .taken) (c4 .in-opening .ensures)
 
--- src/respond.rt:297:5
-outside-requires : tie.Need-outside-requires
-outside-requires c κs = search needs
-
--- src/respond.rt:280:1
-same-length-3 : tie.Need-same-length-3
-same-length-3 c = search needs
-
--- src/respond.rt:280:1
-same-length-4 : tie.Need-same-length-4
-same-length-4 c = search needs
-
--- src/respond.rt:280:1
 returns-2 : tie.Need-returns-2
-returns-2 c = ?
+unfolding respond
+returns-2 c =
+    let c4 = c .before .before .before .before in
+    let c10 = c4 .before .before .before .before .before .before in
+    let c11 = c10 .before in
+    rw (sym (c11 .due .ensures) ∙ c10 .if1 .left) (c4 .outside .ensures)
 
 pub respond-spec : {M : Type 1} → statement M
 respond-spec =
     tie.close
     (tie.spec
-    due-requires
+    (λ c κs. search needs)
     in-opening-requires
-    same-length
-    same-length-2
+    (λ c. search needs)
+    (λ c. search needs)
     returns
-    outside-requires
-    same-length-3
-    same-length-4
+    (λ c κs. search needs)
+    (λ c. search needs)
+    (λ c. search needs)
     returns-2)

@@ -1,72 +1,54 @@
+-- A line is due, or the store is opened. Assumes nothing.
+use mathlib.Core.Path.{refl, sym, _∙_}
+use native.Mathlib.Omega.{arith}
+use lib.Seq.{length-take-le}
+use Rattle.session.specs.Session.{session}
+use Rattle.session.proofs.Lines.{saying, settled-due, settled-done}
 use borrow.Author.Needs.{needs}
 use Rattle.session.proofs.respond.settle.Statement.{statement}
 use Rattle.session.proofs.respond.settle.Tie as tie
-use Rattle.session.proofs.respond.settle.Reads as reads
-use Rattle.session.proofs.respond.settle.Lts as lts
-use Rattle.session.proofs.answer.answer_open.Reads as answer-open-reads
-use Rattle.session.proofs.opening.due.Reads as due-reads
 
--- src/respond.rt:79:8
-due-requires : tie.Need-due-requires
-due-requires c κs = search needs
-
--- src/respond.rt:80:9
 returns : tie.Need-returns
-returns c = ?
+returns c =
+    let c6 = c .before .before .before .before .before .before in
+    let a = c6 .args in
+    let s = session (a .o) (a .f .now) (a .w .now) (a .coords .now) (a .corners .now) in
+    ((c6 .pre .0, omega arith), saying (settled-due s (sym (c .before .due .ensures) ∙ c .if1 .taken)) refl (record { next = refl; run = refl }))
 
--- src/respond.rt:85:21
-cast-verts : tie.Need-cast-verts
-cast-verts c = search needs
-
--- src/respond.rt:85:17
-mul-verts : tie.Need-mul-verts
-mul-verts c = search needs
-
--- src/respond.rt:86:21
-cast-faces : tie.Need-cast-faces
-cast-faces c = search needs
-
--- src/respond.rt:86:17
-mul-faces : tie.Need-mul-faces
-mul-faces c = search needs
-
--- src/respond.rt:91:9
 slice-aggregate-answer-open : tie.Need-slice-aggregate-answer-open
-slice-aggregate-answer-open c = ?
+slice-aggregate-answer-open c =
+    let c11 = c .before .before .before .before .before .before .before .before .before .before .before in
+    sym (length-take-le _ _ (omega (arith, c11 .pre .0 .0, c11 .pre .1 .0)))
 
--- src/respond.rt:92:9
 slice-aggregate-answer-open-2 : tie.Need-slice-aggregate-answer-open-2
-slice-aggregate-answer-open-2 c = ?
+slice-aggregate-answer-open-2 c =
+    let c12 = c .before .before .before .before .before .before .before .before .before .before .before .before in
+    sym (length-take-le _ _ (omega (arith, c12 .pre .0 .1, c12 .pre .1 .1)))
 
--- src/respond.rt:87:9
-answer-open-requires : tie.Need-answer-open-requires
-answer-open-requires c κs = search needs
-
--- src/respond.rt:66:1
-same-length : tie.Need-same-length
-same-length c = search needs
-
--- src/respond.rt:66:1
-same-length-2 : tie.Need-same-length-2
-same-length-2 c = search needs
-
--- src/respond.rt:66:1
 returns-2 : tie.Need-returns-2
-returns-2 c = ?
+returns-2 c =
+    let c4 = c .before .before .before .before in
+    let c12 = c4 .before .before .before .before .before .before .before .before in
+    let c13 = c12 .before in
+    let c18 = c13 .before .before .before .before .before in
+    let a = c18 .args in
+    let s = session (a .o) (a .f .now) (a .w .now) (a .coords .now) (a .corners .now) in
+    let e = c4 .answer-open .ensures in
+    ((c18 .pre .0, e .0), saying (settled-done s (sym (c13 .due .ensures) ∙ c12 .if1 .left)) (λ i. session (a .o) (e .1 .0 i) (e .1 .1 .0 i) (a .coords .now) (a .corners .now)) (e .1 .1 .1))
 
 pub settle-spec : {M : Type 1} → statement M
 settle-spec =
     tie.close
     (tie.spec
-    due-requires
+    (λ c κs. search needs)
     returns
-    cast-verts
-    mul-verts
-    cast-faces
-    mul-faces
+    (λ c. search needs)
+    (λ c. search needs)
+    (λ c. search needs)
+    (λ c. search needs)
     slice-aggregate-answer-open
     slice-aggregate-answer-open-2
-    answer-open-requires
-    same-length
-    same-length-2
+    (λ c κs. search needs)
+    (λ c. search needs)
+    (λ c. search needs)
     returns-2)
