@@ -9,12 +9,15 @@ use lib.ListN.{set}
 use lib.Seq.{sets}
 use lib.Ieee.{Float}
 use borrow.Author.Tests.{ltb-true}
+use types.Run.{OneOf, miss}
+use denote.Enum.Declared.{tagOf}
+use Rattle.forms.proofs.line.Line.{the-type}
 use Rattle.text.specs.Print.{Wrote}
 use Rattle.forms.specs.declared.line.Line.{Line}
-use Rattle.forms.specs.declared.line.Line.the-variants.{Open, Vert, Face}
+use Rattle.forms.specs.declared.line.Line.the-variants.{Bad, Open, Vert, Face, Put, Clear, Reweigh, Advance, Density, Report}
 use Rattle.session.specs.declared.opening.Opening.{Opening}
 use Rattle.session.specs.Texts.{openText}
-use Rattle.session.specs.Session.{Session, Said, Small, vertLimit, faceLimit, vertsDue, due, idle, begun, vertRead, faceRead, session, said, badText, givenUp, callOf, calls, opens, settled, inOpening, outside}
+use Rattle.session.specs.Session.{Session, Said, Called, looked, Small, vertLimit, faceLimit, vertsDue, due, idle, begun, vertRead, faceRead, session, said, badText, givenUp, callOf, calls, opens, settled, inOpening, outside}
 use Rattle.session.proofs.Answers.{wrote-as}
 
 -- three stores in a row
@@ -90,3 +93,56 @@ pub makes-call : (s : Session) (l : Line) {p : Opening} {fs : List Float} {ws o 
     (Small p × (r ≤ 256)) × ((session p fs ws (s .coords) (s .corners) ≡ outside s l .next) × Wrote o 0 (outside s l .text) r o′)
 makes-call s l e m (u, b) (f, v) w =
     ((subst (λ (q : Opening). Small q) (sym u) m, b), saying e (λ i. session (u i) (f i) (v i) (s .coords) (s .corners)) w)
+
+-- ---- the lines that a `match` leaves to its last arm, by their places in the enum
+
+-- neither a put nor any call after it
+abbrev noCall : List ℕ
+noCall = 0 ∷ 1 ∷ 2 ∷ 3 ∷ []
+
+pub no-call : (fs : List Float) (ws : List ℕ) (l : Line) → OneOf noCall (tagOf the-type l) → callOf fs ws l ≡ looked fs ws badText
+unfolding callOf
+no-call fs ws Bad h = refl
+no-call fs ws (Open radius verts faces) h = refl
+no-call fs ws (Vert x y z) h = refl
+no-call fs ws (Face a b c) h = refl
+no-call fs ws (Put place x y z sigma w alpha) h = absurd (miss noCall 4 tt h)
+no-call fs ws (Clear place) h = absurd (miss noCall 5 tt h)
+no-call fs ws (Reweigh place w) h = absurd (miss noCall 6 tt h)
+no-call fs ws (Advance n) h = absurd (miss noCall 7 tt h)
+no-call fs ws (Density v x y z) h = absurd (miss noCall 8 tt h)
+no-call fs ws (Report v) h = absurd (miss noCall 9 tt h)
+
+-- neither a vert nor a face line
+abbrev noMesh : List ℕ
+noMesh = 0 ∷ 1 ∷ 4 ∷ 5 ∷ 6 ∷ 7 ∷ 8 ∷ 9 ∷ []
+
+pub no-mesh : (s : Session) (l : Line) → OneOf noMesh (tagOf the-type l) → inOpening s l ≡ givenUp s
+unfolding inOpening
+no-mesh s Bad h = refl
+no-mesh s (Open radius verts faces) h = refl
+no-mesh s (Vert x y z) h = absurd (miss noMesh 2 tt h)
+no-mesh s (Face a b c) h = absurd (miss noMesh 3 tt h)
+no-mesh s (Put place x y z sigma w alpha) h = refl
+no-mesh s (Clear place) h = refl
+no-mesh s (Reweigh place w) h = refl
+no-mesh s (Advance n) h = refl
+no-mesh s (Density v x y z) h = refl
+no-mesh s (Report v) h = refl
+
+-- not an open line
+abbrev noOpen : List ℕ
+noOpen = 0 ∷ 2 ∷ 3 ∷ 4 ∷ 5 ∷ 6 ∷ 7 ∷ 8 ∷ 9 ∷ []
+
+pub no-open : (s : Session) (l : Line) → OneOf noOpen (tagOf the-type l) → outside s l ≡ calls s l
+unfolding outside
+no-open s Bad h = refl
+no-open s (Open radius verts faces) h = absurd (miss noOpen 1 tt h)
+no-open s (Vert x y z) h = refl
+no-open s (Face a b c) h = refl
+no-open s (Put place x y z sigma w alpha) h = refl
+no-open s (Clear place) h = refl
+no-open s (Reweigh place w) h = refl
+no-open s (Advance n) h = refl
+no-open s (Density v x y z) h = refl
+no-open s (Report v) h = refl

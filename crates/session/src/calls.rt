@@ -22,14 +22,6 @@ pub fn call(l: Line, f: &mut [f64], w: &mut [u32], out: &mut [u8; 512]) -> usize
     ensures { λ r. ⌜ Wrote (now (out .entry)) 0 (callOf (now (f .entry)) (now (w .entry)) l .text) r (now (out .exit)) ⌝ }
 {
     match l {
-        Line::Bad => answer_no(out, Refusal::BadLine),
-        Line::Open {
-            radius: _,
-            verts: _,
-            faces: _,
-        } => answer_no(out, Refusal::BadLine),
-        Line::Vert(_, _, _) => answer_no(out, Refusal::BadLine),
-        Line::Face(_, _, _) => answer_no(out, Refusal::BadLine),
         Line::Put {
             place,
             x,
@@ -55,5 +47,6 @@ pub fn call(l: Line, f: &mut [f64], w: &mut [u32], out: &mut [u8; 512]) -> usize
         Line::Advance(budget) => answer_advance(f, w, budget, out),
         Line::Density(v, x, y, z) => answer_density(f, w, v, [x, y, z], out),
         Line::Report(v) => answer_report(f, w, v, out),
+        _ => answer_no(out, Refusal::BadLine),
     }
 }

@@ -171,28 +171,9 @@ fn in_opening(
     ensures { λ r. ⌜ Wrote (now (out .entry)) 0 (inOpening (session o (now (f .entry)) (now (w .entry)) (now (coords .entry)) (now (corners .entry))) l .text) (r .wrote) (now (out .exit)) ⌝ }
 {
     match l {
-        Line::Bad => give_up(out),
-        Line::Open {
-            radius: _,
-            verts: _,
-            faces: _,
-        } => give_up(out),
         Line::Vert(x, y, z) => vert_line(o, x, y, z, f, w, coords, corners, out),
         Line::Face(a, b, c) => face_line(o, a, b, c, f, w, coords, corners, out),
-        Line::Put {
-            place: _,
-            x: _,
-            y: _,
-            z: _,
-            sigma: _,
-            w: _,
-            alpha: _,
-        } => give_up(out),
-        Line::Clear(_) => give_up(out),
-        Line::Reweigh(_, _) => give_up(out),
-        Line::Advance(_) => give_up(out),
-        Line::Density(_, _, _, _) => give_up(out),
-        Line::Report(_) => give_up(out),
+        _ => give_up(out),
     }
 }
 
@@ -256,23 +237,7 @@ fn outside(
             verts,
             faces,
         } => open_line(o, radius, verts, faces, f, w, coords, corners, out),
-        Line::Bad => call_line(o, l, f, w, out),
-        Line::Vert(_, _, _) => call_line(o, l, f, w, out),
-        Line::Face(_, _, _) => call_line(o, l, f, w, out),
-        Line::Put {
-            place: _,
-            x: _,
-            y: _,
-            z: _,
-            sigma: _,
-            w: _,
-            alpha: _,
-        } => call_line(o, l, f, w, out),
-        Line::Clear(_) => call_line(o, l, f, w, out),
-        Line::Reweigh(_, _) => call_line(o, l, f, w, out),
-        Line::Advance(_) => call_line(o, l, f, w, out),
-        Line::Density(_, _, _, _) => call_line(o, l, f, w, out),
-        Line::Report(_) => call_line(o, l, f, w, out),
+        _ => call_line(o, l, f, w, out),
     }
 }
 
