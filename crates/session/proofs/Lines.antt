@@ -17,7 +17,7 @@ use Rattle.forms.specs.declared.line.Line.{Line}
 use Rattle.forms.specs.declared.line.Line.the-variants.{Bad, Open, Vert, Face, Put, Clear, Reweigh, Advance, Density, Report}
 use Rattle.session.specs.declared.opening.Opening.{Opening}
 use Rattle.session.specs.Texts.{openText}
-use Rattle.session.specs.Session.{Session, Said, Called, looked, Small, vertLimit, faceLimit, vertsDue, due, idle, begun, vertRead, faceRead, session, said, badText, givenUp, callOf, calls, opens, settled, inOpening, outside}
+use Rattle.session.specs.Session.{Session, Said, looked, Small, vertLimit, faceLimit, vertsDue, due, idle, begun, vertRead, faceRead, session, said, badText, givenUp, callOf, calls, opens, settled, inOpening, outside}
 use Rattle.session.proofs.Answers.{wrote-as}
 
 -- three stores in a row
@@ -27,12 +27,14 @@ stored3 l k a b c =
     let u : k + 2 ≡ suc (suc k) = omega arith in
     λ i. set (set (set l k a) (e i) b) (u i) c
 
-pub vert-below : (o : Opening) → vertsDue o ≡ true → o .«verts_read» < o .verts
-vert-below o h = ltb-true (o .«verts_read») (o .verts) h
+-- a line that is due has its room in the run that is read
+pub vert-room : (o : Opening) → Small o × (vertsDue o ≡ true) → o .«verts_read» < vertLimit
+vert-room o (s, h) = omega (arith, s .0, ltb-true (o .«verts_read») (o .verts) h)
 
-pub face-below : (o : Opening) → vertsDue o ≡ false → due o ≡ true → o .«faces_read» < o .faces
-face-below o h d =
-    ltb-true (o .«faces_read») (o .faces) (subst (λ (b : Bool). b || ltb (o .«faces_read») (o .faces) ≡ true) h d)
+pub face-room : (o : Opening) → Small o × ((vertsDue o ≡ false) × (due o ≡ true)) → o .«faces_read» < faceLimit
+face-room o (s, (h, d)) =
+    let due-face = subst (λ (b : Bool). b || ltb (o .«faces_read») (o .faces) ≡ true) h d in
+    omega (arith, s .1, ltb-true (o .«faces_read») (o .faces) due-face)
 
 -- what is held and written, where another thing is said that is the same
 pub saying : {s : Session} {x y : Said} {o o′ : List ℕ} {r : ℕ} → x ≡ y → s ≡ y .next → Wrote o 0 (y .text) r o′ → (s ≡ x .next) × Wrote o 0 (x .text) r o′

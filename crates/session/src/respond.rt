@@ -84,14 +84,7 @@ fn settle(
     }
     let verts = 3 * o.verts as usize;
     let faces = 3 * o.faces as usize;
-    let wrote = answer_open(
-        f,
-        w,
-        o.radius,
-        &coords[..verts],
-        &corners[..faces],
-        out,
-    );
+    let wrote = answer_open(f, w, o.radius, &coords[..verts], &corners[..faces], out);
     Said { opening: o, wrote }
 }
 
