@@ -5,3 +5,4 @@ pub mod WriteLaws
 pub mod Tokens
 pub mod Form
 pub mod FormLaws
+pub mod LengthLaws

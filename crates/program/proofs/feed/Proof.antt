@@ -1,0 +1,35 @@
+-- `program::feed` meets its contract. Assumes nothing.
+use mathlib.Core.Path.{refl, ap}
+use native.Mathlib.Omega.{arith}
+use borrow.Author.Tests.{eq-eqb, ne-eqb}
+use Rattle.program.specs.Bytes.{held, feedByte}
+use borrow.Author.Needs.{needs}
+use Rattle.program.proofs.feed.Statement.{statement}
+use Rattle.program.proofs.feed.Tie as tie
+
+end-line-requires : tie.Need-end-line-requires
+end-line-requires c κs = search needs
+
+same-length : tie.Need-same-length
+same-length c = search needs
+
+same-length-2 : tie.Need-same-length-2
+same-length-2 c = search needs
+
+returns : tie.Need-returns
+unfolding feedByte
+returns c = rw (eq-eqb _ _ (c .before .before .before .before .before .before .before .before .before .before .before .if1 .taken)) (c .before .before .before .before .end-line .ensures)
+
+keep-requires : tie.Need-keep-requires
+keep-requires c κs = search needs
+
+returns-2 : tie.Need-returns-2
+unfolding feedByte
+returns-2 c = 
+    let e = c .keep .ensures in
+    rw (ne-eqb _ _ (c .before .before .if1 .left), e .0 .0, e .0 .1, e .1 .0, e .1 .1) ((c .before .before .before .before .before .pre, omega arith), (refl, record { next = refl; run = refl }))
+
+pub feed-spec : {M : Type 1} → statement M
+feed-spec =
+    tie.close
+    (tie.spec end-line-requires same-length same-length-2 returns keep-requires returns-2)

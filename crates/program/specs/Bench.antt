@@ -1,0 +1,36 @@
+-- 01, "Remainder", program `bench`: what it prints for its whole input, by lines. Definitions only; proofs/Whole.antt proves that the code's bytes give this.
+use Prim.Native.Nat.{ℕ}
+use mathlib.Core.Bool.{cond}
+use mathlib.Core.List.{List, [], _∷_, _++_}
+use lib.Dec.{eqb}
+use lib.ListN.{replicate}
+use lib.Ieee.{Float}
+use Rattle.base.specs.Floats.{+0}
+use Rattle.forms.specs.Forms.{parseLine}
+use Rattle.session.specs.Session.{Session, session, idle, respond}
+
+-- a line ends with a newline or with the input, where it has a byte
+abbrev pub lastLine : List ℕ → List (List ℕ)
+lastLine [] = []
+lastLine (b ∷ l) = (b ∷ l) ∷ []
+
+-- the lines of an input, of which the bytes l of the first were read before
+abbrev pub linesFrom : List ℕ → List ℕ → List (List ℕ)
+linesFrom l [] = lastLine l
+linesFrom l (b ∷ bs) = cond (eqb b 10) (l ∷ linesFrom [] bs) (linesFrom (l ++ (b ∷ [])) bs)
+
+abbrev pub linesOf : List ℕ → List (List ℕ)
+linesOf bs = linesFrom [] bs
+
+-- "one answer a line": the texts of their answers in order
+abbrev pub answersTo : Session → List (List ℕ) → List ℕ
+answersTo s [] = []
+answersTo s (l ∷ ls) = respond s (parseLine l) .text ++ answersTo (respond s (parseLine l) .next) ls
+
+-- "Before an opening the store is all zeros"
+abbrev pub atFirst : Session
+atFirst = session idle (replicate 3261 +0) (replicate 3098 0) (replicate 1500 +0) (replicate 3000 0)
+
+-- what the program prints
+abbrev pub bench : List ℕ → List ℕ
+bench input = answersTo atFirst (linesOf input)

@@ -1,0 +1,61 @@
+-- 01, "Remainder", program `bench`: what the code does with a byte of its input. Definitions only; Bench.antt says what comes of them.
+use Prim.Native.Nat.{ℕ, _+_}
+use mathlib.Core.Bool.{cond}
+use mathlib.Core.List.{List, [], _∷_, _++_}
+use lib.Dec.{leb, ltb, eqb}
+use lib.ListN.{take, set}
+use Rattle.forms.specs.declared.line.Line.{Line}
+use Rattle.forms.specs.declared.line.Line.the-variants.{Bad}
+use Rattle.forms.specs.Forms.{parseLine}
+use Rattle.session.specs.Session.{Session, respond}
+
+-- the bytes of a line that are kept; no good line has more
+abbrev pub lineRoom : ℕ
+lineRoom = 256
+
+-- what is held between two bytes: the session, the run of a line's bytes, and how many there are so far, lineRoom + 1 where they are too many
+pub record Held : Type 0 where
+  pub session : Session
+  pub line : List ℕ
+  pub count : ℕ
+
+abbrev pub held : Session → List ℕ → ℕ → Held
+held s line n = record { session = s; line = line; count = n }
+
+-- and what is printed
+pub record Fed : Type 0 where
+  pub next : Held
+  pub text : List ℕ
+
+-- the line that is held
+unfoldable pub lineIn : List ℕ → ℕ → Line
+lineIn line n = cond (leb n lineRoom) (parseLine (take n line)) Bad
+
+-- at its end
+unfoldable pub endLine : Held → Fed
+endLine h =
+    let s = respond (h .session) (lineIn (h .line) (h .count)) in
+    record { next = held (s .next) (h .line) 0; text = s .text }
+
+-- a byte more of it
+unfoldable pub lineWith : List ℕ → ℕ → ℕ → List ℕ
+lineWith line n b = cond (ltb n lineRoom) (set line n b) line
+
+unfoldable pub countWith : ℕ → ℕ
+countWith n = cond (ltb n lineRoom) (n + 1) (lineRoom + 1)
+
+abbrev pub keep : Held → ℕ → Held
+keep h b = held (h .session) (lineWith (h .line) (h .count) b) (countWith (h .count))
+
+-- a byte of the input
+unfoldable pub feedByte : Held → ℕ → Fed
+feedByte h b = cond (eqb b 10) (endLine h) (record { next = keep h b; text = [] })
+
+-- the input's end: "a last line without a newline is a line if it has a byte" (docs/DECISIONS.md)
+unfoldable pub feedEnd : Held → Fed
+feedEnd h = cond (eqb (h .count) 0) (record { next = h; text = [] }) (endLine h)
+
+-- all that is printed for an input
+abbrev pub printed : Held → List ℕ → List ℕ
+printed h [] = feedEnd h .text
+printed h (b ∷ bs) = feedByte h b .text ++ printed (feedByte h b .next) bs
