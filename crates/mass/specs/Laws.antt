@@ -35,6 +35,14 @@ module _ (t : ℕ → Triangle) (c : V3) (sigma : Float) where
       let e : from + (to - from) ≡ to = omega arith in
       sym (rw (e, zero-add) at (times-more (faceStep t c sigma) from (to - from) 0 +0))
 
+  -- the faces up to `mid`, then the rest
+  pub volume-more : (from mid to : ℕ) (sum : Float) → from ≤ mid → mid ≤ to → volumeFrom t c sigma mid to (volumeFrom t c sigma from mid sum) ≡ volumeFrom t c sigma from to sum
+  unfolding volumeFrom
+  volume-more from mid to sum h k =
+      let e : to - from ≡ (mid - from) + (to - mid) = omega arith in
+      let m : from + (mid - from) ≡ mid = omega arith in
+      rw e (sym (rw m at (times-more (faceStep t c sigma) (mid - from) (to - mid) from sum)))
+
 -- ---- the same triangles
 
 module _ {t u : ℕ → Triangle} {n : ℕ} (same : (f : ℕ) → f < n → t f ≡ u f) where

@@ -1,5 +1,6 @@
 pub mod Dunavant
 pub mod Volume
+pub mod Block
 pub mod Centroid
 pub mod Total
 pub mod Calls

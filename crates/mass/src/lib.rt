@@ -1,4 +1,5 @@
 // Volumes and masses of kernels inside a mesh, as surface integrals (native mass.rs).
+mod block;
 pub mod calls;
 pub mod centroid;
 pub mod dunavant;

@@ -4,6 +4,7 @@ ghost use Prim.Native.Nat.{_*_, _≤_};
 ghost use lib.ListN.{length};
 ghost use Rattle.mesh.specs.Triangles.{triangleAt, faceCount, Sound};
 ghost use Rattle.mass.specs.Volume.{normalOf, flux, threeFluxes, faceSum, volumeFrom, kernelVolume};
+use crate::block::volume_blocks;
 use crate::dunavant::INNER_ONE;
 use crate::dunavant::INNER_TWO;
 use crate::dunavant::INNER_WEIGHT;
@@ -74,8 +75,8 @@ pub fn face_sum(sum: f64, t: Triangle, c: V3, sigma: f64) -> f64
     three_fluxes(four, t, n, c, sigma, OUTER_ONE, OUTER_TWO, OUTER_WEIGHT)
 }
 
-// The sum after the faces from `from` up to `to`.
-pub fn volume_from(
+// The sum after the faces from `from` up to `to`, face by face.
+fn volume_faces(
     sum: f64,
     xyz: &[f64],
     faces: &[u32],
@@ -94,6 +95,24 @@ pub fn volume_from(
         f += 1;
     }
     sum
+}
+
+// The sum after the faces from `from` up to `to`: whole blocks, then the faces that are left.
+pub fn volume_from(
+    sum: f64,
+    xyz: &[f64],
+    faces: &[u32],
+    c: V3,
+    sigma: f64,
+    from: usize,
+    to: usize,
+) -> f64
+    requires { ⌜ Sound (length (now xyz)) (now faces) ⌝ ∗ ⌜ (from ≤ to) × (3 * to ≤ length (now faces)) ⌝ }
+    ensures { λ r. ⌜ r ≡ volumeFrom (triangleAt (now (xyz .entry)) (now (faces .entry))) c sigma from to sum ⌝ }
+{
+    let n = (to - from) / 4;
+    let blocks = volume_blocks(sum, xyz, faces, c, sigma, from, n);
+    volume_faces(blocks, xyz, faces, c, sigma, from + 4 * n, to)
 }
 
 // The volume over all faces.

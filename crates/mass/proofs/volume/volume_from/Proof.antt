@@ -1,32 +1,26 @@
--- `mass::volume::volume_from` meets its contract: a counting loop over the faces. Assumes nothing.
-use Prim.Native.Nat.{_-_}
+-- `mass::volume::volume_from` meets its contract: whole blocks, then the faces that are left. Assumes nothing.
+use Prim.Native.Nat.{_+_, _*_, _-_, _/_}
+use native.Mathlib.Omega.{arith}
 use borrow.Author.Needs.{needs}
-use Rattle.base.specs.LoopLaws.{Left, start, goes, ended}
 use Rattle.mesh.specs.Triangles.{triangleAt}
-use Rattle.mass.specs.Volume.{faceStep, volumeFrom}
+use Rattle.mass.specs.Laws.{volume-more}
 use Rattle.mass.proofs.volume.volume_from.Statement.{statement}
 use Rattle.mass.proofs.volume.volume_from.Tie as tie
 
-abbrev Inv-loop : tie.InvT-loop
-Inv-loop sum xyz faces c sigma from to sum₀ f₀ sum' f = Left (faceStep (triangleAt xyz faces) c sigma) to f sum' (volumeFrom (triangleAt xyz faces) c sigma from to sum)
-
-abbrev μ-loop : tie.MeasureT-loop
-μ-loop sum xyz faces c sigma from to sum₀ f₀ sum' f = to - f
-
-loop-holds : tie.Need-loop-holds Inv-loop μ-loop
-unfolding volumeFrom
-loop-holds c = start (search needs)
+returns : tie.Need-returns
+returns c =
+    let a = c .before .before .before .before .args in
+    let mid = a .from + 4 * ((a .to - a .from) / 4) in
+    rw (c .volume-faces .ensures, c .before .volume-blocks .ensures)
+    (volume-more (triangleAt (a .xyz .now) (a .faces .now)) (a .c) (a .sigma) (a .from) mid (a .to) (a .sum) (omega arith) (omega arith))
 
 pub volume-from-spec : {M : Type 1} → statement M
 volume-from-spec =
     tie.close
     (tie.spec
-    Inv-loop
-    μ-loop
-    loop-holds
-    (λ c κs. search needs)
+    (λ c. search needs)
     (λ c κs. search needs)
     (λ c. search needs)
     (λ c. search needs)
-    (λ c. goes (c .before .before .before .loop .inv) (search needs) (cc))
-    (λ c. search (ended, needs)))
+    (λ c κs. search needs)
+    returns)

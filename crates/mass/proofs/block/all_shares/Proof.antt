@@ -1,0 +1,32 @@
+-- `mass::block::all_shares` meets its contract: a counting loop over the faces. Assumes nothing.
+use borrow.Author.Needs.{needs}
+use Prim.Native.Nat.{_*_, _-_}
+use mathlib.Core.Path.{refl}
+use Rattle.base.specs.LoopLaws.{Left, from-zero, goes, ended}
+use Rattle.mass.specs.Block.{sevenShares, allShares}
+use Rattle.mass.proofs.block.all_shares.Statement.{statement}
+use Rattle.mass.proofs.block.all_shares.Tie as tie
+
+abbrev Inv-loop : tie.InvT-loop
+Inv-loop sum g heights sum₀ j₀ sum' j = Left (λ i s. sevenShares g heights (7 * i) s) 4 j sum' (allShares g heights sum)
+
+abbrev μ-loop : tie.MeasureT-loop
+μ-loop sum g heights sum₀ j₀ sum' j = 4 - j
+
+loop-holds : tie.Need-loop-holds Inv-loop μ-loop
+unfolding allShares
+loop-holds c = from-zero refl
+
+pub all-shares-spec : {M : Type 1} → statement M
+all-shares-spec =
+    tie.close
+    (tie.spec
+    Inv-loop
+    μ-loop
+    loop-holds
+    (λ c. search needs)
+    (λ c κs. search needs)
+    (λ c. search needs)
+    (λ c. search needs)
+    (λ c. search (goes, needs))
+    (λ c. search (ended, needs)))
