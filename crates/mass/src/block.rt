@@ -142,9 +142,7 @@ fn three_shares(sum: f64, g: &[f64; 28], heights: &[f64; 28], w: f64, at: usize)
     requires { ⌜ at + 3 ≤ 28 ⌝ }
     ensures { λ r. ⌜ r ≡ threeShares (now (g .entry)) (now (heights .entry)) w at sum ⌝ }
 {
-    let one = sum + share(w, g, heights, at);
-    let two = one + share(w, g, heights, at + 1);
-    two + share(w, g, heights, at + 2)
+    sum + share(w, g, heights, at) + share(w, g, heights, at + 1) + share(w, g, heights, at + 2)
 }
 
 // The sum after a face's seven points.
@@ -162,8 +160,8 @@ fn all_shares(sum: f64, g: &[f64; 28], heights: &[f64; 28]) -> f64
     ensures { λ r. ⌜ r ≡ allShares (now (g .entry)) (now (heights .entry)) sum ⌝ }
 {
     let mut sum = sum;
-    for j in 0..4usize {
-        sum = seven_shares(sum, g, heights, 7 * j);
+    for face in 0..4usize {
+        sum = seven_shares(sum, g, heights, 7 * face);
     }
     sum
 }

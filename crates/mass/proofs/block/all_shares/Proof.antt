@@ -8,10 +8,10 @@ use Rattle.mass.proofs.block.all_shares.Statement.{statement}
 use Rattle.mass.proofs.block.all_shares.Tie as tie
 
 abbrev Inv-loop : tie.InvT-loop
-Inv-loop sum g heights sum₀ j₀ sum' j = Left (λ i s. sevenShares g heights (7 * i) s) 4 j sum' (allShares g heights sum)
+Inv-loop sum g heights sum₀ face₀ sum' face = Left (λ i s. sevenShares g heights (7 * i) s) 4 face sum' (allShares g heights sum)
 
 abbrev μ-loop : tie.MeasureT-loop
-μ-loop sum g heights sum₀ j₀ sum' j = 4 - j
+μ-loop sum g heights sum₀ face₀ sum' face = 4 - face
 
 loop-holds : tie.Need-loop-holds Inv-loop μ-loop
 unfolding allShares
@@ -28,5 +28,5 @@ all-shares-spec =
     (λ c κs. search needs)
     (λ c. search needs)
     (λ c. search needs)
-    (λ c. search (goes, needs))
+    (λ c. goes (c .before .before .loop .inv) (search needs) (c .seven-shares .ensures))
     (λ c. search (ended, needs)))
