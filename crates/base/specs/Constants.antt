@@ -215,7 +215,7 @@ pub six-is : six ≡ decimal 6 0
 unfolding ofBits round
 six-is = refl
 
--- calibrate_kernels scales a mesh that reaches beyond it
+-- calibrate_kernels stretches the kernels where the mesh reaches beyond it
 abbrev pub ten : Float
 ten = bits 0x4024_0000_0000_0000
 

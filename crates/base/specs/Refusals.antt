@@ -26,7 +26,7 @@ number ShortList = 9
 number BadMatrix = 10
 -- solve fails
 number FlatPivot = 11
--- `normalize_kernels`: some abs(alpha - 1) > 1e-9
+-- `normalize_kernels`: some abs(alpha - 1) > 1e-9 (NaN passes)
 number Exponent = 12
 -- program only
 number BadLine = 13

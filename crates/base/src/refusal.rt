@@ -26,7 +26,7 @@ pub enum Refusal {
     BadMatrix,
     // 11: the system of equations has a flat pivot
     FlatPivot,
-    // 12: an exponent is not 1, where only 1 is taken
+    // 12: an exponent is farther than 1e-9 from 1, where only 1 is taken (NaN passes)
     Exponent,
     // 13: a line that is none of the program's forms
     BadLine,

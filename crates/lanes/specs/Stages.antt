@@ -15,7 +15,7 @@ use Rattle.lanes.specs.Factors.{All, Each}
 abbrev pub radius : Float → Float → Float
 radius sigma x = sigma ⊗ squareRoot binary64 x
 
--- the quotient is taken, and no sign is asked
+-- t is at least 0.1, so the quotient is taken, and t is its own absolute value
 abbrev pub Large : Float → Type 0
 Large t = le tenth t ≡ true
 

@@ -1,6 +1,7 @@
 // The radial factors of 28 points at once. One loop does one step of all points and has no branch,
 // so that LLVM works on two points at a time; what a step could not do is flagged, and then the
-// points are done one by one. `factors` has no `requires`; the steps take runs of 28 floats.
+// points are done one by one. Internal: the steps take runs of 28 floats, and what `factors` leaves in its
+// scratch arrays is not said.
 ghost use mathlib.Core.Path.{_≡_};
 ghost use lib.ListN.{length};
 ghost use Rattle.lanes.specs.Factors.{Each, factor};

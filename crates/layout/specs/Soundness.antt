@@ -31,7 +31,7 @@ slotSound status finished done faces =
     (eqb finished 0 && eqb done 0)
     -- "finished ≤ pieces"
     (leb finished (status - 1)
-    -- "faces done 0 if all are finished and else below F", which no number is "with F = 0"
+    -- "faces done 0 if all are finished and else below F": with F = 0 nothing is below F, so all must be finished
     && cond (eqb finished (status - 1)) (eqb done 0) (ltb done faces))
 
 -- place i of a run

@@ -30,7 +30,7 @@ use Rattle.store.specs.Calls.{done, clearStep, reweighStep}
 use Rattle.advance.specs.Steps.{advanceStep}
 use Rattle.put.specs.Puts.{fresh, atFirst, putFloats, putWords, putStep}
 use Rattle.machine.specs.Machine.{Mesh, Slot, empty, full, need, leftSlot, leftSum, Machine, Turn, turn, putTurn, clearTurn, weighed, reweighTurn}
-use Rattle.machine.specs.Holding.{Form, form3, placeRow, floats48, cells, floatsOf, wordsOf}
+use Rattle.machine.specs.Holding.{Width, width3, placeRow, floats48, cells, floatsOf, wordsOf}
 use Rattle.readings.specs.Readings.{Reading}
 use Rattle.machine.specs.Calls.{Call, put, clear, reweigh, advance, read, machine, Result, result, seen, store, results, turns, after-all, holding, shown, chargedBy, doneBy, chargedIn, doneIn}
 use Rattle.machine.proofs.Valid.{Within, Valid, spread}
@@ -39,7 +39,7 @@ use Rattle.machine.proofs.Sane.{no-fault}
 use Rattle.machine.proofs.Look.{read-held}
 use Rattle.machine.proofs.Sweep.{all-held, left-held, lowest-first, spread-length, within-spread, left-spread}
 
-module _ (wd : ℕ) (fm : Form wd) (m : Machine) (v : Valid (m .mesh) (m .slots)) (xs : List Float) (ys : List ℕ) where
+module _ (wd : ℕ) (fm : Width wd) (m : Machine) (v : Valid (m .mesh) (m .slots)) (xs : List Float) (ys : List ℕ) where
   abbrev FS : List Float
   FS = floatsOf (m .mesh) (m .slots) xs
 
@@ -77,8 +77,8 @@ module _ (wd : ℕ) (fm : Form wd) (m : Machine) (v : Valid (m .mesh) (m .slots)
   zeros-row : replicate wd 0 ≡ placeRow (m .mesh) empty
   zeros-row = go fm
     where
-      go : {w : ℕ} → Form w → replicate w 0 ≡ placeRow (m .mesh) empty
-      go form3 = refl
+      go : {w : ℕ} → Width w → replicate w 0 ≡ placeRow (m .mesh) empty
+      go width3 = refl
 
   clear-in : (i : ℕ) → i < 32 → (s : Slot) → getD (m .slots) i empty ≡ s → result (clearStep wd FS WS i) ≡ shown xs ys (clearTurn m i s)
   unfolding clearStep
@@ -176,6 +176,7 @@ module _ (wd : ℕ) (fm : Form wd) (m : Machine) (v : Valid (m .mesh) (m .slots)
         left-held wd fm (m .mesh) (m .slots) v ys,
         a,
         lowest-first (m .mesh) (min n l) n (m .slots) refl,
+        left-spread (m .mesh) n (m .slots),
       ) refl
 
   -- ---- a reading
@@ -266,13 +267,13 @@ module _ (m : Machine) (v : Valid (m .mesh) (m .slots)) where
       let l = leftSum (m .mesh) (m .slots) in
       rw (lowest-first (m .mesh) (min n l) n (m .slots) refl)
       (record {
-        valid = remade (spread (m .mesh) n (m .slots)) (spread-length 3 form3 (m .mesh) n (m .slots) ∙ v .slots) (within-spread (m .mesh) n (m .slots) (v .within));
+        valid = remade (spread (m .mesh) n (m .slots)) (spread-length 3 width3 (m .mesh) n (m .slots) ∙ v .slots) (within-spread (m .mesh) n (m .slots) (v .within));
         balance = rw (left-spread (m .mesh) n (m .slots)) (omega arith);
       })
   kept (read r) = record { valid = v; balance = refl }
 
 -- ---- every list of calls
-module _ (wd : ℕ) (fm : Form wd) where
+module _ (wd : ℕ) (fm : Width wd) where
   pub every-list : (cs : List Call) (m : Machine) → Valid (m .mesh) (m .slots) → (xs : List Float) (ys : List ℕ) → results wd (holding m xs ys) cs ≡ map (shown xs ys) (turns m cs)
   every-list [] m v xs ys = refl
   every-list (c ∷ cs) m v xs ys =

@@ -2,7 +2,7 @@
 use mathlib.Core.Path.{_≡_, refl, sym, ap, subst, _∙_}
 use mathlib.Core.Bool.{Bool, true, false, _&&_, cond, and-eq-true-iff}
 use mathlib.Core.List.{List, [], _∷_, map}
-use Prim.Native.Nat.{ℕ, _+_, _*_, _/_, _≤_}
+use Prim.Native.Nat.{ℕ, _+_, _*_, _/_, _≤_, min}
 use native.Mathlib.Omega.{arith}
 use lib.Dec.{ltb, leb}
 use lib.ListN.{length}
@@ -19,7 +19,7 @@ use Rattle.layout.specs.Layout.{coordsFrom, cornersFrom}
 use Rattle.store.specs.Calls.{After, after, openCheck, openStep}
 use Rattle.readings.specs.Readings.{Reading, density, report, list, needsWork, bare, applied, rescaled, sixes, Seen, Outcome, outcome, answerOf, refusing}
 use Rattle.machine.specs.Machine.{leftSum, Machine, opened}
-use Rattle.machine.specs.Holding.{Form, excessF, excessW}
+use Rattle.machine.specs.Holding.{Width, excessF, excessW}
 use Rattle.machine.specs.Fresh.{freshSeen}
 use Rattle.machine.specs.Calls.{Call, advance, read, machine, Store, Result, store, leaves, after-all, holding, leftIn}
 use Rattle.machine.specs.Demands.{leaving, Same, Read, Each, end, next, Follows, Demand3}
@@ -53,7 +53,7 @@ module _ (r : Reading) (s : Seen) where
   when-not true n = absurd (n (eight r))
   when-not false n = refl
 
-module _ (wd : ℕ) (fm : Form wd) (exF : List Float) (exW : List ℕ) where
+module _ (wd : ℕ) (fm : Width wd) (exF : List Float) (exW : List ℕ) where
   same : (m : Machine) → Valid (m .mesh) (m .slots) → (c : Call) → Same wd exF exW m (holding m exF exW) c
   same m v c =
       let e = one-call wd fm m v exF exW c in
@@ -90,7 +90,9 @@ module _ (wd : ℕ) (fm : Form wd) (exF : List Float) (exW : List ℕ) where
 
   left-asked : (m : Machine) → Valid (m .mesh) (m .slots) → leftIn (store wd (holding m exF exW) (advance 0) .reply) ≡ leftSum (m .mesh) (m .slots)
   unfolding machine
-  left-asked m v = ap (λ (x : Result). leftIn (x .reply)) (one-call wd fm m v exF exW (advance 0)) ∙ omega arith
+  left-asked m v =
+      let z : min 0 (leftSum (m .mesh) (m .slots)) ≡ 0 = omega arith in
+      ap (λ (x : Result). leftIn (x .reply)) (one-call wd fm m v exF exW (advance 0)) ∙ rw z refl
 
   follows : (cs : List Call) (m : Machine) → Valid (m .mesh) (m .slots) → leftSum (m .mesh) (m .slots) ≡ 0 → m .dropped ≡ 0 → Follows wd exF exW m (holding m exF exW) cs
   follows cs m v z d =
@@ -120,7 +122,7 @@ refuses : (q : ℕ) (r : Float) (xs : List Float) (ks : List ℕ) (fs : List Flo
 unfolding openStep
 refuses q r xs ks fs ws e h = rw h refl
 
-pub demand3 : (wd : ℕ) → Form wd → (r : Float) (xs : List Float) (ks : List ℕ) (fs : List Float) (ws : List ℕ) → Demand3 wd r xs ks fs ws
+pub demand3 : (wd : ℕ) → Width wd → (r : Float) (xs : List Float) (ks : List ℕ) (fs : List Float) (ws : List ℕ) → Demand3 wd r xs ks fs ws
 demand3 wd fm r xs ks fs ws =
     record {
       refused-as = refuses wd r xs ks fs ws;

@@ -12,14 +12,14 @@ use Rattle.layout.specs.Layout.{cornersFrom, statusOf, finishedOf, doneOf}
 use Rattle.kernel.specs.declared.kernel.Kernel.{Kernel}
 use Rattle.pieces.specs.declared.pieces.Pieces.{Pieces}
 use Rattle.machine.specs.Machine.{Mesh, Slot, empty, full}
-use Rattle.machine.specs.Holding.{Form, form3, placeRow, floats7, floats48, cells, flat, floatsOf, wordsOf}
+use Rattle.machine.specs.Holding.{Width, width3, placeRow, floats7, floats48, cells, flat, floatsOf, wordsOf}
 use Rattle.machine.proofs.Rows.{Each, row-get, row-set, row-write, flat-length, map-set, map-getD, each-map, map-length, set-append-add, write-append-add, each-set}
 
 -- a form has at least three words per place
-pub at-least : {w : ℕ} → Form w → 3 ≤ w
-at-least form3 = omega arith
+pub at-least : {w : ℕ} → Width w → 3 ≤ w
+at-least width3 = omega arith
 
-module _ (wd : ℕ) (fm : Form wd) where
+module _ (wd : ℕ) (fm : Width wd) where
   three-in : 3 ≤ wd
   three-in = at-least fm
 
@@ -31,12 +31,12 @@ module _ (wd : ℕ) (fm : Form wd) where
     pub len3 : (s : Slot) → length (placeRow m s) ≡ wd
     len3 empty = go fm
       where
-        go : {w : ℕ} → Form w → length (placeRow m empty) ≡ w
-        go form3 = refl
+        go : {w : ℕ} → Width w → length (placeRow m empty) ≡ w
+        go width3 = refl
     len3 (full k fit p) = go fm
       where
-        go : {w : ℕ} → Form w → length (placeRow m (full k fit p)) ≡ w
-        go form3 = refl
+        go : {w : ℕ} → Width w → length (placeRow m (full k fit p)) ≡ w
+        go width3 = refl
 
     pub len7 : (s : Slot) → length (floats7 s) ≡ 7
     len7 empty = refl

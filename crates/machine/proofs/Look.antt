@@ -21,7 +21,7 @@ use Rattle.layout.specs.Layout.{vertsOf, facesOf}
 use Rattle.advance.specs.Steps.{held}
 use Rattle.readings.specs.Readings.{Reading, density, report, list, byMass, needsWork, Part, bare, densityAt, rawMass, origin, applied, rescaled, Seen, seeing, outcome, listing, answerOf, refusing, readingOf, heldFilled, heldWorst, heldSeen, readStep}
 use Rattle.machine.specs.Machine.{Mesh, Slot, empty, full, leftSum}
-use Rattle.machine.specs.Holding.{Form, triangles, placeRow, floatsOf, wordsOf}
+use Rattle.machine.specs.Holding.{Width, triangles, placeRow, floatsOf, wordsOf}
 use Rattle.machine.specs.Fresh.{filledOne, freshFilled, worseOne, worstFrom, freshSeen}
 use Rattle.machine.proofs.Valid.{Within, Valid}
 use Rattle.machine.proofs.Held.{get7, status-held, coords-held, corners-held}
@@ -58,7 +58,7 @@ same-seen : {p p′ : List Part} {b b′ : Float} {n n′ : ℕ} {e e′ : Float
     → seeing p b n e ≡ seeing p′ b′ n′ e′
 same-seen hp hb hn he = rw (hp, hb, hn, he) refl
 
-module _ (wd : ℕ) (fm : Form wd) (m : Mesh) (ss : List Slot) (v : Valid m ss) (xs : List Float) (ys : List ℕ) where
+module _ (wd : ℕ) (fm : Width wd) (m : Mesh) (ss : List Slot) (v : Valid m ss) (xs : List Float) (ys : List ℕ) where
   abbrev FS : List Float
   FS = floatsOf m ss xs
 

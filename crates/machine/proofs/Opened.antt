@@ -14,7 +14,7 @@ use Rattle.layout.specs.Layout.{coordsFrom, cornersFrom}
 use Rattle.store.specs.Calls.{after, openCheck, openFloats, openWords, openStep}
 use Rattle.store.specs.OpenLaws.{open-passes}
 use Rattle.machine.specs.Machine.{Mesh, Slot, empty, meshOf}
-use Rattle.machine.specs.Holding.{Form, form3, flat, placeRow, floats7, floats48, floatsOf, wordsOf, excessF, excessW}
+use Rattle.machine.specs.Holding.{Width, width3, flat, placeRow, floats7, floats48, floatsOf, wordsOf, excessF, excessW}
 use Rattle.machine.proofs.Valid.{Within, Valid}
 
 -- ---- zeros
@@ -40,7 +40,7 @@ none-at zero i = refl
 none-at (suc n) zero = refl
 none-at (suc n) (suc i) = none-at n i
 
-module _ (wd : ℕ) (fm : Form wd) (r : Float) (xs : List Float) (ks : List ℕ) where
+module _ (wd : ℕ) (fm : Width wd) (r : Float) (xs : List Float) (ks : List ℕ) where
   abbrev M : Mesh
   M = meshOf r xs ks
 
@@ -56,8 +56,8 @@ module _ (wd : ℕ) (fm : Form wd) (r : Float) (xs : List Float) (ks : List ℕ)
   zeros-row : placeRow M empty ≡ replicate wd 0
   zeros-row = go fm
     where
-      go : {w : ℕ} → Form w → placeRow M empty ≡ replicate w 0
-      go form3 = refl
+      go : {w : ℕ} → Width w → placeRow M empty ≡ replicate w 0
+      go width3 = refl
 
   words-opened : (ws : List ℕ) → write ws 0 (openWords wd (length xs / 3) (length ks / 3) ks) ≡ wordsOf M (replicate 32 empty) (excessW wd ks ws)
   unfolding wordsOf

@@ -13,7 +13,7 @@ use Rattle.kernel.specs.declared.kernel.Kernel.{Kernel}
 use Rattle.pieces.specs.declared.pieces.Pieces.{Pieces}
 use Rattle.readings.specs.Readings.{Part, bare, heldPart, heldAt, heldAll}
 use Rattle.machine.specs.Machine.{Mesh, Slot, empty, full, need, leftSlot, leftSum}
-use Rattle.machine.specs.Holding.{Form, triangles, cells, placeRow, floatsOf, wordsOf}
+use Rattle.machine.specs.Holding.{Width, triangles, cells, placeRow, floatsOf, wordsOf}
 use Rattle.machine.specs.Fresh.{freshPart, freshAt, freshSlot, freshAll}
 use Rattle.machine.proofs.Valid.{Within, Valid}
 use Rattle.machine.proofs.Held.{get7, get48, status-held}
@@ -62,7 +62,7 @@ module _ (m : Mesh) (k : Kernel) (fit : Pieces) where
       rw (i, e) (getD-append-add (getD (fit .sigma) j nan ∷ getD (fit .coefficient) j nan ∷ volumeTo (triangles m) (centreOf k) (getD (fit .sigma) j nan) (min (m .faces) t) ∷ []) (cells m k fit n (suc j) (t - m .faces)) (3 * u + 2) nan
       ∙ cell-volume n (suc j) (t - m .faces) u (omega arith) (omega arith))
 
-module _ (wd : ℕ) (fm : Form wd) (m : Mesh) (ss : List Slot) (v : Valid m ss) (xs : List Float) (ys : List ℕ) where
+module _ (wd : ℕ) (fm : Width wd) (m : Mesh) (ss : List Slot) (v : Valid m ss) (xs : List Float) (ys : List ℕ) where
   abbrev FS : List Float
   FS = floatsOf m ss xs
 

@@ -14,7 +14,7 @@ use Rattle.mesh.specs.Checks.{vertexLimit, faceLimit}
 use Rattle.layout.specs.Layout.{coordsFrom, cornersFrom, facesOf}
 use Rattle.layout.specs.Soundness.{every, longEnough, slotSound, slotSoundAt, sound, storeCheck}
 use Rattle.machine.specs.Machine.{Mesh, Slot, empty, full}
-use Rattle.machine.specs.Holding.{Form, placeRow, floatsOf, wordsOf}
+use Rattle.machine.specs.Holding.{Width, placeRow, floatsOf, wordsOf}
 use Rattle.machine.proofs.Valid.{Within, Valid}
 use Rattle.machine.proofs.Held.{status-held, finished-held, done-held, words-long, floats-long, corners-held}
 
@@ -54,7 +54,7 @@ unfolding slotSound
 slot-sound m empty h = refl
 slot-sound m (full k fit p) h = steps-sound (fit .count) (m .faces) p (h .few) (h .steps)
 
-module _ (wd : ℕ) (fm : Form wd) (m : Mesh) (ss : List Slot) (v : Valid m ss) (xs : List Float) (ys : List ℕ) where
+module _ (wd : ℕ) (fm : Width wd) (m : Mesh) (ss : List Slot) (v : Valid m ss) (xs : List Float) (ys : List ℕ) where
   faces-held : facesOf (wordsOf m ss ys) ≡ m .faces
   unfolding wordsOf
   faces-held = refl

@@ -20,7 +20,7 @@ use Rattle.kernel.specs.declared.kernel.Kernel.{Kernel}
 use Rattle.pieces.specs.declared.pieces.Pieces.{Pieces}
 use Rattle.advance.specs.Steps.{Work, work, oneFace}
 use Rattle.machine.specs.Machine.{Mesh, Slot, empty, full, need}
-use Rattle.machine.specs.Holding.{Form, triangles, finished, cells, floatsOf}
+use Rattle.machine.specs.Holding.{Width, triangles, finished, cells, floatsOf}
 use Rattle.machine.proofs.Rows.{set-append-add}
 use Rattle.machine.proofs.Held.{get48, set-piece}
 
@@ -94,7 +94,7 @@ module _ (q f : ℕ) (hf : 0 < f) where
           let n = next (q + 1) f (q / f) (q % f + 1) (omega (arith, div-add-mod' q f)) (omega arith) in
           (sym (n .0), sym (n .1))
 
-module _ (wd : ℕ) (fm : Form wd) where
+module _ (wd : ℕ) (fm : Width wd) where
   module _ (m : Mesh) (ss : List Slot) (hs : length ss ≡ 32) (xs : List Float) (i : ℕ) (h : i < 32) (k : Kernel) (fit : Pieces) (fw : fit .count ≤ 16) where
     abbrev stepAt : Work → Work
     stepAt = oneFace (triangles m) (centreOf k) (m .faces) (225 + 48 * i) (fit .count)

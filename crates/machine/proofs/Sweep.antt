@@ -19,12 +19,12 @@ use Rattle.layout.specs.Layout.{centreAt}
 use Rattle.advance.specs.Steps.{work, Whole, whole, slotWork, stored, slotsRun, leftOf}
 use Rattle.advance.proofs.Steps.{idle}
 use Rattle.machine.specs.Machine.{Mesh, Slot, empty, full, need, leftSlot, leftSum, adv, bump}
-use Rattle.machine.specs.Holding.{Form, triangles, finished, placeRow, floatsOf, wordsOf}
+use Rattle.machine.specs.Holding.{Width, triangles, finished, placeRow, floatsOf, wordsOf}
 use Rattle.machine.proofs.Valid.{Within, Valid, spread}
 use Rattle.machine.proofs.Held.{get7, status-held, finished-held, done-held, two-words}
 use Rattle.machine.proofs.Step.{run-steps}
 
-module _ (wd : ℕ) (fm : Form wd) where
+module _ (wd : ℕ) (fm : Width wd) where
   module _ (m : Mesh) (ss : List Slot) (hs : length ss ≡ 32) (xs : List Float) (ys : List ℕ) (i : ℕ) (h : i < 32) where
     pub centre-held : (k : Kernel) (fit : Pieces) (p : ℕ) → getD ss i empty ≡ full k fit p → centreAt (floatsOf m ss xs) i ≡ centreOf k
     unfolding centreOf

@@ -22,11 +22,11 @@ abbrev pub floats7 : Slot → List Float
 floats7 empty = replicate 7 +0
 floats7 (full k fit p) = getD (k .c) 0 nan ∷ getD (k .c) 1 nan ∷ getD (k .c) 2 nan ∷ k .sigma ∷ k .w ∷ k .alpha ∷ fit .error ∷ []
 
--- "its 16 pieces (sigma, coefficient, volume so far, which is `kernel_volume`'s running sum over that piece's faces done)": n pieces from j on, the
--- first of which has t steps before the next has any. Past the last piece there is no step, and the fit's arrays are +0
 abbrev pub triangles : Mesh → ℕ → Triangle
 triangles m = triangleAt (m .coords) (m .corners)
 
+-- "its 16 pieces (sigma, coefficient, volume so far, which is `kernel_volume`'s running sum over that piece's faces done)": n pieces from j on. t steps
+-- were made on them: min(F, t) on piece j, the others on those after it. Past the last piece none was made, and all is +0 (Unused.antt)
 abbrev pub cells : Mesh → Kernel → Pieces → ℕ → ℕ → ℕ → List Float
 cells m k fit zero j t = []
 cells m k fit (suc n) j t =
@@ -48,11 +48,11 @@ floatsOf m ss xs = m .radius ∷ (flat (map floats7 ss) ++ (flat (map (floats48 
 
 -- ---- the u32 run, of q words to a place
 
--- the forms there are
-pub data Form : ℕ → Type 0 where
-  form3 : Form 3
+-- the words to a place that are proved: three, status, pieces finished, faces done
+pub data Width : ℕ → Type 0 where
+  width3 : Width 3
 
--- "status (0 empty, else 1 + pieces), pieces finished, faces done in the current piece"; "with F = 0 all are finished"
+-- "status (0 empty, else 1 + pieces), pieces finished, faces done in the current piece"; "with F = 0 all are finished", and p is 0, so p % 0 is 0 too
 abbrev pub finished : Mesh → Pieces → ℕ → ℕ
 finished m fit p = cond (eqb (m .faces) 0) (fit .count) (p / m .faces)
 

@@ -90,7 +90,7 @@ abbrev pub reweighTurn : Machine → ℕ → Float → Slot → Turn
 reweighTurn m i v empty = turn m (refused Vacant)
 reweighTurn m i v (full k fit p) = turn (with-slots m (set (m .slots) i (full (weighed k v) fit p)) 0 0) done
 
--- "Advance(n, u64): does min(n, left) steps, lowest unfinished place first"
+-- "Advance(n, u64): does min(n, left) steps, lowest unfinished place first .. the step count in its result is done, beside left"
 abbrev pub bump : Mesh → List Slot → List Slot
 bump m [] = []
 bump m (s ∷ ss) = cond (eqb (leftSlot m s) 0) (s ∷ bump m ss) (adv 1 s ∷ ss)
@@ -100,5 +100,5 @@ stepsOf m n = min n (leftSum (m .mesh) (m .slots))
 
 abbrev pub advanceTurn : Machine → ℕ → Turn
 advanceTurn m n =
-    turn (with-slots m (iterate (bump (m .mesh)) (stepsOf m n) (m .slots)) 0 0)
-    (counted (stepsOf m n ∷ (leftSum (m .mesh) (m .slots) - stepsOf m n) ∷ []))
+    let ss = iterate (bump (m .mesh)) (stepsOf m n) (m .slots) in
+    turn (with-slots m ss 0 0) (counted (stepsOf m n ∷ leftSum (m .mesh) ss ∷ []))

@@ -17,7 +17,7 @@ use Rattle.pieces.specs.declared.kernels.Decomposed.{Decomposed}
 use Rattle.pieces.specs.declared.kernels.Decomposed.the-variants.{Written, Refused}
 use Rattle.pieces.specs.Pieces.{decomposed, pieceAlpha}
 
--- piece i of a kernel: its centre, the piece's width, "its weight is w times the coefficient"
+-- piece i of a kernel: its centre, the piece's sigma, "its weight is w times the coefficient"
 unfoldable pub pieceAt : Kernel → Pieces → ℕ → Kernel
 pieceAt k p i = record { c = k .c; sigma = getD (p .sigma) i nan; w = k .w ⊗ getD (p .coefficient) i nan; alpha = pieceAlpha (k .alpha) }
 

@@ -10,7 +10,7 @@ use lib.ListN.{getD, set, replicate}
 use lib.Seq.{getD-set-other}
 use lib.Ieee.{Float, nan, ofBits, lt, le, eq, add, sub, mul, neg, isNan}
 use Rattle.base.specs.Floats.{_⊖_, _⊗_, bits, +0, abs, greater}
-use Rattle.base.specs.Constants.{one, ridge}
+use Rattle.base.specs.Constants.{one, keepLimit}
 use Rattle.base.specs.Loops.{times}
 use Rattle.base.specs.ChoiceLaws.{cond-of}
 use Rattle.base.specs.OrderLaws.{lt-nan, abs-least}
@@ -47,7 +47,7 @@ sized d =
 -- a piece more, or as many as before
 pub keep-count : (p : Pieces) (s k : Float) {i : ℕ} → p .count ≤ i → keep p s k .count ≤ i + 1
 unfolding keep
-keep-count p s k {i} h = cond-of (λ (q : Pieces). q .count ≤ i + 1) (lt ridge (abs k)) (omega arith) (omega arith)
+keep-count p s k {i} h = cond-of (λ (q : Pieces). q .count ≤ i + 1) (lt keepLimit (abs k)) (omega arith) (omega arith)
 
 kept-count : (terms : ℕ) (sigma : Float) (scales coefs : List Float) (p : Pieces) → p .count ≡ 0 → kept terms sigma scales coefs p .count ≤ terms
 unfolding kept times
@@ -57,7 +57,7 @@ kept-count terms sigma scales coefs p h = omega (arith, go terms 0 0 p (omega ar
     go zero i j q l = omega arith
     go (suc k) i j q l = omega (arith, go k (suc i) (j + 1) (keepAt sigma scales coefs i q) (keep-count q (sigma ⊗ getD scales i nan) (getD coefs i nan) l))
 
--- the most pieces that a kernel of this exponent can have, whatever its width and the radius
+-- the most pieces that a kernel of this exponent can have, whatever its sigma and the radius
 abbrev pub mostPieces : Float → ℕ
 mostPieces alpha = cond (stays alpha) 1 (sizeOf (delta alpha) .terms)
 
@@ -94,7 +94,7 @@ set-below xs j i x h = getD-set-other xs j i x nan (λ e. omega arith)
 keep-clean : (p : Pieces) (s k : Float) → Clean p → Clean (keep p s k)
 unfolding keep
 keep-clean p s k h =
-    cond-of Clean (lt ridge (abs k))
+    cond-of Clean (lt keepLimit (abs k))
     (record {
       no-sigma = λ i l b. set-below (p .sigma) (p .count) i s (omega arith) ∙ h .no-sigma i (omega arith) b;
       no-coefficient = λ i l b. set-below (p .coefficient) (p .count) i k (omega arith) ∙ h .no-coefficient i (omega arith) b;
@@ -151,7 +151,7 @@ error-least terms scales coefs curve = go (curve .samples) 0 +0 zero-least
 
 keep-error : (p : Pieces) (s k : Float) → keep p s k .error ≡ p .error
 unfolding keep
-keep-error p s k = cond-of (λ (q : Pieces). q .error ≡ p .error) (lt ridge (abs k)) refl refl
+keep-error p s k = cond-of (λ (q : Pieces). q .error ≡ p .error) (lt keepLimit (abs k)) refl refl
 
 kept-error : (terms : ℕ) (sigma : Float) (scales coefs : List Float) (p : Pieces) → kept terms sigma scales coefs p .error ≡ p .error
 unfolding kept times
@@ -167,7 +167,7 @@ unfolding decomposed fitted
 error-at-least-zero k radius =
     cond-of (λ (p : Pieces). le +0 (p .error) ≡ true) (stays (k .alpha)) zero-least (rw kept-error (error-least _ _ _ _))
 
--- ---- a kernel that stays has one piece, of its own width
+-- ---- a kernel that stays has one piece, of its own sigma
 pub stays-itself : (k : Kernel) (radius : Float) → stays (k .alpha) ≡ true → decomposed k radius ≡ itself k
 unfolding decomposed
 stays-itself k radius h = rw h refl

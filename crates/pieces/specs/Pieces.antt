@@ -54,7 +54,7 @@ keep p sigma coefficient =
     (record { count = p .count + 1; sigma = set (p .sigma) (p .count) sigma; coefficient = set (p .coefficient) (p .count) coefficient; error = p .error })
     p
 
--- every term in order, of width sigma·scale
+-- every term in order, of sigma times its scale
 abbrev pub keepAt : Float → List Float → List Float → ℕ → Pieces → Pieces
 keepAt sigma scales coefs i p = keep p (sigma ⊗ getD scales i nan) (getD coefs i nan)
 

@@ -1,4 +1,4 @@
-// 01's arc: the arc tangent by two halvings of the angle and eleven terms of its series.
+// 01's arc: the arc tangent by two halvings of the angle and twelve terms of its series.
 ghost use mathlib.Core.Path.{_≡_};
 ghost use Rattle.powers.specs.Arc.{halved, arcSum, arcCore, arcAbs, arc};
 use base::floats::abs;

@@ -1,4 +1,4 @@
-// 01's exp: two to the power y, by its whole part and thirteen terms of a series.
+// 01's exp: two to the power y, by its whole part and fourteen terms of a series.
 ghost use mathlib.Core.Path.{_≡_};
 ghost use mathlib.Core.Bool.{false};
 ghost use Prim.Native.Nat.{_-_, _≤_};

@@ -1,4 +1,4 @@
-// 01's log: the logarithm to base 2, by the split of a float and ten terms of a series.
+// 01's log: the logarithm to base 2, by the split of a float and eleven terms of a series.
 ghost use mathlib.Core.Path.{_≡_};
 ghost use Prim.Native.Nat.{_≤_};
 ghost use lib.Dec.{T};

@@ -1,4 +1,4 @@
--- 01, "Remainder", program `bench`: what it prints for its whole input, by lines. Definitions only; proofs/Whole.antt proves that the code's bytes give this.
+-- 01, "Remainder", program `bench`: what it prints for its whole input, by lines. Definitions only; `whole` (proofs/Whole.antt) says that the bytes, fed one by one, give this.
 use Prim.Native.Nat.{ℕ}
 use mathlib.Core.Bool.{cond}
 use mathlib.Core.List.{List, [], _∷_, _++_}
@@ -22,7 +22,7 @@ linesFrom l (b ∷ bs) = cond (eqb b 10) (l ∷ linesFrom [] bs) (linesFrom (l +
 abbrev pub linesOf : List ℕ → List (List ℕ)
 linesOf bs = linesFrom [] bs
 
--- "one answer a line": the texts of their answers in order
+-- the texts of their answers in order
 abbrev pub answersTo : Session → List (List ℕ) → List ℕ
 answersTo s [] = []
 answersTo s (l ∷ ls) = respond s (parseLine l) .text ++ answersTo (respond s (parseLine l) .next) ls

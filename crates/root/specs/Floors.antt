@@ -1,7 +1,7 @@
 -- The whole root of a natural number: `floorRoot` is it, there is one, and how it goes with a factor that is a square. Assumes nothing.
 use mathlib.Core.Path.{_≡_, sym, ap, _∙_, subst}
 use Prim.Native.Nat.{ℕ, zero, suc, _+_, _-_, _*_, _/_, _^_, _≤_, _<_, zero-le}
-use native.Mathlib.Nat.{le-trans, le-of-eq, le-of-lt, le-antisymm, lt-of-lt-of-le, lt-of-le-of-lt, lt-of-not-le, not-le-of-lt, mul-assoc, mul-left-comm, mul-add, add-mul, mul-one, one-mul, mul-le-mul, mul-le-mul-left, mul-le-mul-right, mul-lt-mul-of-pos-right, mul-pos, pow-suc, pow-le-pow-left}
+use native.Mathlib.Nat.{le-trans, le-of-eq, le-of-lt, lt-of-lt-of-le, lt-of-le-of-lt, lt-of-not-le, not-le-of-lt, mul-assoc, mul-left-comm, mul-add, add-mul, mul-one, one-mul, mul-le-mul, mul-le-mul-left, mul-le-mul-right, mul-lt-mul-of-pos-right, mul-pos, pow-suc, pow-le-pow-left}
 use native.Mathlib.Omega.{arith}
 use mathlib.Core.Bool.{Bool, true, false, not, cond}
 use lib.Dec.{T, leb, leb→le, nleb→lt, lit≤}
@@ -41,9 +41,6 @@ of-floor {n} {q} {r} h =
 
 up-to : (a b : ℕ) → a < b + 1 → a ≤ b
 up-to a b h = omega arith
-
-pub root-unique : {n a b : ℕ} → IsRoot n a → IsRoot n b → a ≡ b
-root-unique {n} {a} {b} h k = le-antisymm (up-to a b (sq-back (lt-of-le-of-lt (h .least) (k .most)))) (up-to b a (sq-back (lt-of-le-of-lt (k .least) (h .most))))
 
 next-digit : (n s : ℕ) → IsRoot (n / 4) s → (b : Bool) → (T b → (2 * s + 1) * (2 * s + 1) ≤ n) → (T (not b) → n < (2 * s + 1) * (2 * s + 1)) → IsRoot n (cond b (2 * s + 1) (2 * s))
 next-digit n s ih true h k =

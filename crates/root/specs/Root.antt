@@ -16,7 +16,7 @@ unfolding rootIn size
 floorRoot n = rootIn (size n) n
 
 -- The square root of n units. It is √(n * 2 ^ low) units, whose whole part is q. Where it is q itself, q is rounded. Else it lies between q and q + 1, and q + 1/2 is rounded in its place:
--- so much smaller are the units than the digits that the format keeps of a root, that every value of the format, and every middle of two, is on the same side of both.
+-- so much smaller are the units than the digits that the format keeps of a root, that every value of the format, and every middle of two, is on the same side of the root as of q + 1/2.
 unfoldable pub rootUnits : Format → ℕ → Float
 unfolding floorRoot round
 rootUnits f n =

@@ -17,10 +17,6 @@ module _ {ℓ} {A : Type ℓ} where
       sets-eq vs l i h
       ∙ (append-assoc (take i l) vs (drop (i + length vs) l) ∙ ap (λ (r : List A). take i l ++ (vs ++ r)) (sym (drop-drop (length vs) i l)))
 
-  pub part-write : (l : List A) (i k : ℕ) (vs : List A) → length vs ≡ k → take i l ++ (vs ++ drop k (drop i l)) ≡ write l i vs
-  unfolding write
-  part-write l i k vs e = rw e refl
-
   pub length-part : (l : List A) (i k : ℕ) → i + k ≤ length l → length (take (i + k - i) (drop i l)) ≡ k
   length-part l i k h = simp (length-take, length-drop) (omega arith)
 

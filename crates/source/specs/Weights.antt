@@ -69,7 +69,7 @@ writeStep k i run = kernelSet run i (k i)
 unfoldable pub writtenOf : (ℕ → Kernel) → ℕ → List Float → List Float
 writtenOf k n run = times (writeStep k) n 0 run
 
--- row 9: "run to be written under 6 floats per .. kernel written"
+-- row 9: "run to be written under 6 floats per piece (or kernel) written"; both are counts of floats
 abbrev pub roomCheck : ℕ → ℕ → Checked
 roomCheck kernels room = cond (leb kernels room) Passed (Failed ShortList)
 
