@@ -1,4 +1,5 @@
 // The program `bench` but for reading and writing: a byte of its input at a time. What it holds is lent.
+// Internal: an opening under way is asked to be within the program's counts.
 ghost use mathlib.Core.Path.{_≡_};
 ghost use mathlib.Core.Bool.{cond};
 ghost use Prim.Native.Nat.{_≤_};

@@ -9,7 +9,7 @@ use Rattle.program.proofs.end.Tie as tie
 
 returns : tie.Need-returns
 unfolding feedEnd
-returns c = 
+returns c =
     let z = c .before .if1 .taken in
     let p = c .before .before .before .before .before .pre in
     rw (eq-eqb _ _ z, z) ((p, omega arith), (refl, record { next = refl; run = refl }))

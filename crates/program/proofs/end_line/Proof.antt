@@ -20,7 +20,7 @@ same-length-2 c = search needs
 
 returns : tie.Need-returns
 unfolding endLine
-returns c = 
+returns c =
     let e = c .before .before .before .before .before .respond .ensures in
     let a = c .before .before .before .before .before .before .before .before .before .before .before .before .before .before .before .before .args in
     rw (← c .before .before .before .before .before .before .before .before .before .before .before .before .line-in .ensures) (e .0, (ap (λ (s : Session). held s (a .line .now) 0) (e .1 .0), e .1 .1))

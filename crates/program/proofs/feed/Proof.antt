@@ -25,7 +25,7 @@ keep-requires c κs = search needs
 
 returns-2 : tie.Need-returns-2
 unfolding feedByte
-returns-2 c = 
+returns-2 c =
     let e = c .keep .ensures in
     rw (ne-eqb _ _ (c .before .before .if1 .left), e .0 .0, e .0 .1, e .1 .0, e .1 .1) ((c .before .before .before .before .before .pre, omega arith), (refl, record { next = refl; run = refl }))
 

@@ -1,0 +1,116 @@
+// The program `bench`: 01's lines on standard input, an answer a line on standard output.
+ghost use Prim.Native.Nat.{_≤_};
+ghost use Rattle.session.specs.Session.{Small};
+use libc::EINTR;
+use libc::STDIN_FILENO;
+use libc::STDOUT_FILENO;
+use program::State;
+
+// Whether a read that answered `got` was the last: the input ended or cannot be read. One that a signal interrupted is made again.
+fn ended(got: isize) -> bool {
+    if got < 0 {
+        return os::errno() != EINTR;
+    }
+    got == 0
+}
+
+// Writes the first `n` bytes of `out`; false where they cannot be written.
+fn say(out: &[u8], n: usize) -> bool {
+    if n > out.len() {
+        return false;
+    }
+    io::write_all(STDOUT_FILENO, &out[..n])
+}
+
+// What is held after some bytes, and whether each answer was written.
+struct Fed {
+    state: State,
+    said: bool,
+}
+
+// The first `n` bytes of a chunk, each answer written where its line ends. After an answer that was not written none is.
+fn feed_chunk(
+    st: State,
+    chunk: &[u8; 4096],
+    n: usize,
+    line: &mut [u8; 256],
+    f: &mut [f64; 3261],
+    w: &mut [u32; 3098],
+    coords: &mut [f64; 1500],
+    corners: &mut [u32; 3000],
+    out: &mut [u8; 512],
+) -> Fed
+    requires { ⌜ Small (st .opening) ⌝ ∗ ⌜ n ≤ 4096 ⌝ }
+    ensures { λ r. ⌜ Small (r .state .opening) ⌝ }
+{
+    let mut state = st;
+    let mut i = 0;
+    while i < n {
+        state = program::feed(state, chunk[i], line, f, w, coords, corners, out);
+        if !say(out, state.wrote) {
+            return Fed { state, said: false };
+        }
+        i += 1;
+    }
+    Fed { state, said: true }
+}
+
+// The end of the input, and its answer if it has one.
+fn finish(
+    st: State,
+    line: &[u8; 256],
+    f: &mut [f64; 3261],
+    w: &mut [u32; 3098],
+    coords: &mut [f64; 1500],
+    corners: &mut [u32; 3000],
+    out: &mut [u8; 512],
+)
+    requires { ⌜ Small (st .opening) ⌝ }
+{
+    let last = program::end(st, line, f, w, coords, corners, out);
+    say(out, last.wrote);
+}
+
+fn main() {
+    let mut f = [0.0f64; 3261];
+    let mut w = [0u32; 3098];
+    let mut coords = [0.0f64; 1500];
+    let mut corners = [0u32; 3000];
+    let mut line = [0u8; 256];
+    let mut out = [0u8; 512];
+    let mut chunk = io::buffer();
+    let mut st = program::start();
+    let mut turns = u64::MAX;
+    while turns > 0 {
+        turns -= 1;
+        let got = libc::read(STDIN_FILENO, &mut chunk);
+        if ended(got) {
+            break;
+        }
+        let n = io::count(got, &chunk);
+        let fed = feed_chunk(
+            st,
+            &chunk,
+            n,
+            &mut line,
+            &mut f,
+            &mut w,
+            &mut coords,
+            &mut corners,
+            &mut out,
+        );
+        if !fed.said {
+            return;
+        }
+        st = fed.state;
+    }
+    finish(
+        st,
+        &line,
+        &mut f,
+        &mut w,
+        &mut coords,
+        &mut corners,
+        &mut out,
+    );
+}
