@@ -14,18 +14,9 @@ returns c =
     let p = c .before .before .before .before .before .pre in
     rw (eq-eqb _ _ z, z) ((p, omega arith), (refl, record { next = refl; run = refl }))
 
-end-line-requires : tie.Need-end-line-requires
-end-line-requires c κs = search needs
-
-same-length : tie.Need-same-length
-same-length c = search needs
-
-same-length-2 : tie.Need-same-length-2
-same-length-2 c = search needs
-
 returns-2 : tie.Need-returns-2
 unfolding feedEnd
 returns-2 c = rw (ne-eqb _ _ (c .before .before .before .before .before .before .before .before .before .before .if1 .left)) (c .before .before .before .before .end-line .ensures)
 
 pub end-spec : {M : Type 1} → statement M
-end-spec = tie.close (tie.spec returns end-line-requires same-length same-length-2 returns-2)
+end-spec = tie.close (tie.spec returns (λ c κs. search needs) (λ c. search needs) (λ c. search needs) returns-2)

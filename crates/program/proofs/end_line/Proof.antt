@@ -6,18 +6,6 @@ use borrow.Author.Needs.{needs}
 use Rattle.program.proofs.end_line.Statement.{statement}
 use Rattle.program.proofs.end_line.Tie as tie
 
-line-in-requires : tie.Need-line-in-requires
-line-in-requires c κs = search needs
-
-respond-requires : tie.Need-respond-requires
-respond-requires c κs = search needs
-
-same-length : tie.Need-same-length
-same-length c = search needs
-
-same-length-2 : tie.Need-same-length-2
-same-length-2 c = search needs
-
 returns : tie.Need-returns
 unfolding endLine
 returns c =
@@ -27,4 +15,4 @@ returns c =
 
 pub end-line-spec : {M : Type 1} → statement M
 end-line-spec =
-    tie.close (tie.spec line-in-requires respond-requires same-length same-length-2 returns)
+    tie.close (tie.spec (λ c κs. search needs) (λ c κs. search needs) (λ c. search needs) (λ c. search needs) returns)

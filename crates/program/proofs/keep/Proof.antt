@@ -10,15 +10,9 @@ returns : tie.Need-returns
 unfolding lineWith countWith
 returns c = rw (le-ltb _ _ (c .if1 .taken)) ((refl, refl), (refl, refl))
 
-element-write-line : tie.Need-element-write-line
-element-write-line c = search needs
-
-add-t9 : tie.Need-add-t9
-add-t9 c = search needs
-
 returns-2 : tie.Need-returns-2
 unfolding lineWith countWith
 returns-2 c = rw (lt-ltb _ _ (c .if1 .left)) ((refl, refl), (refl, refl))
 
 pub keep-spec : {M : Type 1} → statement M
-keep-spec = tie.close (tie.spec returns element-write-line add-t9 returns-2)
+keep-spec = tie.close (tie.spec returns (λ c. search needs) (λ c. search needs) returns-2)

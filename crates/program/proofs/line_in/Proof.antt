@@ -17,13 +17,10 @@ slice-aggregate-parse-line c =
     let a = c .before .before .before .args in
     sym (length-take-le (a .count) (a .line .now) (omega (arith, c .before .before .before .pre, c .before .if1 .left)))
 
-parse-line-requires : tie.Need-parse-line-requires
-parse-line-requires c κs = search needs
-
 returns-2 : tie.Need-returns-2
 unfolding lineIn
 returns-2 c = rw (le-leb _ _ (c .before .before .if1 .left)) (c .parse-line .ensures)
 
 pub line-in-spec : {M : Type 1} → statement M
 line-in-spec =
-    tie.close (tie.spec returns slice-aggregate-parse-line parse-line-requires returns-2)
+    tie.close (tie.spec returns slice-aggregate-parse-line (λ c κs. search needs) returns-2)
