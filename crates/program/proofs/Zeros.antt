@@ -16,7 +16,6 @@ use Rattle.mesh.specs.Checks.{meshCheck, allBelow}
 use Rattle.layout.specs.Layout.{slotLimit, width, coordsFrom, cornersFrom}
 use Rattle.layout.specs.Soundness.{every, longEnough, slotSound, slotSoundAt, sound, storeCheck}
 use Rattle.store.specs.Calls.{after, openCheck, openFloats, openWords, openStep}
-use Rattle.session.specs.Session.{Session}
 use Rattle.program.specs.Bench.{atFirst}
 
 write-same : {A : Type 0} (z : A) (n a : ℕ) → n ≤ a → write (replicate a z) 0 (replicate n z) ≡ replicate a z
@@ -44,9 +43,9 @@ module _ (q a b : ℕ) (long : coordsFrom ≤ a) (wide : cornersFrom q ≤ b) wh
       let n = coordsFrom - 1 in
       let m = q * slotLimit in
       let f : write (replicate a +0) 0 (openFloats +0 []) ≡ replicate a +0 =
-          ap (λ l. write (replicate a +0) 0 (+0 ∷ l)) (append-nil (replicate n +0)) ∙ write-same +0 (suc n) a (omega arith) in
+      ap (λ l. write (replicate a +0) 0 (+0 ∷ l)) (append-nil (replicate n +0)) ∙ write-same +0 (suc n) a (omega arith) in
       let w : write (replicate b 0) 0 (openWords q 0 0 []) ≡ replicate b 0 =
-          ap (λ (l : List ℕ). write (replicate b 0) 0 (0 ∷ 0 ∷ l)) (append-nil (replicate m 0)) ∙ write-same 0 (suc (suc m)) b (omega arith) in
+      ap (λ (l : List ℕ). write (replicate b 0) 0 (0 ∷ 0 ∷ l)) (append-nil (replicate m 0)) ∙ write-same 0 (suc (suc m)) b (omega arith) in
       rw (length-replicate a +0, length-replicate {A = ℕ} b 0, le-leb coordsFrom a long, le-leb (cornersFrom q + 0) b (omega arith))
       (λ i. after (counted (0 ∷ 0 ∷ [])) (f i) (w i))
 

@@ -4,7 +4,6 @@ use mathlib.Core.Bool.{cond}
 use mathlib.Core.List.{List, [], _∷_, _++_}
 use lib.Dec.{eqb}
 use lib.ListN.{replicate}
-use lib.Ieee.{Float}
 use Rattle.base.specs.Floats.{+0}
 use Rattle.forms.specs.Forms.{parseLine}
 use Rattle.session.specs.Session.{Session, session, idle, respond}
@@ -27,7 +26,7 @@ abbrev pub answersTo : Session → List (List ℕ) → List ℕ
 answersTo s [] = []
 answersTo s (l ∷ ls) = respond s (parseLine l) .text ++ answersTo (respond s (parseLine l) .next) ls
 
--- "Before an opening the store is all zeros"
+-- "Before an opening the store is all zeros, which is sound" (proofs/Zeros.antt)
 abbrev pub atFirst : Session
 atFirst = session idle (replicate 3261 +0) (replicate 3098 0) (replicate 1500 +0) (replicate 3000 0)
 

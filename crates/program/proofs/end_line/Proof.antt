@@ -1,5 +1,5 @@
 -- `program::end_line` meets its contract. Assumes nothing.
-use mathlib.Core.Path.{refl, ap}
+use mathlib.Core.Path.{ap}
 use Rattle.session.specs.Session.{Session}
 use Rattle.program.specs.Bytes.{held, endLine}
 use borrow.Author.Needs.{needs}

@@ -1,8 +1,8 @@
 -- `program::feed` meets its contract. Assumes nothing.
-use mathlib.Core.Path.{refl, ap}
+use mathlib.Core.Path.{refl}
 use native.Mathlib.Omega.{arith}
 use borrow.Author.Tests.{eq-eqb, ne-eqb}
-use Rattle.program.specs.Bytes.{held, feedByte}
+use Rattle.program.specs.Bytes.{feedByte}
 use borrow.Author.Needs.{needs}
 use Rattle.program.proofs.feed.Statement.{statement}
 use Rattle.program.proofs.feed.Tie as tie

@@ -1,0 +1,26 @@
+-- `readings::at_point::scale_of` meets its contract, case by case. Assumes nothing.
+use borrow.Author.Needs.{needs}
+use mathlib.Core.Path.{refl}
+use Rattle.density.specs.Conventions.{appliedScale}
+use Rattle.readings.proofs.at_point.scale_of.Statement.{statement}
+use Rattle.readings.proofs.at_point.scale_of.Tie as tie
+
+returns : tie.Need-returns
+unfolding appliedScale
+returns c = search needs
+
+returns-2 : tie.Need-returns-2
+returns-2 c = ?
+
+pub scale-of-spec : {M : Type 1} → statement M
+scale-of-spec =
+    tie.close
+    (tie.spec
+    (λ c. search needs)
+    (λ c. search needs)
+    (λ c κs. search needs)
+    (λ c. search needs)
+    (λ c κs. search needs)
+    returns
+    returns-2
+    (λ c. search needs))
