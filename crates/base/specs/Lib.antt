@@ -8,4 +8,5 @@ pub mod Constants
 pub mod Split
 pub mod UnitLaws
 pub mod Refusals
+pub mod RefusalLaws
 pub mod Answers

@@ -1,16 +1,14 @@
 -- A store's reply can be read off what C gets: the number is 0 just where nothing is refused, and no value is lost. Assumes nothing.
 use Prim.Native.Nat.{ℕ}
 use mathlib.Core.Path.{_≡_, refl}
-use mathlib.Core.Bool.{false, cond}
+use mathlib.Core.Bool.{cond}
 use mathlib.Core.List.{List, [], _∷_}
 use lib.Dec.{eqb}
 use lib.Ieee.{Float}
 use Rattle.base.specs.Answers.{Answer, measuredAs}
 use Rattle.base.specs.declared.refusal.Measured.{Measured}
 use Rattle.base.specs.declared.refusal.Measured.the-variants as measured
-use Rattle.base.specs.Refusals.{number}
-use Rattle.base.specs.declared.refusal.Refusal.{Refusal}
-use Rattle.base.specs.declared.refusal.Refusal.the-variants.{Ragged, Oversize, LooseCorner, ShortStore, Unsound, NoPlace, Vacant, Unfinished, ShortList, BadMatrix, FlatPivot, Exponent, BadLine}
+use Rattle.base.specs.RefusalLaws.{never-zero}
 use Rattle.store.specs.declared.open.Opened.{Opened}
 use Rattle.store.specs.declared.open.Opened.the-variants as opening
 use Rattle.store.specs.OpenAnswer.{opened}
@@ -29,21 +27,6 @@ use Rattle.readings.specs.declared.listing.ListRead.the-variants as listing
 use Rattle.readings.specs.ListAnswer.{listRead}
 use Rattle.cauchy.specs.Volumes.{valueFrom}
 use Rattle.cauchy.specs.StoreCrossing.{openedFrom, placedFrom, stepsFrom, reportFrom, listedFrom}
-
-pub never-zero : (r : Refusal) → eqb (number r) 0 ≡ false
-never-zero Ragged = refl
-never-zero Oversize = refl
-never-zero LooseCorner = refl
-never-zero ShortStore = refl
-never-zero Unsound = refl
-never-zero NoPlace = refl
-never-zero Vacant = refl
-never-zero Unfinished = refl
-never-zero ShortList = refl
-never-zero BadMatrix = refl
-never-zero FlatPivot = refl
-never-zero Exponent = refl
-never-zero BadLine = refl
 
 -- the reply of a number and values, which count where the number is 0
 abbrev pub told : ℕ → List ℕ → List Float → Answer

@@ -1,32 +1,12 @@
 -- What was written for a call's answer is that answer's line. Assumes nothing.
 use Prim.Native.Nat.{ℕ}
-use mathlib.Core.Path.{_≡_, refl, sym, subst, _∙_}
-use mathlib.Core.Bool.{false}
+use mathlib.Core.Path.{_≡_, sym, subst, _∙_}
 use mathlib.Core.List.{List, []}
-use lib.Dec.{eqb}
 use lib.Ieee.{Float}
 use Rattle.base.specs.Answers.{Answer}
-use Rattle.base.specs.Refusals.{number}
-use Rattle.base.specs.declared.refusal.Refusal.{Refusal}
-use Rattle.base.specs.declared.refusal.Refusal.the-variants.{Ragged, Oversize, LooseCorner, ShortStore, Unsound, NoPlace, Vacant, Unfinished, ShortList, BadMatrix, FlatPivot, Exponent, BadLine}
 use Rattle.text.specs.Print.{Wrote}
 use Rattle.store.specs.Calls.{After, after}
 use Rattle.readings.specs.Readings.{Outcome, outcome}
-
-pub never-zero : (r : Refusal) → eqb (number r) 0 ≡ false
-never-zero Ragged = refl
-never-zero Oversize = refl
-never-zero LooseCorner = refl
-never-zero ShortStore = refl
-never-zero Unsound = refl
-never-zero NoPlace = refl
-never-zero Vacant = refl
-never-zero Unfinished = refl
-never-zero ShortList = refl
-never-zero BadMatrix = refl
-never-zero FlatPivot = refl
-never-zero Exponent = refl
-never-zero BadLine = refl
 
 -- a text that is another one
 pub wrote-as : {o t u o′ : List ℕ} {at r : ℕ} → t ≡ u → Wrote o at t r o′ → Wrote o at u r o′

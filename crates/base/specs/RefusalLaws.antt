@@ -1,0 +1,23 @@
+-- Laws of the numbers of refusals. Assumes nothing.
+use mathlib.Core.Path.{_≡_, refl}
+use mathlib.Core.Bool.{false}
+use lib.Dec.{eqb}
+use Rattle.base.specs.Refusals.{number}
+use Rattle.base.specs.declared.refusal.Refusal.{Refusal}
+use Rattle.base.specs.declared.refusal.Refusal.the-variants.{Ragged, Oversize, LooseCorner, ShortStore, Unsound, NoPlace, Vacant, Unfinished, ShortList, BadMatrix, FlatPivot, Exponent, BadLine}
+
+-- 0 is the number of no refusal
+pub never-zero : (r : Refusal) → eqb (number r) 0 ≡ false
+never-zero Ragged = refl
+never-zero Oversize = refl
+never-zero LooseCorner = refl
+never-zero ShortStore = refl
+never-zero Unsound = refl
+never-zero NoPlace = refl
+never-zero Vacant = refl
+never-zero Unfinished = refl
+never-zero ShortList = refl
+never-zero BadMatrix = refl
+never-zero FlatPivot = refl
+never-zero Exponent = refl
+never-zero BadLine = refl
