@@ -1,4 +1,4 @@
--- A refusal's number is never 0, which stands for none. Assumes nothing.
+-- Laws of the numbers of refusals. Assumes nothing.
 use mathlib.Core.Path.{_≡_, refl}
 use mathlib.Core.Bool.{false}
 use lib.Dec.{eqb}
@@ -6,6 +6,7 @@ use Rattle.base.specs.Refusals.{number}
 use Rattle.base.specs.declared.refusal.Refusal.{Refusal}
 use Rattle.base.specs.declared.refusal.Refusal.the-variants.{Ragged, Oversize, LooseCorner, ShortStore, Unsound, NoPlace, Vacant, Unfinished, ShortList, BadMatrix, FlatPivot, Exponent, BadLine}
 
+-- 0 is the number of no refusal
 pub never-zero : (r : Refusal) → eqb (number r) 0 ≡ false
 never-zero Ragged = refl
 never-zero Oversize = refl

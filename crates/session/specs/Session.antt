@@ -15,7 +15,7 @@ use Rattle.layout.specs.Layout.{width}
 use Rattle.store.specs.Calls.{After, openStep, clearStep, reweighStep}
 use Rattle.put.specs.Puts.{putStep}
 use Rattle.advance.specs.Steps.{advanceStep}
-use Rattle.readings.specs.Readings.{Outcome, readStep, density, report}
+use Rattle.readings.specs.Readings.{readStep, density, report}
 use Rattle.forms.specs.declared.line.Line.{Line}
 use Rattle.forms.specs.declared.line.Line.the-variants.{Bad, Open, Vert, Face, Put, Clear, Reweigh, Advance, Density, Report}
 use Rattle.session.specs.declared.opening.Opening.{Opening}

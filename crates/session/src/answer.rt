@@ -1,8 +1,7 @@
 // A call on the store, and its answer written as a line from the start of a run of 512 bytes; each answers the line's length.
 ghost use mathlib.Core.Path.{_≡_};
 ghost use mathlib.Core.List.{[], _∷_};
-ghost use Prim.Native.Nat.{_+_, _≤_};
-ghost use lib.ListN.{length};
+ghost use Prim.Native.Nat.{_≤_};
 ghost use Rattle.base.specs.Refusals.{number};
 ghost use Rattle.text.specs.Print.{Wrote};
 ghost use Rattle.layout.specs.Layout.{width};
@@ -11,7 +10,7 @@ ghost use Rattle.put.specs.Puts.{putStep};
 ghost use Rattle.advance.specs.Steps.{advanceStep};
 ghost use Rattle.readings.specs.Readings.{readStep};
 ghost use Rattle.readings.specs.Readings;
-ghost use Rattle.session.specs.Texts.{lined, noText, openText, putText, densityText, advanceText, clearText, reweighText, reportText};
+ghost use Rattle.session.specs.Texts.{noText, openText, putText, densityText, advanceText, clearText, reweighText, reportText};
 use advance::advance::Advanced;
 use advance::advance::advance;
 use base::refusal::Measured;

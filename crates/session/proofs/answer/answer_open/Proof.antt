@@ -2,8 +2,8 @@
 use mathlib.Core.Path.{refl}
 use Rattle.text.specs.WriteLaws.{then}
 use Rattle.session.specs.Texts.{openText}
-use Rattle.session.proofs.Answers.{answering}
 use Rattle.base.specs.RefusalLaws.{never-zero}
+use Rattle.session.proofs.Answers.{answering}
 use borrow.Author.Needs.{needs}
 use Rattle.session.proofs.answer.answer_open.Statement.{statement}
 use Rattle.session.proofs.answer.answer_open.Tie as tie

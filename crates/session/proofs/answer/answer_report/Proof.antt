@@ -2,8 +2,8 @@
 use mathlib.Core.Path.{refl}
 use Rattle.text.specs.WriteLaws.{then}
 use Rattle.session.specs.Texts.{reportText}
-use Rattle.session.proofs.Answers.{reading}
 use Rattle.base.specs.RefusalLaws.{never-zero}
+use Rattle.session.proofs.Answers.{reading}
 use borrow.Author.Needs.{needs}
 use Rattle.session.proofs.answer.answer_report.Statement.{statement}
 use Rattle.session.proofs.answer.answer_report.Tie as tie
