@@ -1,10 +1,5 @@
-<<<<<<< HEAD
 // The program `bench` but for reading and writing: a byte of its input at a time. What it holds is lent.
 // Internal: an opening under way is asked to be within the program's counts.
-=======
-// The program `bench` but for reading and writing: a byte of its input at a time. What it holds is lent. These functions are internal:
-// they are asked an opening of no more vertices and faces than the program takes, and answer such a one.
->>>>>>> c3972cb121f3f513b0c4bc767c754b1b80910763
 ghost use mathlib.Core.Path.{_≡_};
 ghost use Prim.Native.Nat.{_≤_};
 ghost use lib.ListN.{length};

@@ -1,6 +1,5 @@
 -- `readings::at_point::scale_of` meets its contract, case by case. Assumes nothing.
 use borrow.Author.Needs.{needs}
-use mathlib.Core.Path.{refl}
 use Rattle.density.specs.Conventions.{appliedScale}
 use Rattle.readings.proofs.at_point.scale_of.Statement.{statement}
 use Rattle.readings.proofs.at_point.scale_of.Tie as tie
@@ -10,7 +9,7 @@ unfolding appliedScale
 returns c = search needs
 
 returns-2 : tie.Need-returns-2
-returns-2 c = ?
+returns-2 c = rw (c .before .before .v .given .1) (c .scale-by-rho0 .ensures)
 
 pub scale-of-spec : {M : Type 1} → statement M
 scale-of-spec =
