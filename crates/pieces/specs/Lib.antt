@@ -1,5 +1,6 @@
 pub mod Fit
 pub mod Pieces
 pub mod Kernels
+pub mod Lists
 pub mod PieceLaws
 pub mod Rows
