@@ -1,3 +1,4 @@
 pub mod Tables
 pub mod Fits
 pub mod Runs
+pub mod ListLaws

@@ -20,6 +20,6 @@ module _ (k : Kernel) (radius : Float) (p : Pieces) (e : p ≡ decomposed k radi
   unfolding decomposition
   refuses xs h = rw (← e, lt-ltb (length xs) (6 * p .count) h) refl
 
-  pub writes : (xs ys : List Float) → 6 * p .count ≤ length xs → ys ≡ laid k p xs → written (p .count) (p .error) ys ≡ decomposition k radius xs
+  pub writes : (xs ys : List Float) → 6 * p .count ≤ length xs → ys ≡ laid 0 k p xs → written (p .count) (p .error) ys ≡ decomposition k radius xs
   unfolding decomposition
   writes xs ys h l = rw (← e, le-ltb (length xs) (6 * p .count) h) (ap (written (p .count) (p .error)) l)

@@ -1,5 +1,5 @@
 -- 01, "Pieces" and "The store": pieces written as kernels, "six floats each". Definitions only.
-use Prim.Native.Nat.{ℕ, _*_}
+use Prim.Native.Nat.{ℕ, _+_, _*_}
 use mathlib.Core.Bool.{cond}
 use mathlib.Core.List.{List}
 use lib.Dec.{ltb}
@@ -21,12 +21,12 @@ use Rattle.pieces.specs.Pieces.{decomposed, pieceAlpha}
 unfoldable pub pieceAt : Kernel → Pieces → ℕ → Kernel
 pieceAt k p i = record { c = k .c; sigma = getD (p .sigma) i nan; w = k .w ⊗ getD (p .coefficient) i nan; alpha = pieceAlpha (k .alpha) }
 
--- the pieces laid over the start of a run, in order
-abbrev pub layAt : Kernel → Pieces → ℕ → List Float → List Float
-layAt k p i xs = kernelSet xs i (pieceAt k p i)
+-- the pieces laid over a run in order, behind its first n kernels
+abbrev pub layAt : ℕ → Kernel → Pieces → ℕ → List Float → List Float
+layAt n k p i xs = kernelSet xs (n + i) (pieceAt k p i)
 
-unfoldable pub laid : Kernel → Pieces → List Float → List Float
-laid k p xs = times (layAt k p) (p .count) 0 xs
+unfoldable pub laid : ℕ → Kernel → Pieces → List Float → List Float
+laid n k p xs = times (layAt n k p) (p .count) 0 xs
 
 -- 0 or the refusal's number in 01's table, the count of pieces and the peak error, and the words of the run afterwards
 pub record Decomposition : Type 0 where
@@ -46,7 +46,7 @@ unfoldable pub decomposition : Kernel → Float → List Float → Decomposition
 decomposition k radius xs =
     cond (ltb (length xs) (6 * decomposed k radius .count))
     (refused ShortList xs)
-    (written (decomposed k radius .count) (decomposed k radius .error) (laid k (decomposed k radius) xs))
+    (written (decomposed k radius .count) (decomposed k radius .error) (laid 0 k (decomposed k radius) xs))
 
 -- 01's number and values for each case of the code's answer, with the words beside it
 abbrev pub decomposedAs : Decomposed → List Float → Decomposition

@@ -2,5 +2,6 @@ pub mod Fit
 pub mod Samples
 pub mod Pieces
 pub mod Kernels
+pub mod Lists
 pub mod PieceLaws
 pub mod Rows

@@ -1,6 +1,7 @@
 // A kernel's pieces as kernels, six floats each, in a run that the caller lends.
+// Internal: a function with a `requires` is called by proved code alone.
 ghost use mathlib.Core.Path.{_≡_};
-ghost use Prim.Native.Nat.{_*_, _<_, _≤_};
+ghost use Prim.Native.Nat.{_+_, _*_, _<_, _≤_};
 ghost use lib.ListN.{length};
 ghost use Rattle.pieces.specs.Kernels.{pieceAt, laid, decomposedAs, decomposition};
 use crate::pieces::Pieces;
@@ -30,15 +31,15 @@ fn piece_at(k: Kernel, p: Pieces, i: usize) -> Kernel
     }
 }
 
-// Writes the pieces to the start of a run.
-fn lay_pieces(out: &mut [f64], k: Kernel, p: Pieces)
-    requires { ⌜ (p .count ≤ 16) × (6 * p .count ≤ length (now out)) ⌝ }
-    ensures { λ _. ⌜ now (out .exit) ≡ laid k p (now (out .entry)) ⌝ }
+// Writes the pieces to a run, behind the first `at` kernels in it.
+pub fn lay_pieces(out: &mut [f64], at: usize, k: Kernel, p: Pieces)
+    requires { ⌜ (p .count ≤ 16) × (6 * (at + p .count) ≤ length (now out)) ⌝ }
+    ensures { λ _. ⌜ now (out .exit) ≡ laid at k p (now (out .entry)) ⌝ }
 {
     let count = p.count;
     let mut i = 0;
     while i < count {
-        write_kernel(out, i, piece_at(k, p, i));
+        write_kernel(out, at + i, piece_at(k, p, i));
         i += 1;
     }
 }
@@ -52,6 +53,6 @@ pub fn decompose_into(k: Kernel, radius: f64, out: &mut [f64]) -> Decomposed
     if out.len() < 6 * p.count {
         return Decomposed::Refused(Refusal::ShortList);
     }
-    lay_pieces(out, k, p);
+    lay_pieces(out, 0, k, p);
     Decomposed::Written(p.count, p.error)
 }

@@ -10,10 +10,10 @@ use Rattle.pieces.proofs.kernels.lay_pieces.Statement.{statement}
 use Rattle.pieces.proofs.kernels.lay_pieces.Tie as tie
 
 abbrev Inv-loop : tie.InvT-loop
-Inv-loop out₀ k p count i₀ out i = Left (layAt k p) count i out (laid k p out₀) × (length out ≡ length out₀)
+Inv-loop out₀ at k p count i₀ out i = Left (layAt at k p) count i out (laid at k p out₀) × (length out ≡ length out₀)
 
 abbrev μ-loop : tie.MeasureT-loop
-μ-loop out₀ k p count i₀ out i = count - i
+μ-loop out₀ at k p count i₀ out i = count - i
 
 loop-holds : tie.Need-loop-holds Inv-loop μ-loop
 unfolding laid
@@ -32,6 +32,7 @@ lay-pieces-spec =
     Inv-loop
     μ-loop
     loop-holds
+    (λ c. search needs)
     (λ c κs. search needs)
     (λ c κs. search needs)
     (λ c. search needs)
