@@ -1,7 +1,9 @@
-"""Makes body.obj and track.txt: a made-up body like a spinning top, and a straight track through it.
+"""Makes body.obj, track.txt and session.txt: a made-up body like a spinning top, a straight track through
+it, and lines for the program `bench` with the body and the kernels in metres.
 
-    python3 example/make.py        (writes both beside itself; kernels.txt is written by hand)
+    python3 example/make.py        (writes them beside itself; kernels.txt is written by hand)
 """
+import struct
 from math import cos, exp, pi, sin, sqrt
 from pathlib import Path
 
@@ -62,8 +64,43 @@ def mesh():
     return vertices, faces
 
 
+def hexadecimal(*xs):
+    return " ".join(struct.pack(">d", x).hex().upper() for x in xs)
+
+
+def kernels():
+    """In metres, as the library's own call makes them of the file's: c times 1000, sigma divided by 1000."""
+    default, found = 1.0, []
+    for line in (HERE / "kernels.txt").read_text().split("\n"):
+        words = line.split("#")[0].split()
+        if words[:1] == ["default"]:
+            default = float(words[1])
+        elif words:
+            x, y, z, sigma, w = map(float, words[:5])
+            found.append(([x * 1000, y * 1000, z * 1000], sigma / 1000, w, words[5]))
+    return [(c, sigma, w, default if alpha == "-" else float(alpha)) for c, sigma, w, alpha in found]
+
+
+def session(vertices, faces):
+    metres = [tuple(float("%.6f" % x) * 1000 for x in v) for v in vertices]
+    far = max(sqrt(x * x + y * y + z * z) for x, y, z in metres)
+    lines = ["(open (radius %s) (verts %d) (faces %d))" % (hexadecimal(far), len(vertices), len(faces))]
+    lines += ["(vert %s)" % hexadecimal(*v) for v in metres]
+    lines += ["(face %d %d %d)" % tuple(i - 1 for i in f) for f in faces]
+    put = "(put %d (c %s) (sigma %s) (w %s) (alpha %s))"
+    puts = [put % (i, hexadecimal(*c), hexadecimal(s), hexadecimal(w), hexadecimal(a))
+            for i, (c, s, w, a) in enumerate(kernels())]
+    mass = "(mass %s)" % hexadecimal(4.5e11, 1190.0)
+    lines += puts + ["(density (raw) %s)" % hexadecimal(0.0, 0.0, 0.0), "(report (raw))", "(advance 10000)", "(advance 20000)"]
+    lines += ["(report (raw))", "(report (rho0 %s))" % hexadecimal(1190.0), "(report %s)" % mass]
+    lines += ["(density %s %s)" % (mass, hexadecimal(230.0, 50.0, 190.0))]
+    lines += ["(reweigh 1 %s)" % hexadecimal(0.0), "(report %s)" % mass, "(clear 2)", puts[0].replace("put 0", "put 32"), "hello"]
+    return lines
+
+
 def main():
     vertices, faces = mesh()
+    (HERE / "session.txt").write_text("\n".join(session(vertices, faces)) + "\n")
     lines = ["# A made-up body like a spinning top, in kilometres; by make.py", "o body"]
     lines += ["v %.6f %.6f %.6f" % v for v in vertices]
     lines += ["f %d %d %d" % f for f in faces]

@@ -3,6 +3,7 @@
 //!   scripts SEED                      an input, mixed of good lines, other lines, hostile bytes, long lines and broken openings
 //!   scripts --answers                 what is printed for the input on standard input
 //!   scripts --cases [BENCH]           whether the machine, and the program BENCH, print what cases.txt says
+//!   scripts --held INPUT ANSWERS      whether the machine prints for the one file what stands in the other
 //!   scripts --stdin                   all those cases as one input
 //!   scripts --compare BENCH N SEED    runs the program BENCH on the inputs of N seeds and counts the lines that differ
 //!   scripts --long N                  N short lines, for timing
@@ -27,6 +28,7 @@ fn main() {
         }
         ["--cases"] => return run::cases(None),
         ["--cases", bench] => return run::cases(Some(bench)),
+        ["--held", input, answers] => return run::held(input, answers),
         ["--stdin"] => cases::as_one(),
         ["--compare", bench, n, seed] => return run::compare(bench, number(n), number(seed)),
         ["--long", n] => draw::long(number(n)),
@@ -39,7 +41,7 @@ fn main() {
 
 #[cfg(original)]
 fn usage() -> ! {
-    eprintln!("usage: scripts SEED | --answers | --cases [BENCH] | --stdin | --compare BENCH N SEED | --long N");
+    eprintln!("usage: scripts SEED | --answers | --cases [BENCH] | --held INPUT ANSWERS | --stdin | --compare BENCH N SEED | --long N");
     std::process::exit(2);
 }
 

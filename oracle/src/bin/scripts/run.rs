@@ -60,6 +60,15 @@ pub fn cases(bench: Option<&str>) {
     machine.end();
 }
 
+/// A stored input and its answers.
+pub fn held(input: &str, answers: &str) {
+    let read = |path: &str| std::fs::read(path).unwrap_or_else(|told| panic!("{path}: {told}"));
+    let mut tally = Tally::new();
+    hold(&mut tally, input, program::answers(&read(input)).as_bytes(), &read(answers));
+    tally.line("bench", "stored answers, by the machine", "");
+    tally.end();
+}
+
 /// The inputs of the seeds from `seed` on.
 pub fn compare(bench: &str, count: u64, seed: u64) {
     let mut tally = Tally::new();
