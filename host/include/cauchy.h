@@ -167,6 +167,12 @@ typedef struct CauchyPieces {
     double error;    /* the fit's greatest error, as a fraction of the kernel's peak */
 } CauchyPieces;
 
+typedef struct CauchyListPieces {
+    uint32_t no;
+    uint64_t kernels, pieces; /* kernels of the list, and pieces written */
+    double error;             /* the greatest error of a fit, 0 where none was needed */
+} CauchyListPieces;
+
 /* ---- The store ------------------------------------------------------------------------------------ */
 
 /* Makes two runs a store of this mesh and body radius, every place empty; what they held does not matter.
@@ -210,6 +216,10 @@ CauchyKernel cauchy_kernel_from_file(CauchyFileKernel kernel, double default_alp
 
 /* Writes a kernel's pieces, on a body of this radius, as a kernel list; 96 doubles are always enough. 9 */
 CauchyPieces cauchy_decompose(CauchyKernel kernel, double radius, double *out, size_t n_out);
+
+/* Writes the pieces of all kernels of a list, in its order. 96 doubles for each kernel are always enough, and
+ * spare the fits that count the pieces of a shorter run first.                                       9 */
+CauchyListPieces cauchy_decompose_list(const double *kernels, size_t n_kernels, double radius, double *out, size_t n_out);
 
 /* The density of a kernel list at a point.                                                           9 */
 CauchyValue cauchy_densitize(const double *kernels, size_t n_kernels, CauchyVector point);
@@ -258,7 +268,7 @@ CauchyKernels cauchy_source_calibrate(const double *xyz, size_t n_xyz, const uin
                                       const double *kernels, size_t n_kernels, double total, double mean, uint32_t given,
                                       double *out, size_t n_out);
 
-/* ---- Roots and powers of 01, never refused -------------------------------------------------------- */
+/* ---- Roots and powers of 01, and its radial factor, never refused --------------------------------- */
 
 double cauchy_root(double x);            /* the IEEE 754 square root */
 double cauchy_arc(double t);             /* arc tangent */
@@ -267,6 +277,7 @@ double cauchy_exp(double y);             /* 2 to the power y */
 double cauchy_power(double b, double y); /* b to the power y */
 double cauchy_ten(double y);             /* 10 to the power y */
 double cauchy_log10(double b);           /* logarithm to base 10 */
+double cauchy_radial_g(double t);        /* (t - arc(t)) / t^3, which is 1/3 at 0 */
 
 #ifdef __cplusplus
 }

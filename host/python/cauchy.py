@@ -123,6 +123,7 @@ StoreReport = _answer(
 Listed = _answer("Listed", ("pieces", c_uint32))
 Kernels = _answer("Kernels", ("kernels", c_uint64))
 Pieces = _answer("Pieces", ("pieces", c_uint64), ("error", c_double))
+ListPieces = _answer("ListPieces", ("kernels", c_uint64), ("pieces", c_uint64), ("error", c_double))
 
 # ---- The library ------------------------------------------------------------------------------------------
 
@@ -141,6 +142,7 @@ _PROTOTYPES = {
     "store_list": (Listed, *_STORE, Convention, *_FLOATS),
     "kernel_from_file": (Kernel, FileKernel, c_double),
     "decompose": (Pieces, Kernel, c_double, *_FLOATS),
+    "decompose_list": (ListPieces, *_FLOATS, c_double, *_FLOATS),
     "densitize": (Value, *_FLOATS, Vector),
     "solve": (c_uint32, c_size_t, *_FLOATS, *_FLOATS),
     "kernel_volume": (Value, *_MESH, Vector, c_double),
@@ -160,6 +162,7 @@ _PROTOTYPES = {
     "power": (c_double, c_double, c_double),
     "ten": (c_double, c_double),
     "log10": (c_double, c_double),
+    "radial_g": (c_double, c_double),
 }
 
 
@@ -329,6 +332,18 @@ def decompose(kernel, radius):
     return _kernels(out, answer.pieces), answer.error
 
 
+def decompose_list(kernels, radius):
+    """The pieces of all kernels, in their order, and the greatest error of a fit.
+
+    >>> pieces, error = decompose_list([Kernel((0, 0, 0), 0.01, 2, 1), Kernel((0, 0, 0), 0.01, 2, 2)], 500)
+    >>> len(pieces), pieces[0], error < 0.01
+    (14, Kernel((0.0, 0.0, 0.0), 0.01, 2.0, 1.0), True)
+    """
+    out = array("d", bytes(8 * 96 * len(kernels)))
+    answer = _call("decompose_list", *_list(kernels), radius, *_lend(out))
+    return _kernels(out, answer.pieces), answer.error
+
+
 def densitize(kernels, point):
     """The density of kernels at a point.
 
@@ -451,7 +466,7 @@ def source_calibrate(vertices, faces, kernels, total, mean=None):
     return _kernels(out, answer.kernels)
 
 
-# Roots and powers: floats in, floats out.
+# Roots and powers, and the radial factor: floats in, floats out.
 root = _library.cauchy_root
 arc = _library.cauchy_arc
 log = _library.cauchy_log
@@ -459,10 +474,13 @@ exp = _library.cauchy_exp
 power = _library.cauchy_power
 ten = _library.cauchy_ten
 log10 = _library.cauchy_log10
+radial_g = _library.cauchy_radial_g
 
 __test__ = {"numbers": """
 >>> root(4), log(8), exp(-2), power(2, 10), round(ten(2), 9), round(log10(1000), 12), round(arc(1), 12)
 (2.0, 3.0, 0.25, 1024.0, 100.0, 3.0, 0.785398163397)
+>>> radial_g(0) == 1 / 3
+True
 """}
 
 if __name__ == "__main__":

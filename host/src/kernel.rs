@@ -38,12 +38,12 @@ pub struct FileKernel {
     pub alpha: Option<f64>,
 }
 
-/// The pieces of a kernel, each of exponent 1 unless the kernel is its own only piece.
+/// The pieces of a kernel or of a list, each of exponent 1 unless a kernel is its own only piece.
 #[derive(Clone, Debug, PartialEq)]
 pub struct Pieces {
-    /// The pieces, at most [`MAX_PIECES`].
+    /// The pieces, at most [`MAX_PIECES`] of each kernel.
     pub kernels: Vec<Kernel>,
-    /// The greatest error of the fit, as a fraction of the kernel's peak.
+    /// The greatest error of a fit, as a fraction of its kernel's peak.
     pub error: f64,
 }
 
@@ -101,6 +101,29 @@ impl Kernel {
         let kernel = |k: &[f64; 6]| Kernel { c: [k[0], k[1], k[2]], sigma: k[3], w: k[4], alpha: k[5] };
         floats.as_chunks::<6>().0.iter().take(count).map(kernel).collect()
     }
+}
+
+/// The pieces of all kernels of a list, in its order, on a body of this radius.
+///
+/// ```
+/// use cauchy::{Kernel, pieces};
+///
+/// let flat = Kernel { c: [0.0; 3], sigma: 0.01, w: 2.0, alpha: 1.0 };
+/// let steep = Kernel { alpha: 2.0, ..flat };
+/// let both = pieces(&[flat, steep], 500.0)?;
+/// assert_eq!((both.kernels.len(), both.kernels[0]), (14, flat));
+/// assert_eq!(both.error, steep.pieces(500.0)?.error);
+/// # Ok::<(), cauchy::Refusal>(())
+/// ```
+pub fn pieces(kernels: &[Kernel], radius: f64) -> Result<Pieces, Refusal> {
+    let list = Kernel::flat(kernels);
+    let mut out = vec![0.0; MAX_PIECES * list.len()];
+    // SAFETY: two slices, borrowed for the call; the one that is written is new.
+    let told =
+        unsafe { sys::cauchy_decompose_list(list.as_ptr(), list.len(), radius, out.as_mut_ptr(), out.len()) };
+    Refusal::check(told.no)?;
+    let kernels = Kernel::listed(&out, told.pieces as usize);
+    Ok(Pieces { kernels, error: told.error })
 }
 
 /// The density of a list of kernels at a point.

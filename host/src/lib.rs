@@ -48,7 +48,7 @@ mod sys;
 
 pub use convention::Convention;
 pub use float_state::FloatState;
-pub use kernel::{FileKernel, Kernel, MAX_PIECES, Pieces, density};
+pub use kernel::{FileKernel, Kernel, MAX_PIECES, Pieces, density, pieces};
 pub use mesh::Mesh;
 pub use refusal::Refusal;
 pub use report::{MassReport, StoreReport};

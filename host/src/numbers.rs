@@ -1,4 +1,4 @@
-//! The specification's roots and powers, in place of the platform's.
+//! The specification's roots and powers, in place of the platform's, and its radial factor.
 use crate::sys;
 
 /// The IEEE 754 square root.
@@ -63,4 +63,13 @@ pub fn ten(y: f64) -> f64 {
 /// ```
 pub fn log10(b: f64) -> f64 {
     sys::cauchy_log10(b)
+}
+
+/// (t − arc t) / t³, which is 1/3 at 0: the radial factor that a kernel's volume is summed with.
+///
+/// ```
+/// assert_eq!(cauchy::numbers::radial_g(0.0), 1.0 / 3.0);
+/// ```
+pub fn radial_g(t: f64) -> f64 {
+    sys::cauchy_radial_g(t)
 }

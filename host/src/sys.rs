@@ -99,6 +99,14 @@ pub struct Pieces {
     pub error: f64,
 }
 
+#[repr(C)]
+pub struct ListPieces {
+    pub no: u32,
+    pub kernels: u64,
+    pub pieces: u64,
+    pub error: f64,
+}
+
 // Each run is a pointer and a count of elements. The functions end and stay within their runs for all
 // lengths and contents, so a call is sound where its slices are: Rust's references are aligned,
 // initialised and, where they are written, unshared.
@@ -171,6 +179,13 @@ unsafe extern "C" {
 
     pub safe fn cauchy_kernel_from_file(kernel: FileKernel, default_alpha: f64) -> Kernel;
     pub fn cauchy_decompose(kernel: Kernel, radius: f64, out: *mut f64, n_out: usize) -> Pieces;
+    pub fn cauchy_decompose_list(
+        kernels: *const f64,
+        n_kernels: usize,
+        radius: f64,
+        out: *mut f64,
+        n_out: usize,
+    ) -> ListPieces;
     pub fn cauchy_densitize(kernels: *const f64, n_kernels: usize, point: Vector) -> Value;
     pub fn cauchy_solve(
         n: usize,
@@ -253,4 +268,5 @@ unsafe extern "C" {
     pub safe fn cauchy_power(b: f64, y: f64) -> f64;
     pub safe fn cauchy_ten(y: f64) -> f64;
     pub safe fn cauchy_log10(b: f64) -> f64;
+    pub safe fn cauchy_radial_g(t: f64) -> f64;
 }

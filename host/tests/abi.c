@@ -238,6 +238,29 @@ static void list_store(void) {
     CHECK(cauchy_decompose(steep(), 4 * radius, pieces, 13 * 6).error != p.error);
 }
 
+/* the list that the store has, from its two kernels */
+static void decompose_lists(void) {
+    double two[12], out[16 * 12 + 1];
+    double error = floats[1 + 7 * 31 + 6];
+    write_kernel(two, steep());
+    write_kernel(two + 6, flat());
+    for (int i = 0; i < 16 * 12 + 1; i++) out[i] = 900 + i;
+    CauchyListPieces p = cauchy_decompose_list(two, 11, radius, out, 14 * 6);
+    CHECK(p.no == CAUCHY_SHORT_LIST && p.kernels == 0 && p.pieces == 0 && p.error == 0);
+    p = cauchy_decompose_list(two, 12, radius, out, 14 * 6 - 1);
+    CHECK(p.no == CAUCHY_SHORT_LIST && p.kernels == 0 && p.pieces == 0 && p.error == 0);
+    for (int i = 0; i < 16 * 12 + 1; i++) CHECK(out[i] == 900 + i);
+    /* a run of just the pieces, and one that is never too short */
+    for (size_t room = 14 * 6; room <= 16 * 12; room += 16 * 12 - 14 * 6) {
+        p = cauchy_decompose_list(two, 12, radius, out, room);
+        CHECK(p.no == 0 && p.kernels == 2 && p.pieces == 14 && p.error == error);
+        CHECK(!memcmp(out, list + 6, 13 * 6 * sizeof(double)) && !memcmp(out + 13 * 6, list, 6 * sizeof(double)));
+        for (int i = 14 * 6; i < 16 * 12 + 1; i++) CHECK(out[i] == 900 + i);
+    }
+    p = cauchy_decompose_list(NULL, 0, radius, NULL, 0);
+    CHECK(p.no == 0 && p.kernels == 0 && p.pieces == 0 && p.error == 0);
+}
+
 static void check_report(CauchyConvention v, double bulk, double target) {
     CauchyStoreReport r = cauchy_store_report(floats, N_FLOATS, words, N_WORDS, v);
     double raw = mass_of(list, 14), rho0 = bulk / density_of(list, 14, 0, 0, 0);
@@ -372,6 +395,7 @@ static void numbers(void) {
     CHECK(near(cauchy_log(0.3), log2(0.3), 1e-15) && near(cauchy_exp(2.3), exp2(2.3), 1e-15));
     CHECK(near(cauchy_power(3, 0.7), pow(3, 0.7), 1e-14) && near(cauchy_ten(0.6), pow(10, 0.6), 1e-14));
     CHECK(near(cauchy_log10(0.02), log10(0.02), 1e-15));
+    CHECK(cauchy_radial_g(0) == 1.0 / 3 && near(cauchy_radial_g(2), (2 - atan(2)) / 8, 1e-15));
 }
 
 int main(void) {
@@ -379,6 +403,7 @@ int main(void) {
     put_clear_reweigh();
     advance();
     list_store();
+    decompose_lists();
     readings();
     kernels();
     meshes();

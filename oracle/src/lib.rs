@@ -1,5 +1,5 @@
-//! The proved functions of 01's "Roots and powers", as libcauchy.a exports them, and what a comparison needs: one NaN, distances in
-//! ulp, inputs that can be repeated. [`steps`] works 01's steps a second time, sharing nothing with the proved code.
+//! The proved functions of 01's "Roots and powers" and `radial_g`, as libcauchy.a exports them, and what a comparison needs: one NaN,
+//! distances in ulp, inputs that can be repeated. [`steps`] works 01's steps a second time, sharing nothing with the proved code.
 pub mod cases;
 #[cfg(original)]
 pub mod conventions;
@@ -38,6 +38,7 @@ unsafe extern "C" {
     pub safe fn cauchy_power(b: f64, y: f64) -> f64;
     pub safe fn cauchy_ten(y: f64) -> f64;
     pub safe fn cauchy_log10(b: f64) -> f64;
+    pub safe fn cauchy_radial_g(t: f64) -> f64;
 }
 
 /// The bits by which results are compared: every NaN counts as one (01), signs of zero and infinity do not.

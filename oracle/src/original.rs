@@ -100,6 +100,11 @@ pub mod native_platform {
 /// The doors to a source module's private functions. Kernels are six floats each, triangles the corners of the faces in face order.
 macro_rules! source_doors {
     () => {
+        /// `radial_g`.
+        pub fn radial(t: f64) -> f64 {
+            radial_g(t)
+        }
+
         fn kernels_of(list: &[f64]) -> Vec<Kernel> {
             list.chunks_exact(6).map(|k| Kernel { c: [k[0], k[1], k[2]], sigma: k[3], w: k[4], alpha: k[5] }).collect()
         }

@@ -30,9 +30,20 @@ pub struct Pieces {
     pub error: f64,
 }
 
+/// What the decomposition of a list answers: the kernels of the list too, and the greatest of the peak errors.
+#[repr(C)]
+#[derive(Clone, Copy, Debug)]
+pub struct ListPieces {
+    pub no: u32,
+    pub kernels: u64,
+    pub pieces: u64,
+    pub error: f64,
+}
+
 unsafe extern "C" {
     fn cauchy_solve(n: usize, cells: *const f64, cells_len: usize, answer: *mut f64, answer_len: usize) -> u32;
     fn cauchy_decompose(k: Kernel, radius: f64, out: *mut f64, out_len: usize) -> Pieces;
+    fn cauchy_decompose_list(kernels: *const f64, kernels_len: usize, radius: f64, out: *mut f64, out_len: usize) -> ListPieces;
     /// One file kernel in metres.
     pub safe fn cauchy_kernel_from_file(k: FileKernel, default_alpha: f64) -> Kernel;
 }
@@ -49,4 +60,11 @@ pub fn solve(n: usize, cells: &[f64], answer: &mut [f64]) -> u32 {
 pub fn decompose(k: Kernel, radius: f64, out: &mut [f64]) -> Pieces {
     // SAFETY: a run of this length, which no other holds.
     unsafe { cauchy_decompose(k, radius, out.as_mut_ptr(), out.len()) }
+}
+
+/// The pieces of a list of kernels, six floats each.
+#[inline]
+pub fn decompose_list(kernels: &[f64], radius: f64, out: &mut [f64]) -> ListPieces {
+    // SAFETY: two runs of these lengths, and no other holds the second.
+    unsafe { cauchy_decompose_list(kernels.as_ptr(), kernels.len(), radius, out.as_mut_ptr(), out.len()) }
 }

@@ -13,12 +13,15 @@ use Rattle.solve.specs.declared.Solve.the-variants as solving
 use Rattle.solve.specs.Solve.{solvedAs}
 use Rattle.pieces.specs.declared.kernels.Decomposed.{Decomposed}
 use Rattle.pieces.specs.declared.kernels.Decomposed.the-variants as decomposing
+use Rattle.pieces.specs.declared.lists.DecomposedList.{DecomposedList}
+use Rattle.pieces.specs.declared.lists.DecomposedList.the-variants as listing
 use Rattle.pieces.specs.Kernels.{decomposedAs}
+use Rattle.pieces.specs.Lists.{listedAs}
 use Rattle.source.specs.declared.weights.Outcome.{Outcome}
 use Rattle.source.specs.declared.weights.Outcome.the-variants as writing
 use Rattle.source.specs.Outcomes.{After, outcomeAs}
 use Rattle.cauchy.specs.Sources.{kernelsOf, told, landed}
-use Rattle.cauchy.specs.Crossing.{solveNumber, solutionOf, piecesOf, decompositionOf}
+use Rattle.cauchy.specs.Crossing.{solveNumber, solutionOf, piecesOf, decompositionOf, listPiecesOf, listDecompositionOf}
 
 pub solves : (s : Solve) (xs : List Float) → solutionOf (solveNumber s) xs ≡ solvedAs s xs
 solves solving.Solved xs = refl
@@ -27,6 +30,10 @@ solves (solving.Refused r) xs = refl
 pub decomposes : (d : Decomposed) (xs : List Float) → decompositionOf (piecesOf d) xs ≡ decomposedAs d xs
 decomposes (decomposing.Written n e) xs = refl
 decomposes (decomposing.Refused r) xs = refl
+
+pub list-decomposes : (d : DecomposedList) (xs : List Float) → listDecompositionOf (listPiecesOf d) xs ≡ listedAs d xs
+list-decomposes (listing.Written n m e) xs = refl
+list-decomposes (listing.Refused r) xs = refl
 
 -- no refusal has the number 0
 numbered : (r : Refusal) → eqb (number r) 0 ≡ false

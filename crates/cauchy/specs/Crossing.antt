@@ -15,9 +15,13 @@ use Rattle.solve.specs.declared.Solve.the-variants as solving
 use Rattle.solve.specs.Solve.{Solution}
 use Rattle.pieces.specs.declared.kernels.Decomposed.{Decomposed}
 use Rattle.pieces.specs.declared.kernels.Decomposed.the-variants as decomposing
+use Rattle.pieces.specs.declared.lists.DecomposedList.{DecomposedList}
+use Rattle.pieces.specs.declared.lists.DecomposedList.the-variants as listing
 use Rattle.pieces.specs.Kernels.{Decomposition}
+use Rattle.pieces.specs.Lists.{ListDecomposition}
 use Rattle.cauchy.specs.declared.kernels.CauchyFileKernel.{CauchyFileKernel}
 use Rattle.cauchy.specs.declared.kernels.CauchyPieces.{CauchyPieces}
+use Rattle.cauchy.specs.declared.kernels.CauchyListPieces.{CauchyListPieces}
 
 -- ---- the solver
 abbrev pub solveNumber : Solve → ℕ
@@ -43,3 +47,11 @@ piecesOf (decomposing.Refused r) = record { no = number r; pieces = 0; error = +
 -- what C gets, with the words of the run
 abbrev pub decompositionOf : CauchyPieces → List Float → Decomposition
 decompositionOf p xs = record { refusal = p .no; pieces = p .pieces; error = p .error; words = xs }
+
+-- ---- a list's pieces
+abbrev pub listPiecesOf : DecomposedList → CauchyListPieces
+listPiecesOf (listing.Written n m e) = record { no = 0; kernels = n; pieces = m; error = e }
+listPiecesOf (listing.Refused r) = record { no = number r; kernels = 0; pieces = 0; error = +0 }
+
+abbrev pub listDecompositionOf : CauchyListPieces → List Float → ListDecomposition
+listDecompositionOf p xs = record { refusal = p .no; kernels = p .kernels; pieces = p .pieces; error = p .error; words = xs }

@@ -1,9 +1,10 @@
-// The solver, one file kernel and a kernel's pieces for C callers. A run crosses as a pointer and a
-// count of words.
+// The solver, one file kernel, and the pieces of a kernel or of a list for C callers. A run crosses as a
+// pointer and a count of words.
 ghost use mathlib.Core.Path.{_≡_};
 ghost use Rattle.solve.specs.Solve.{solution};
 ghost use Rattle.pieces.specs.Kernels.{decomposition};
-ghost use Rattle.cauchy.specs.Crossing.{solveNumber, solutionOf, exponentOf, crossedKernel, piecesOf, decompositionOf};
+ghost use Rattle.pieces.specs.Lists.{listDecomposition};
+ghost use Rattle.cauchy.specs.Crossing.{solveNumber, solutionOf, exponentOf, crossedKernel, piecesOf, decompositionOf, listPiecesOf, listDecompositionOf};
 use base::refusal::refusal_number;
 use kernel::file::Exponent;
 use kernel::file::Kilometres;
@@ -11,6 +12,8 @@ use kernel::file::kernel_from_file;
 use kernel::kernel::Kernel;
 use pieces::kernels::Decomposed;
 use pieces::kernels::decompose_into;
+use pieces::lists::DecomposedList;
+use pieces::lists::decompose_list;
 use solve::Solve;
 use solve::solve_linear_system;
 
@@ -29,6 +32,16 @@ pub struct CauchyFileKernel {
 #[repr(C)]
 pub struct CauchyPieces {
     pub no: u32,
+    pub pieces: u64,
+    pub error: f64,
+}
+
+// What the decomposition of a list answers: 01's number, the counts of kernels and pieces, and the
+// greatest of the fits' peak errors.
+#[repr(C)]
+pub struct CauchyListPieces {
+    pub no: u32,
+    pub kernels: u64,
     pub pieces: u64,
     pub error: f64,
 }
@@ -97,4 +110,40 @@ pub extern "C" fn cauchy_decompose(k: Kernel, radius: f64, out: &mut [f64]) -> C
     ensures { λ r. ⌜ decompositionOf r (now (out .exit)) ≡ decomposition k radius (now (out .entry)) ⌝ }
 {
     pieces_of(decompose_into(k, radius, out))
+}
+
+fn list_pieces_of(d: DecomposedList) -> CauchyListPieces
+    ensures { λ r. ⌜ r ≡ listPiecesOf d ⌝ }
+{
+    match d {
+        DecomposedList::Written {
+            kernels,
+            pieces,
+            error,
+        } => CauchyListPieces {
+            no: 0,
+            kernels: kernels as u64,
+            pieces: pieces as u64,
+            error,
+        },
+        DecomposedList::Refused(r) => CauchyListPieces {
+            no: refusal_number(r),
+            kernels: 0,
+            pieces: 0,
+            error: 0.0,
+        },
+    }
+}
+
+// Writes the pieces of all kernels of a list, in its order, as kernels of six floats each; 9 where the
+// list is not of sixes, or the run is too short for the pieces.
+#[no_mangle]
+pub extern "C" fn cauchy_decompose_list(
+    kernels: &[f64],
+    radius: f64,
+    out: &mut [f64],
+) -> CauchyListPieces
+    ensures { λ r. ⌜ listDecompositionOf r (now (out .exit)) ≡ listDecomposition (now (kernels .entry)) radius (now (out .entry)) ⌝ }
+{
+    list_pieces_of(decompose_list(kernels, radius, out))
 }

@@ -1,4 +1,4 @@
-// 01's roots and powers as C functions on plain numbers, double to double.
+// 01's roots and powers, and `radial_g`, as C functions on plain numbers, double to double.
 ghost use mathlib.Core.Path.{_≡_};
 ghost use lib.Ieee.{binary64};
 ghost use Rattle.root.specs.Root.{squareRoot};
@@ -6,6 +6,7 @@ ghost use Rattle.powers.specs.Arc.{arc};
 ghost use Rattle.powers.specs.Log.{log};
 ghost use Rattle.powers.specs.Exp.{exp};
 ghost use Rattle.powers.specs.Power.{power, tenTo, log10};
+ghost use Rattle.radial.specs.Radial.{radialG};
 
 // The square root.
 #[no_mangle]
@@ -61,4 +62,12 @@ pub extern "C" fn cauchy_log10(b: f64) -> f64
     ensures { λ r. ⌜ r ≡ log10 b ⌝ }
 {
     powers::power::log10(b)
+}
+
+// g(t) = (t - A(t)) / t³, the radial factor that a kernel's volume is summed with.
+#[no_mangle]
+pub extern "C" fn cauchy_radial_g(t: f64) -> f64
+    ensures { λ r. ⌜ r ≡ radialG t ⌝ }
+{
+    radial::radial_g(t)
 }

@@ -2,7 +2,7 @@
 use mathlib.Core.Path.{_≡_, refl, sym, ap, _∙_}
 use mathlib.Core.List.{List, [], _∷_, _++_}
 use Prim.Native.Nat.{ℕ, zero, suc, _+_, _*_, _-_, _≤_, _<_, min}
-use native.Mathlib.Nat.{suc-mul, zero-mul, suc-add, zero-add, add-zero}
+use native.Mathlib.Nat.{suc-mul, zero-mul, suc-add, zero-add, add-zero, sub-zero}
 use native.Mathlib.Omega.{arith}
 use lib.ListN.{getD, replicate}
 use lib.Ieee.{Float, nan}
@@ -29,10 +29,11 @@ module _ (m : Mesh) (k : Kernel) (fit : Pieces) where
   cells-zero h zero j t l b e = refl
   cells-zero h (suc n) j t l b e =
       let r = cells-zero h n (suc j) (t - m .faces) (omega arith) (omega arith) (omega arith) in
-      rw (none-done (getD (fit .sigma) j nan) t e, h .no-sigma j l (omega arith), h .no-coefficient j l (omega arith), r) refl
+      let q : suc n * 3 ≡ suc (suc (suc (n * 3))) = omega arith in
+      rw (none-done (getD (fit .sigma) j nan) t e, h .no-sigma j l (omega arith), h .no-coefficient j l (omega arith), r, q) refl
 
   cells-split : (a b j t : ℕ) → cells m k fit (a + b) j t ≡ cells m k fit a j t ++ cells m k fit b (j + a) (t - a * m .faces)
-  cells-split zero b j t = rw (zero-add b, zero-mul (m .faces), add-zero j) refl
+  cells-split zero b j t = rw (zero-add b, zero-mul (m .faces), sub-zero t, add-zero j) refl
   cells-split (suc a) b j t =
       let e : t - m .faces - a * m .faces ≡ t - suc a * m .faces = rw (suc-mul a (m .faces)) (omega arith) in
       let f : suc j + a ≡ j + suc a = omega arith in

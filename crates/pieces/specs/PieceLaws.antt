@@ -20,7 +20,7 @@ use Rattle.powers.specs.Power.{power, log10}
 use Rattle.solve.specs.Elimination.{flat, eliminated}
 use Rattle.solve.specs.Solve.{answers}
 use Rattle.pieces.specs.Fit.{zeros, scalesOf, sampleOf, targetOf, coefficientsOf, approx, errorAt, peakError}
-use Rattle.pieces.specs.Pieces.{delta, stays, sizeOf, curveOf, none, itself, keep, keepAt, kept, fitted, decomposed}
+use Rattle.pieces.specs.Pieces.{delta, stays, sizeOf, curveOf, none, itself, keep, keepAt, kept, fitted, decomposed, pieceAlpha}
 use Rattle.kernel.specs.declared.kernel.Kernel.{Kernel}
 use Rattle.pieces.specs.declared.points.Curve.{Curve}
 use Rattle.pieces.specs.declared.pieces.Size.{Size}
@@ -171,6 +171,15 @@ error-at-least-zero k radius =
 pub stays-itself : (k : Kernel) (radius : Float) → stays (k .alpha) ≡ true → decomposed k radius ≡ itself k
 unfolding decomposed
 stays-itself k radius h = rw h refl
+
+-- every piece has an exponent within 1e-9 of 1, so that the volumes of exponent 1 are its own
+pub piece-stays : (alpha : Float) → stays (pieceAlpha alpha) ≡ true
+unfolding pieceAlpha abs sub ofBits le lt
+piece-stays alpha = go (stays alpha) refl
+  where
+    go : (b : Bool) → stays alpha ≡ b → stays (cond b alpha one) ≡ true
+    go true e = e
+    go false e = refl
 
 -- ---- what they do not depend on
 

@@ -1,8 +1,9 @@
+use crate::lists::lists;
 use oracle::cases::{self, Cells, Exponent};
 use oracle::inputs::{self, Rng};
 use oracle::original::native::{self, CauchyKernel, KernelSi};
 use oracle::pattern;
-use oracle::pieces::{self, FileKernel, Kernel};
+use oracle::pieces::{self, FileKernel, Kernel, Pieces};
 use oracle::tally::{Plan, Tally};
 
 pub fn run() {
@@ -15,6 +16,7 @@ pub fn run() {
     for (i, (name, exponent)) in cases::EXPONENTS.iter().enumerate() {
         total.add(decompositions(name, *exponent, plan.count(400, 12_500), plan.rng(200 + i)));
     }
+    total.add(lists(plan.count(2_000, 20_000), plan.rng(250)));
     total.add(file_kernels(plan.count(100_000, 2_000_000), plan.rng(300)));
     total.add(sizes(plan.count(100_000, 2_000_000), plan.rng(400)));
     total.end();
@@ -120,25 +122,29 @@ fn decompositions(name: &str, exponent: Exponent, count: u64, mut r: Rng) -> Tal
     tally
 }
 
-fn kernel(r: &mut Rng, alpha: f64) -> Kernel {
+pub fn kernel(r: &mut Rng, alpha: f64) -> Kernel {
     let c = [(); 3].map(|()| cases::value(r, 400.0));
     let sigma = cases::length(r, 0.004);
     let w = cases::value(r, 2000.0);
     Kernel { c, sigma, w, alpha }
 }
 
-/// One call of decompose: what it tells, what it writes, and what it leaves. A refusal tells nothing but its number.
 fn decompose_differs(k: Kernel, radius: f64, list: &[KernelSi], error: f64, before: &[f64]) -> bool {
     let mut out = before.to_vec();
     let told = pieces::decompose(k, radius, &mut out);
+    let refused = before.len() < 6 * list.len();
+    pieces_differ(told, &out, if refused { None } else { Some((list, error)) }, before)
+}
+
+/// What a call tells, what it writes, and what it leaves, held to the text's pieces and error, or to refusal 9, which tells nothing
+/// but its number.
+pub fn pieces_differ(told: Pieces, out: &[f64], text: Option<(&[KernelSi], f64)>, before: &[f64]) -> bool {
+    let (list, error) = text.unwrap_or((&[], 0.0));
     let written: Vec<f64> = list.iter().flat_map(|p| [p.c[0], p.c[1], p.c[2], p.sigma, p.w, p.alpha]).collect();
-    let refused = before.len() < written.len();
-    let (no, count, error) = if refused { (9, 0, 0.0) } else { (0, list.len() as u64, error) };
-    let written = if refused { &[] } else { &written[..] };
-    told.no != no
-        || told.pieces != count
+    told.no != if text.is_none() { 9 } else { 0 }
+        || told.pieces != list.len() as u64
         || pattern(told.error) != pattern(error)
-        || written.iter().zip(&out).any(|(x, y)| pattern(*x) != pattern(*y))
+        || written.iter().zip(out).any(|(x, y)| pattern(*x) != pattern(*y))
         || out.iter().zip(before).skip(written.len()).any(|(x, y)| x.to_bits() != y.to_bits())
 }
 

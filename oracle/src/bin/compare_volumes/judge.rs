@@ -1,10 +1,10 @@
 use oracle::cases::{self, one};
-use oracle::inputs::Rng;
+use oracle::inputs::{self, Rng};
 use oracle::meshes::{self, Draw, Mesh};
 use oracle::original::{native, source};
-use oracle::pattern;
 use oracle::tally::{Plan, Tally};
 use oracle::volumes::{self, Kernels, Value};
+use oracle::{cauchy_radial_g, pattern};
 
 pub fn run() {
     let plan = Plan::read("compare_volumes");
@@ -13,8 +13,27 @@ pub fn run() {
         total.add(family(name, *draw, plan.count(100, 4_000), plan.rng(i)));
     }
     total.add(family("refused, or nearly", meshes::faulty, plan.count(500, 12_000), plan.rng(100)));
+    total.add(radial_factors(plan.count(100_000, 2_000_000), plan.rng(150)));
     total.add(limits(plan.count(0, 1) == 1, plan.rng(200)));
     total.end();
+}
+
+/// `radial_g`, held to both texts.
+fn radial_factors(count: u64, mut r: Rng) -> Tally {
+    let mut tally = Tally::new();
+    for _ in 0..count {
+        let t = match r.below(5) {
+            0 => inputs::any(&mut r),
+            1 => cases::odd(&mut r),
+            2 => r.within(-0.2, 0.2),
+            3 => cases::near(&mut r, 0.1, 1000),
+            _ => r.spread(-30, 30),
+        };
+        let told = pattern(cauchy_radial_g(t));
+        tally.count(told != pattern(native::radial_g(t)) || told != pattern(source::radial(t)), || format!("{t:?}"));
+    }
+    tally.line("radial", "native and source", "");
+    tally
 }
 
 /// The arguments of one call of each function.
