@@ -29,7 +29,7 @@ fn main() {
         ["--cases", bench] => return run::cases(Some(bench)),
         ["--stdin"] => cases::as_one(),
         ["--compare", bench, n, seed] => return run::compare(bench, number(n), number(seed)),
-        ["--long", n] => draw::long(number(n)),
+        ["--long", n] => oracle::program::long(number(n)),
         [seed] => draw::script(number(seed)).input,
         _ => usage(),
     };
