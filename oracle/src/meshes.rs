@@ -100,7 +100,11 @@ fn cuboid(r: &mut Rng) -> Mesh {
 
 /// A sphere about the origin of so many rings from pole to pole, 4·rings·(rings - 1) faces.
 pub fn sphere(radius: f64, rings: usize) -> Mesh {
-    let around = 2 * rings;
+    globe(radius, rings, 2 * rings)
+}
+
+/// The same of so many vertices a ring, 2·around·(rings - 1) faces.
+pub fn globe(radius: f64, rings: usize, around: usize) -> Mesh {
     let mut mesh = Mesh::default();
     for i in 0..=rings {
         let theta = std::f64::consts::PI * i as f64 / rings as f64;

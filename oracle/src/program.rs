@@ -2,6 +2,7 @@
 //! nothing with the proved code: roots and powers are the second transcription's, all else is the original's own text.
 use crate::conventions::Convention;
 use crate::histories::{Answer, Call, Model};
+use crate::inputs::{self, Rng};
 use crate::machine::{Machine, open_number, room};
 use crate::pattern;
 use crate::pieces::Kernel;
@@ -303,4 +304,28 @@ pub fn lines(input: &[u8]) -> impl Iterator<Item = &[u8]> {
 pub fn answers(input: &[u8]) -> String {
     let mut program = Program::default();
     lines(input).filter_map(|line| program.line(line)).map(|answer| answer + "\n").collect()
+}
+
+/// So many short lines on a small body.
+pub fn long(count: u64) -> Vec<u8> {
+    let mut r = Rng(1);
+    let unit = |i: usize| [0, 1, 2].map(|k| if i == k { "3FF0000000000000" } else { "0000000000000000" }).join(" ");
+    let mut lines = vec!["(open (radius 3FF0000000000000) (verts 4) (faces 4))".to_string()];
+    lines.extend((0..4).map(|i| format!("(vert {})", unit(i))));
+    lines.extend(["0 1 2", "0 3 1", "1 3 2", "2 3 0"].map(|f| format!("(face {f})")));
+    let kernel = format!("(c {}) (sigma 3FF0000000000000) (w 4000000000000000) (alpha 3FF0000000000000)", unit(3));
+    while (lines.len() as u64) < count {
+        let place = r.below(33);
+        lines.push(match r.below(8) {
+            0 => format!("(put {place} {kernel})"),
+            1 => format!("(clear {place})"),
+            2 => format!("(reweigh {place} {:016X})", inputs::positive(&mut r).to_bits()),
+            3 | 4 => format!("(advance {})", r.below(4)),
+            5 => format!("(density (raw) {})", unit(r.below(4) as usize)),
+            6 => "(report (raw))".into(),
+            _ => format!("(advance 0{place})"),
+        });
+    }
+    lines.truncate(count as usize);
+    (lines.join("\n") + "\n").into_bytes()
 }

@@ -2,7 +2,7 @@
 use crate::cases;
 use oracle::cases::one;
 use oracle::histories::{self, Body, Call, Places};
-use oracle::inputs::{self, Rng};
+use oracle::inputs::Rng;
 use oracle::meshes;
 use oracle::program::{FACES, Program, VERTS};
 
@@ -241,28 +241,4 @@ fn change(r: &mut Rng, line: &mut Vec<u8>) {
             line.splice(from..from + count, number.bytes());
         }
     }
-}
-
-/// So many short lines on a small body.
-pub fn long(count: u64) -> Vec<u8> {
-    let mut r = Rng(1);
-    let unit = |i: usize| [0, 1, 2].map(|k| if i == k { "3FF0000000000000" } else { "0000000000000000" }).join(" ");
-    let mut lines = vec!["(open (radius 3FF0000000000000) (verts 4) (faces 4))".to_string()];
-    lines.extend((0..4).map(|i| format!("(vert {})", unit(i))));
-    lines.extend(["0 1 2", "0 3 1", "1 3 2", "2 3 0"].map(|f| format!("(face {f})")));
-    let kernel = format!("(c {}) (sigma 3FF0000000000000) (w 4000000000000000) (alpha 3FF0000000000000)", unit(3));
-    while (lines.len() as u64) < count {
-        let place = r.below(33);
-        lines.push(match r.below(8) {
-            0 => format!("(put {place} {kernel})"),
-            1 => format!("(clear {place})"),
-            2 => format!("(reweigh {place} {:016X})", inputs::positive(&mut r).to_bits()),
-            3 | 4 => format!("(advance {})", r.below(4)),
-            5 => format!("(density (raw) {})", unit(r.below(4) as usize)),
-            6 => "(report (raw))".into(),
-            _ => format!("(advance 0{place})"),
-        });
-    }
-    lines.truncate(count as usize);
-    (lines.join("\n") + "\n").into_bytes()
 }

@@ -31,7 +31,7 @@ fn main() {
         ["--held", input, answers] => return run::held(input, answers),
         ["--stdin"] => cases::as_one(),
         ["--compare", bench, n, seed] => return run::compare(bench, number(n), number(seed)),
-        ["--long", n] => draw::long(number(n)),
+        ["--long", n] => oracle::program::long(number(n)),
         [seed] => draw::script(number(seed)).input,
         _ => usage(),
     };

@@ -1,0 +1,62 @@
+//! The largest store: the soundness check that every call makes reads each corner once, and an opening copies and reads the mesh.
+use crate::lent::{Lent, RADIUS};
+use crate::table::{Bench, Row, Way};
+use oracle::machine::{FACES, VERTS};
+use oracle::store;
+use std::cell::RefCell;
+use std::rc::Rc;
+
+pub fn rows(bench: &mut Bench) {
+    let xyz = Rc::new(vec![0.5; 3 * VERTS]);
+    let corners: Rc<Vec<u32>> = Rc::new((0..3 * FACES).map(|i| (i * 7 % VERTS) as u32).collect());
+    let lent = Rc::new(RefCell::new(Lent::open(&xyz, &corners)));
+    let [of_advance, of_clear, of_open] = [(); 3].map(|()| lent.clone());
+    let [of_max, of_wide] = [(); 2].map(|()| lent.clone());
+    let most = bench.way(Way::new(1, move || greatest(&of_max.borrow().words[98..])));
+    let wide = bench.way(Way::new(1, move || greatest_wide(&of_wide.borrow().words[98..])));
+    let advance = bench.way(Way::new(1, move || of_advance.borrow_mut().advance(0)));
+    let clear = bench.way(Way::new(1, move || {
+        let Lent { floats, words } = &mut *of_clear.borrow_mut();
+        assert_eq!(store::clear(floats, words, 5), 7);
+    }));
+    let copy = bench.way(copy(&lent, &xyz, &corners));
+    let open = bench.way(Way::new(1, move || {
+        let Lent { floats, words } = &mut *of_open.borrow_mut();
+        assert_eq!(store::open(floats, words, RADIUS, &xyz, &corners).no, 0);
+    }));
+    bench.row(Row::new("the check: an advance of 0, largest mesh, against a plain max", advance).platform(most).within(1.2));
+    bench.row(Row::new("the check: a refused clear, largest mesh, against a plain max", clear).platform(most).within(1.2));
+    bench.row(Row::new("the check: an advance of 0, largest mesh, against a max by AVX2", advance).platform(wide));
+    bench.row(Row::new("open, largest mesh, against a plain max and copy", open).platform(copy));
+}
+
+/// Built as the archive is: for SSE2, which has no instruction for it.
+#[inline(never)]
+fn greatest(words: &[u32]) -> Option<u32> {
+    words.iter().copied().max()
+}
+
+/// The same where the processor may use wider instructions: then the memory alone decides.
+fn greatest_wide(words: &[u32]) -> Option<u32> {
+    #[target_feature(enable = "avx2")]
+    fn wide(words: &[u32]) -> Option<u32> {
+        words.iter().copied().max()
+    }
+    if std::arch::is_x86_feature_detected!("avx2") {
+        // SAFETY: the processor has them.
+        unsafe { wide(words) }
+    } else {
+        greatest(words)
+    }
+}
+
+/// What an opening cannot do without.
+fn copy(lent: &Rc<RefCell<Lent>>, xyz: &Rc<Vec<f64>>, corners: &Rc<Vec<u32>>) -> Way {
+    let (lent, xyz, corners) = (lent.clone(), xyz.clone(), corners.clone());
+    Way::new(1, move || {
+        let Lent { floats, words } = &mut *lent.borrow_mut();
+        assert!(greatest(&corners).is_some_and(|most| (most as usize) < VERTS));
+        floats[1_761..].copy_from_slice(&xyz);
+        words[98..].copy_from_slice(&corners);
+    })
+}

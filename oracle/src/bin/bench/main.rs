@@ -1,0 +1,51 @@
+//! What the library's work costs: beside the Rust with the platform's functions, and beside 01's steps with the machine's square root.
+//! One table; each time is the least of several rounds, all ways in turn within each, in processor time of this thread.
+//!   bench              all but the program
+//!   bench PROGRAM      with 01's program `bench` at this path
+#[cfg(original)]
+mod clock;
+#[cfg(original)]
+mod fits;
+#[cfg(original)]
+mod largest;
+#[cfg(original)]
+mod lent;
+#[cfg(original)]
+mod powers;
+#[cfg(original)]
+mod program;
+#[cfg(original)]
+mod readings;
+#[cfg(original)]
+mod table;
+#[cfg(original)]
+mod volumes;
+
+#[cfg(original)]
+fn main() {
+    println!("{}{}", oracle::platform(), processor());
+    println!("processor time, {}\n", table::how());
+    let mut bench = table::Bench::default();
+    powers::rows(&mut bench);
+    fits::rows(&mut bench);
+    volumes::rows(&mut bench);
+    largest::rows(&mut bench);
+    readings::rows(&mut bench);
+    if let Some(path) = std::env::args().nth(1) {
+        program::rows(&mut bench, path);
+    }
+    bench.run();
+    bench.print();
+}
+
+/// The processor's name, where Linux tells it.
+#[cfg(original)]
+fn processor() -> String {
+    let told = std::fs::read_to_string("/proc/cpuinfo").unwrap_or_default();
+    told.lines().find_map(|l| l.strip_prefix("model name")).map_or(String::new(), |l| format!(", {}", l.trim_matches([' ', '\t', ':'])))
+}
+
+#[cfg(not(original))]
+fn main() {
+    println!("{}", oracle::SKIPPED);
+}

@@ -1,0 +1,140 @@
+//! Densities, report and list of 32 places of 16 pieces each, all work done. The platform's side has the same pieces and volumes, and
+//! does the lines of `from_toml_impl` after the decomposition; its results are the same bits, which is asked first.
+use crate::lent::{Body, Shared};
+use crate::table::{Bench, Id, Row, Way};
+use oracle::conventions::{Convention, MASS, RAW, RHO0};
+use oracle::original::native_platform::{KernelSi, body_volume, densitize};
+use oracle::original::native_steps;
+use oracle::pieces::Kernel;
+use oracle::{pattern, store};
+use std::hint::black_box;
+use std::rc::Rc;
+
+const TURNS: usize = 20;
+const PIECES: usize = 512;
+const AT: [f64; 3] = [100.0, 200.0, 300.0];
+const TARGET: f64 = 4.5e11;
+const BULK: f64 = 1190.0;
+
+/// The pieces as a store holds them, and room for them rescaled.
+#[derive(Clone)]
+struct Pieces {
+    list: Vec<KernelSi>,
+    volumes: Vec<f64>,
+    scaled: Vec<KernelSi>,
+}
+
+/// A store with its 512 pieces finished.
+fn full(body: &Body) -> Shared {
+    let store = body.store();
+    for place in 0..32 {
+        let k = Kernel { c: [f64::from(place), 20.0, 30.0], sigma: 0.004, w: 1190.0, alpha: 2.5 + 0.1 * f64::from(place) };
+        assert_eq!(store.borrow_mut().put(place, k), 16);
+    }
+    assert_eq!(store.borrow_mut().advance(u64::MAX).1, 0);
+    store
+}
+
+impl Pieces {
+    fn of(store: &Shared) -> Pieces {
+        let lent = store.borrow();
+        let mut out = [0.0; 6 * PIECES];
+        assert_eq!(store::list(&lent.floats, &lent.words, Convention::RAW, &mut out), (0, PIECES as u32));
+        let list: Vec<KernelSi> = out.chunks(6).map(|k| KernelSi { c: [k[0], k[1], k[2]], sigma: k[3], w: k[4], alpha: k[5] }).collect();
+        let volumes = lent.floats[225..][..3 * PIECES].chunks(3).map(|piece| piece[2]).collect();
+        Pieces { scaled: list.clone(), list, volumes }
+    }
+
+    fn raw_mass(&self) -> f64 {
+        self.list.iter().zip(&self.volumes).fold(0.0, |sum, (k, volume)| sum + k.w * volume)
+    }
+
+    fn rho0_scale(&self) -> f64 {
+        let rho0 = densitize(&self.list, &[0.0, 0.0, 0.0]);
+        if rho0.abs() > 1e-30 { BULK / rho0 } else { 1.0 }
+    }
+
+    fn rescaled(&mut self, kind: u32) -> &[KernelSi] {
+        let scale = match kind {
+            RAW => return &self.list,
+            RHO0 => self.rho0_scale(),
+            _ => TARGET / self.raw_mass(),
+        };
+        self.scaled.iter_mut().zip(&self.list).for_each(|(to, k)| to.w = k.w * scale);
+        &self.scaled
+    }
+
+    fn density(&mut self, kind: u32) -> f64 {
+        densitize(black_box(self.rescaled(kind)), black_box(&AT))
+    }
+
+    fn write(&mut self, out: &mut [f64]) {
+        for (to, k) in out.chunks_exact_mut(6).zip(self.rescaled(MASS)) {
+            to.copy_from_slice(&[k.c[0], k.c[1], k.c[2], k.sigma, k.w, k.alpha]);
+        }
+    }
+
+    /// `MassReport`'s floats, by mass.
+    fn report(&self, volume: f64) -> [f64; 7] {
+        let (raw, rho0) = (self.raw_mass(), self.rho0_scale());
+        let applied = TARGET / raw;
+        [raw, rho0, raw * rho0, applied, raw * applied, TARGET, volume]
+    }
+}
+
+pub fn rows(bench: &mut Bench) {
+    let small = Body::thousand();
+    let store = full(&small);
+    let checked = store.clone();
+    let check = bench.way(Way::turns(TURNS, 1, move || checked.borrow_mut().advance(0)));
+    for (name, by) in [("raw", Convention::RAW), ("rho0", Convention::rho0(BULK)), ("mass", Convention::mass_of(TARGET, BULK))] {
+        density(bench, &store, name, by, check);
+    }
+    list(bench, &store);
+    report(bench, "report by mass, 512 pieces, 1,000 faces", &small, store);
+    let large = Body::twenty_thousand();
+    let store = full(&large);
+    report(bench, "report by mass, 512 pieces, 20,000 faces", &large, store);
+}
+
+fn density(bench: &mut Bench, store: &Shared, name: &str, by: Convention, check: Id) {
+    let (store, mut pieces) = (store.clone(), Pieces::of(store));
+    let ours = move || {
+        let lent = store.borrow();
+        store::density(&lent.floats, &lent.words, by, black_box(AT)).1
+    };
+    assert_eq!(pattern(ours()), pattern(pieces.density(by.kind)), "density by {name}");
+    let ours = bench.way(Way::turns(TURNS, 1, ours));
+    let platform = bench.way(Way::turns(TURNS, 1, move || pieces.density(black_box(by.kind))));
+    let row = Row::new(format!("density by {name}, 512 pieces, beyond the check"), ours);
+    bench.row(row.platform(platform).less(check).within(1.2));
+}
+
+fn list(bench: &mut Bench, store: &Shared) {
+    let (store, mut pieces) = (store.clone(), Pieces::of(store));
+    let (mut out, mut written) = (vec![0.0; 6 * PIECES], vec![0.0; 6 * PIECES]);
+    let ours = move |out: &mut [f64]| {
+        let lent = store.borrow();
+        store::list(&lent.floats, &lent.words, Convention::mass_of(TARGET, BULK), black_box(out)).1
+    };
+    ours(&mut out);
+    pieces.write(&mut written);
+    assert!(out.iter().zip(&written).all(|(a, b)| pattern(*a) == pattern(*b)), "list");
+    let ours = bench.way(Way::turns(TURNS, 1, move || ours(&mut out)));
+    let platform = bench.way(Way::turns(TURNS, 1, move || pieces.write(black_box(&mut written))));
+    bench.row(Row::new("list by mass, 512 pieces, 1,000 faces", ours).platform(platform));
+}
+
+fn report(bench: &mut Bench, name: &str, body: &Rc<Body>, store: Shared) {
+    let pieces = Pieces::of(&store);
+    let ours = move || {
+        let lent = store.borrow();
+        store::report(&lent.floats, &lent.words, Convention::mass_of(TARGET, BULK)).1.mass
+    };
+    let (of_plain, of_steps, list) = (body.clone(), body.clone(), pieces.clone());
+    let platform = move || pieces.report(body_volume(&of_plain.plain));
+    let steps = move || list.report(native_steps::body_volume(&of_steps.steps));
+    assert_eq!(ours().map(pattern), steps().map(pattern), "report");
+    let [ours, platform, steps] = [Way::new(1, ours), Way::new(1, platform), Way::new(1, steps)].map(|way| bench.way(way));
+    bench.row(Row::new(name, ours).platform(platform).steps(steps));
+}

@@ -1,0 +1,116 @@
+//! A kernel's volume and an advance, per face, on globes of three sizes; the kernel's width decides which path of `radial_g` its points
+//! take. An advance's pieces are kernels of exponent 1, one to a place and all alike.
+use crate::lent::{Body, Shared};
+use crate::table::{Bench, Id, Row, Way};
+use oracle::original::{native_platform, native_steps};
+use oracle::pattern;
+use oracle::pieces::Kernel;
+use oracle::volumes::kernel_volume;
+use std::hint::black_box;
+use std::rc::Rc;
+
+const CENTRE: [f64; 3] = [10.0, -20.0, 30.0];
+
+/// Sigma, the path, and the bar by the platform's.
+type Case = (f64, &'static str, f64);
+
+const CASES: [Case; 4] = [(1e-4, "series", 0.8), (1e-3, "arc", 1.1), (4e-3, "arc", 1.1), (0.05, "arc", 1.1)];
+
+/// By the next smaller mesh: "the same", read as within 5 %, and at most 1.3.
+const GROWTH: [(f64, &str); 2] = [(1.05, "1,000 faces"), (1.3, "20,000 faces")];
+
+/// A mesh, its name and a store on it.
+struct Place {
+    body: Rc<Body>,
+    name: &'static str,
+    store: Shared,
+}
+
+/// The ways of a volume.
+#[derive(Clone, Copy)]
+struct Volume {
+    platform: Id,
+    steps: Id,
+    ours: Id,
+}
+
+pub fn rows(bench: &mut Bench) {
+    let bodies = [Body::thousand(), Body::twenty_thousand(), Body::two_million()];
+    let names = ["1,000 faces", "20,000 faces", "2,000,000 faces"];
+    let places: Vec<Place> = bodies.into_iter().zip(names).map(|(body, name)| Place { store: body.store(), body, name }).collect();
+    for case in CASES {
+        let volumes: Vec<Volume> = places.iter().map(|place| volume(bench, place, case.0)).collect();
+        for (i, place) in places.iter().enumerate() {
+            let row = row(format!("kernel_volume, {}, sigma {}, {}", case.1, case.0, place.name), volumes[i].ours, volumes[i]);
+            let before = i.checked_sub(1).map(|b| volumes[b].ours);
+            bench.row(grown(row.within(case.2), i, before));
+        }
+        advances(bench, &places, case, &volumes);
+    }
+    small_budget(bench, &places[2], CASES[2]);
+}
+
+fn row(name: String, ours: Id, volume: Volume) -> Row {
+    Row::new(name, ours).platform(volume.platform).steps(volume.steps)
+}
+
+/// The row with the bar by the mesh before, whose way this is.
+fn grown(row: Row, i: usize, before: Option<Id>) -> Row {
+    match before {
+        Some(before) => row.bar(GROWTH[i - 1].0, before, GROWTH[i - 1].1),
+        None => row,
+    }
+}
+
+macro_rules! text {
+    ($module:ident, $mesh:ident, $body:expr, $sigma:expr) => {{
+        let body = $body.clone();
+        move || $module::kernel_volume(&body.$mesh, CENTRE, black_box($sigma))
+    }};
+}
+
+/// Bits equal to those of 01's steps are asked first.
+fn volume(bench: &mut Bench, Place { body, .. }: &Place, sigma: f64) -> Volume {
+    let platform = text!(native_platform, plain, body, sigma);
+    let steps = text!(native_steps, steps, body, sigma);
+    let of = body.clone();
+    let ours = move || kernel_volume(&of.plain.xyz, &of.plain.faces, CENTRE, black_box(sigma)).value;
+    assert_eq!(pattern(ours()), pattern(steps()), "{} faces, sigma {sigma}", body.faces);
+    let (turns, long) = ((20_000 / body.faces).max(1), body.faces > 100_000);
+    Volume {
+        platform: bench.way(Way::turns(turns, body.faces, platform).seldom(long)),
+        steps: bench.way(Way::turns(turns, body.faces, steps).seldom(long)),
+        ours: bench.way(Way::turns(turns, body.faces, ours).seldom(long)),
+    }
+}
+
+/// Every place is put anew before, as many as the budget needs.
+fn advance(Place { body, store, .. }: &Place, budget: usize, sigma: f64) -> Way {
+    let (filled, worked) = (store.clone(), store.clone());
+    let places = budget.div_ceil(body.faces) as u32;
+    let k = Kernel { c: CENTRE, sigma, w: 1190.0, alpha: 1.0 };
+    let put = move || (0..places).for_each(|place| assert_eq!(filled.borrow_mut().put(place, k), 1));
+    let work = move || assert_eq!(worked.borrow_mut().advance(black_box(budget as u64)).0, budget as u64);
+    Way::new(budget, work).after(put).seldom(body.faces > 100_000)
+}
+
+/// Which mesh, how many faces an advance, and its name.
+const BUDGETS: [(usize, usize, &str); 5] =
+    [(0, 10_000, "10,000"), (0, 20_000, "20,000"), (1, 10_000, "10,000"), (1, 20_000, "20,000"), (2, 2_000_000, "2,000,000")];
+
+fn advances(bench: &mut Bench, places: &[Place], (sigma, path, most): Case, volumes: &[Volume]) {
+    let mut last = [None; 3];
+    for (i, budget, said) in BUDGETS {
+        let ours = bench.way(advance(&places[i], budget, sigma));
+        let row = row(format!("advance of {said}, {path}, sigma {sigma}, {}", places[i].name), ours, volumes[i]);
+        let row = if i == 1 { row.bar(1.05, volumes[i].ours, "kernel_volume") } else { row };
+        bench.row(grown(row.within(most), i, i.checked_sub(1).and_then(|b| last[b])));
+        last[i] = Some(ours);
+    }
+}
+
+/// On a large mesh the check weighs more than so few faces.
+fn small_budget(bench: &mut Bench, place: &Place, (sigma, path, _): Case) {
+    let ours = bench.way(advance(place, 20_000, sigma));
+    bench.row(Row::new(format!("advance of 20,000, {path}, sigma {sigma}, {}", place.name), ours));
+}
