@@ -12,6 +12,7 @@ use crate::line::put_runs;
 use crate::line::put_text;
 use advance::advance::Advanced;
 use advance::advance::advance;
+use base::refusal::Measured;
 use density::convention::Convention;
 use kernel::kernel::Kernel;
 use put::Placed;
