@@ -2,7 +2,7 @@
 //! meshes, every word of both runs and of a lent list after every call, every answer, and at the end done + left + dropped = charged.
 //! Then openings, stores that nobody opened, wild runs, runs one word short, and every damage of one word: the number that a soundness
 //! check written from 01 expects, and what a sound store's fields ask for. `compare_store` takes a few seconds, `compare_store --long`
-//! runs above 2,000 histories; `--seed N` draws others. The readings are compared with the feature `readings`.
+//! 10,000 histories; `--seed N` draws others. The readings are compared with the feature `readings`.
 //! The last line counts what differs; the exit status is 1 if anything does.
 #[cfg(original)]
 mod damage;
@@ -15,7 +15,7 @@ mod openings;
 fn main() {
     let plan = oracle::tally::Plan::read("compare_store");
     let mut total = oracle::tally::Tally::new();
-    total.add(judge::histories(plan.count(60, 4_000), plan.rng(0)));
+    total.add(judge::histories(plan.count(60, 10_000), plan.rng(0)));
     total.add(judge::long_histories(plan.count(1, 20), plan.rng(1)));
     total.add(judge::unopened(plan.count(40, 2_000), plan.rng(2)));
     total.add(openings::small(plan.count(2_000, 50_000), plan.rng(3)));
