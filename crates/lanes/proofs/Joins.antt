@@ -1,16 +1,26 @@
 -- The steps together: what each did of its list makes the factors. Assumes nothing.
-use mathlib.Core.Path.{ap, _∙_}
+use mathlib.Core.Path.{sym, ap, _∙_}
 use mathlib.Core.List.{List}
 use lib.ListN.{getD}
-use lib.Ieee.{Float, nan}
+use lib.Ieee.{Float, nan, binary64}
+use Rattle.base.specs.Floats.{_⊕_, _⊘_}
+use Rattle.base.specs.Constants.{one}
+use Rattle.root.specs.Root.{squareRoot}
 use Rattle.powers.specs.Arc.{halved}
 use Rattle.radial.specs.Radial.{radialG}
 use Rattle.lanes.specs.Factors.{factor, Each}
-use Rattle.lanes.specs.Stages.{radius, inverted, quotient, AllLarge, Quotients}
+use Rattle.lanes.specs.Stages.{radius, inverted, radicand, quotient, AllLarge, Halves, Quotients}
 use Rattle.lanes.proofs.Points.{large-is}
 
-pub by-arcs : {ts a b c gs : List Float} → AllLarge ts → Each inverted ts a → Each halved a b → Each halved b c → Quotients ts c gs → Each radialG ts gs
-by-arcs {ts} l e f g q = record { at = λ i h. q .at i h ∙ ap (quotient (getD ts i nan)) (g .at i h ∙ ap halved (f .at i h ∙ ap halved (e .at i h))) ∙ large-is (getD ts i nan) (l .at i h) }
+pub halves-are : (vs : List Float) {fs ws : List Float} → Each radicand vs fs → Halves vs fs ws → Each halved vs ws
+unfolding halved
+halves-are vs e h = record { at = λ i l. h .at i l ∙ ap (λ (f : Float). getD vs i nan ⊘ (one ⊕ squareRoot binary64 f)) (e .at i l) }
+
+of-inverted : (ts : List Float) {vs fs : List Float} → Each inverted ts vs → Each (λ s. radicand (inverted s)) ts fs → Each radicand vs fs
+of-inverted ts e f = record { at = λ i l. f .at i l ∙ ap radicand (sym (e .at i l)) }
+
+pub by-arcs : {ts a d b c gs : List Float} → AllLarge ts → Each inverted ts a × Each (λ s. radicand (inverted s)) ts d → Halves a d b → Each halved b c → Quotients ts c gs → Each radialG ts gs
+by-arcs {ts} {a} l e f g q = let k = halves-are a (of-inverted ts (e .0) (e .1)) f in record { at = λ i h. q .at i h ∙ ap (quotient (getD ts i nan)) (g .at i h ∙ ap halved (k .at i h ∙ ap halved (e .0 .at i h))) ∙ large-is (getD ts i nan) (l .at i h) }
 
 pub by-radii : (sigma : Float) (xs : List Float) {ts gs : List Float} → Each (radius sigma) xs ts → Each radialG ts gs → Each (factor sigma) xs gs
 by-radii sigma xs e f = record { at = λ i h. f .at i h ∙ ap radialG (e .at i h) }

@@ -4,7 +4,7 @@ use mathlib.Core.Bool.{true, cond}
 use mathlib.Core.List.{List}
 use lib.ListN.{getD}
 use lib.Ieee.{Float, nan, binary64, lt, le}
-use Rattle.base.specs.Floats.{_⊖_, _⊗_, _⊘_, abs}
+use Rattle.base.specs.Floats.{_⊕_, _⊖_, _⊗_, _⊘_, abs}
 use Rattle.base.specs.Constants.{one, halfPi, tenth}
 use Rattle.root.specs.Root.{squareRoot}
 use Rattle.powers.specs.Arc.{arcCore}
@@ -27,6 +27,10 @@ Small t = lt (abs t) tenth ≡ true
 unfoldable pub inverted : Float → Float
 inverted s = cond (lt one s) (one ⊘ s) s
 
+-- of "v/(1 + root(1 + v·v))": what the root is taken of
+abbrev pub radicand : Float → Float
+radicand v = one ⊕ v ⊗ v
+
 -- "if s > 1, r = H - r"
 unfoldable pub turned : Float → Float → Float
 turned s r = cond (lt one s) (halfPi ⊖ r) r
@@ -42,6 +46,10 @@ AllLarge ts = All (λ i t. Large t) ts
 -- what the flags tell of the radii
 abbrev pub Radii : Float → List Float → Found → List Float → Type 0
 Radii sigma xs r ts = (r .flag ≡ 0 → Each (radius sigma) xs ts) × (r .low ≡ 0 → AllLarge ts)
+
+-- ws are the vs halved, fs being the radicands
+abbrev pub Halves : List Float → List Float → List Float → Type 0
+Halves vs fs ws = All (λ i w. w ≡ getD vs i nan ⊘ (one ⊕ squareRoot binary64 (getD fs i nan))) ws
 
 abbrev pub Quotients : List Float → List Float → List Float → Type 0
 Quotients ts vs gs = All (λ i g. g ≡ quotient (getD ts i nan) (getD vs i nan)) gs

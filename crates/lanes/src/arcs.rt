@@ -5,11 +5,11 @@ ghost use lib.ListN.{length};
 ghost use Rattle.powers.specs.Arc.{halved};
 ghost use Rattle.radial.specs.Radial.{radialG};
 ghost use Rattle.lanes.specs.Factors.{Each};
-ghost use Rattle.lanes.specs.Stages.{inverted, turned, quotient, AllLarge, Quotients};
+ghost use Rattle.lanes.specs.Stages.{inverted, turned, radicand, quotient, AllLarge, Halves, Quotients};
+use crate::radii::sharpen_all;
 use powers::arc::arc_core;
 use root::lanes::near_one;
 use root::lanes::near_unit;
-use root::lanes::sharpen_unit;
 use root::lanes::unit_lane;
 
 // What the halvings start from, at most 1.
@@ -35,61 +35,64 @@ fn quotient(t: f64, v: f64) -> f64
     (t - turned(t, arc_core(v))) / (t * t * t)
 }
 
-// What the halvings start from, and guesses for the first, of which nothing is promised. In a loop
-// of its own the division is written out 28 times, with branches.
-fn invert(t: &[f64], v: &mut [f64], y: &mut [f64])
-    requires { ⌜ (length (now t) ≡ 28) × (length (now v) ≡ 28) × (length (now y) ≡ 28) ⌝ }
-    ensures { λ _. ⌜ Each inverted (now (t .entry)) (now (v .exit)) ⌝ }
+// What the halvings start from, the radicands f of the first, and guesses for their roots, of which
+// nothing is promised. In a loop of its own the division is written out 28 times, with branches.
+fn invert(t: &[f64], v: &mut [f64], f: &mut [f64], y: &mut [f64])
+    requires { ⌜ (length (now t) ≡ 28) × (length (now v) ≡ 28) × (length (now f) ≡ 28) × (length (now y) ≡ 28) ⌝ }
+    ensures { λ _. ⌜ Each inverted (now (t .entry)) (now (v .exit)) × Each (λ s. radicand (inverted s)) (now (t .entry)) (now (f .exit)) ⌝ }
 {
     for i in 0..28usize {
         let a = inverted(t[i]);
+        let s = 1.0 + a * a;
         v[i] = a;
-        y[i] = near_unit(1.0 + a * a);
+        f[i] = s;
+        y[i] = near_unit(s);
     }
 }
 
-// Guesses for the second halving, which has roots of at most 1.1716.
-fn guess_second(v: &[f64], y: &mut [f64])
-    requires { ⌜ (length (now v) ≡ 28) × (length (now y) ≡ 28) ⌝ }
+// The radicands of the second halving, at most 1.1716, and guesses for their roots.
+fn guess_second(v: &[f64], f: &mut [f64], y: &mut [f64])
+    requires { ⌜ (length (now v) ≡ 28) × (length (now f) ≡ 28) × (length (now y) ≡ 28) ⌝ }
+    ensures { λ _. ⌜ Each radicand (now (v .entry)) (now (f .exit)) ⌝ }
 {
     for i in 0..28usize {
         let a = v[i];
-        y[i] = near_one(1.0 + a * a);
+        let s = 1.0 + a * a;
+        f[i] = s;
+        y[i] = near_one(s);
     }
 }
 
-// Better guesses.
-fn sharpen_all(v: &[f64], y: &mut [f64])
-    requires { ⌜ (length (now v) ≡ 28) × (length (now y) ≡ 28) ⌝ }
-{
-    for i in 0..28usize {
-        let a = v[i];
-        y[i] = sharpen_unit(1.0 + a * a, y[i]);
-    }
-}
-
-// The tangents of the half angles, by the guesses y, if the flag is 0.
-fn halve(y: &[f64], v: &mut [f64]) -> u64
-    requires { ⌜ (length (now y) ≡ 28) × (length (now v) ≡ 28) ⌝ }
-    ensures { λ r. ⌜ (r ≡ 0 → Each halved (now (v .entry)) (now (v .exit))) ⌝ }
+// The tangents of the half angles, from the radicands f and guesses y, if the flag is 0.
+fn halve(f: &[f64], y: &[f64], v: &mut [f64]) -> u64
+    requires { ⌜ (length (now f) ≡ 28) × (length (now y) ≡ 28) × (length (now v) ≡ 28) ⌝ }
+    ensures { λ r. ⌜ (r ≡ 0 → Halves (now (v .entry)) (now (f .entry)) (now (v .exit))) ⌝ }
 {
     let mut flag = 0u64;
     for i in 0..28usize {
-        let a = v[i];
-        let p = unit_lane(1.0 + a * a, y[i]);
-        v[i] = a / (1.0 + p.root);
+        let p = unit_lane(f[i], y[i]);
+        v[i] = v[i] / (1.0 + p.root);
         flag = flag | p.flag;
     }
     flag
 }
 
 // A halving, by guesses that are made better first.
-fn halve_by(v: &mut [f64], y: &mut [f64]) -> u64
-    requires { ⌜ (length (now v) ≡ 28) × (length (now y) ≡ 28) ⌝ }
+fn halve_by(f: &[f64], y: &mut [f64], v: &mut [f64]) -> u64
+    requires { ⌜ (length (now f) ≡ 28) × (length (now y) ≡ 28) × (length (now v) ≡ 28) ⌝ }
+    ensures { λ r. ⌜ (r ≡ 0 → Halves (now (v .entry)) (now (f .entry)) (now (v .exit))) ⌝ }
+{
+    sharpen_all(f, y);
+    halve(f, y, v)
+}
+
+// The second halving; f is for the radicands and y for guesses.
+fn halve_again(v: &mut [f64], f: &mut [f64], y: &mut [f64]) -> u64
+    requires { ⌜ (length (now v) ≡ 28) × (length (now f) ≡ 28) × (length (now y) ≡ 28) ⌝ }
     ensures { λ r. ⌜ (r ≡ 0 → Each halved (now (v .entry)) (now (v .exit))) ⌝ }
 {
-    sharpen_all(v, y);
-    halve(y, v)
+    guess_second(v, f, y);
+    halve_by(f, y, v)
 }
 
 // The factors of the radii t, v being what the halvings leave.
@@ -102,16 +105,15 @@ fn quotients(t: &[f64], v: &[f64], g: &mut [f64])
     }
 }
 
-// The factors of the radii t, if the flag is 0; v is for the tangents, and g for guesses before it
-// holds the factors.
-pub fn arcs(t: &[f64], v: &mut [f64], g: &mut [f64]) -> u64
-    requires { ⌜ (length (now t) ≡ 28) × (length (now v) ≡ 28) × (length (now g) ≡ 28) ⌝ }
+// The factors of the radii t, if the flag is 0; v is for the tangents, f for the radicands, and g for
+// guesses before it holds the factors.
+pub fn arcs(t: &[f64], v: &mut [f64], f: &mut [f64], g: &mut [f64]) -> u64
+    requires { ⌜ (length (now t) ≡ 28) × (length (now v) ≡ 28) × (length (now f) ≡ 28) × (length (now g) ≡ 28) ⌝ }
     ensures { λ r. ⌜ (r ≡ 0 → AllLarge (now (t .entry)) → Each radialG (now (t .entry)) (now (g .exit))) ⌝ }
 {
-    invert(t, v, g);
-    let first = halve_by(v, g);
-    guess_second(v, g);
-    let second = halve_by(v, g);
+    invert(t, v, f, g);
+    let first = halve_by(f, g, v);
+    let second = halve_again(v, f, g);
     quotients(t, v, g);
     first | second
 }

@@ -26,23 +26,30 @@ fn one_by_one(x: &[f64], sigma: f64, g: &mut [f64])
 }
 
 // The factors step by step, if the flag is 0.
-fn staged(x: &[f64], sigma: f64, t: &mut [f64], v: &mut [f64], g: &mut [f64]) -> u64
-    requires { ⌜ (length (now x) ≡ 28) × (length (now t) ≡ 28) × (length (now v) ≡ 28) × (length (now g) ≡ 28) ⌝ }
+fn staged(x: &[f64], sigma: f64, t: &mut [f64], v: &mut [f64], f: &mut [f64], g: &mut [f64]) -> u64
+    requires { ⌜ (length (now x) ≡ 28) × (length (now t) ≡ 28) × (length (now v) ≡ 28) × (length (now f) ≡ 28) × (length (now g) ≡ 28) ⌝ }
     ensures { λ r. ⌜ (r ≡ 0 → Each (factor sigma) (now (x .entry)) (now (g .exit))) ⌝ }
 {
-    let found = radii_of(x, sigma, g, t);
+    let found = radii_of(x, sigma, f, g, t);
     if found.low == 0 {
-        return found.flag | arcs(t, v, g);
+        return found.flag | arcs(t, v, f, g);
     }
     found.flag | all_series(t, g)
 }
 
-// Writes to g the radial factor of each point, x being the squares of the distances. What t and v
-// hold before and after is of no account: they are lent so that they are made once.
-pub fn factors(x: &[f64; 28], sigma: f64, t: &mut [f64; 28], v: &mut [f64; 28], g: &mut [f64; 28])
+// Writes to g the radial factor of each point, x being the squares of the distances. What t, v
+// and f hold before and after is of no account: they are lent so that they are made once.
+pub fn factors(
+    x: &[f64; 28],
+    sigma: f64,
+    t: &mut [f64; 28],
+    v: &mut [f64; 28],
+    f: &mut [f64; 28],
+    g: &mut [f64; 28],
+)
     ensures { λ _. ⌜ Each (factor sigma) (now (x .entry)) (now (g .exit)) ⌝ }
 {
-    let flag = staged(x, sigma, t, v, g);
+    let flag = staged(x, sigma, t, v, f, g);
     if flag == 0 {
         return;
     }

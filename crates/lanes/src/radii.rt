@@ -13,21 +13,23 @@ pub struct Found {
     pub low: u64,
 }
 
-// Guesses, of which nothing is promised.
-fn guess(x: &[f64], y: &mut [f64])
-    requires { ⌜ (length (now x) ≡ 28) × (length (now y) ≡ 28) ⌝ }
+// Guesses y for the roots of the significands f, of which nothing is promised.
+fn guess(x: &[f64], f: &mut [f64], y: &mut [f64])
+    requires { ⌜ (length (now x) ≡ 28) × (length (now f) ≡ 28) × (length (now y) ≡ 28) ⌝ }
 {
     for i in 0..28usize {
-        y[i] = near(x[i]);
+        let p = near(x[i]);
+        f[i] = p.part;
+        y[i] = p.near;
     }
 }
 
 // Better guesses.
-fn sharpen_all(x: &[f64], y: &mut [f64])
-    requires { ⌜ (length (now x) ≡ 28) × (length (now y) ≡ 28) ⌝ }
+pub fn sharpen_all(f: &[f64], y: &mut [f64])
+    requires { ⌜ (length (now f) ≡ 28) × (length (now y) ≡ 28) ⌝ }
 {
     for i in 0..28usize {
-        y[i] = sharpen(x[i], y[i]);
+        y[i] = sharpen(f[i], y[i]);
     }
 }
 
@@ -55,12 +57,12 @@ fn radii(x: &[f64], y: &[f64], sigma: f64, t: &mut [f64]) -> Found
     Found { flag, low }
 }
 
-// The radii in t; y is for guesses.
-pub fn radii_of(x: &[f64], sigma: f64, y: &mut [f64], t: &mut [f64]) -> Found
-    requires { ⌜ (length (now x) ≡ 28) × (length (now y) ≡ 28) × (length (now t) ≡ 28) ⌝ }
+// The radii in t; f is for significands and y for guesses.
+pub fn radii_of(x: &[f64], sigma: f64, f: &mut [f64], y: &mut [f64], t: &mut [f64]) -> Found
+    requires { ⌜ (length (now x) ≡ 28) × (length (now f) ≡ 28) × (length (now y) ≡ 28) × (length (now t) ≡ 28) ⌝ }
     ensures { λ r. ⌜ Radii sigma (now (x .entry)) r (now (t .exit)) ⌝ }
 {
-    guess(x, y);
-    sharpen_all(x, y);
+    guess(x, f, y);
+    sharpen_all(f, y);
     radii(x, y, sigma, t)
 }

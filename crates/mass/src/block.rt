@@ -178,13 +178,14 @@ fn block(
     heights: &mut [f64; 28],
     t: &mut [f64; 28],
     v: &mut [f64; 28],
+    radicands: &mut [f64; 28],
     g: &mut [f64; 28],
 ) -> f64
     requires { ⌜ Sound (length (now xyz)) (now faces) ⌝ ∗ ⌜ (3 * (f + 4) ≤ length (now faces)) × (length (now squares) ≡ 28) × (length (now heights) ≡ 28) ⌝ }
     ensures { λ r. ⌜ r ≡ volumeFrom (triangleAt (now (xyz .entry)) (now (faces .entry))) c sigma f (f + 4) sum ⌝ ∗ ⌜ (length (now (squares .exit)) ≡ 28) × (length (now (heights .exit)) ≡ 28) ⌝ }
 {
     points(xyz, faces, f, c, squares, heights);
-    factors(squares, sigma, t, v, g);
+    factors(squares, sigma, t, v, radicands, g);
     all_shares(sum, g, heights)
 }
 
@@ -205,6 +206,7 @@ pub fn volume_blocks(
     let mut heights = [0.0; 28];
     let mut t = [0.0; 28];
     let mut v = [0.0; 28];
+    let mut radicands = [0.0; 28];
     let mut g = [0.0; 28];
     let mut sum = sum;
     for i in 0..n {
@@ -219,6 +221,7 @@ pub fn volume_blocks(
             &mut heights,
             &mut t,
             &mut v,
+            &mut radicands,
             &mut g,
         );
     }

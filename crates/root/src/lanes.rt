@@ -2,9 +2,9 @@
 // such a loop two lanes at a time. Internal: for other crates' loops; `root::root` is the square root.
 //
 // Each of three loops does one step of all lanes, which is faster than one loop with the three steps:
-//   y[i] = near(x[i]);                  or near_unit, near_one
-//   y[i] = sharpen(x[i], y[i]);         or sharpen_unit
-//   p = any_lane(x[i], y[i]);           or unit_lane; p.root is used and p.flag or-ed into one word
+//   p = near(x[i]); f[i] = p.part; y[i] = p.near;      or y[i] = near_unit(f[i]), near_one
+//   y[i] = sharpen(f[i], y[i]);
+//   p = any_lane(x[i], y[i]);           or unit_lane of f[i]; p.root is used and p.flag or-ed into one word
 // If that word is 0 every p.root is the root, whatever the guesses were; else the lanes are to be done
 // anew by `root::root`. Nothing is promised of a guess, so nothing is owed of one.
 ghost use mathlib.Core.Path.{_≡_};
@@ -19,6 +19,12 @@ ghost use Rattle.root.specs.Root.{squareRoot, Rounded};
 pub struct Lane {
     pub root: f64,
     pub flag: u64,
+}
+
+// Where a root is sought from: a significand f from 1 up to 4, and a float near 1 / √f.
+pub struct Guess {
+    pub part: f64,
+    pub near: f64,
 }
 
 // The digits of a root, which hold where coarse is below 2^37 and far below 2^63.
@@ -131,22 +137,24 @@ fn refine(h: f64, y: f64) -> f64 {
     y * (1.5 - h * y * y)
 }
 
-// A float near 1 / √f, of the pattern `bits`, for an f from 1 up to 4.
-fn near_part(bits: u64) -> f64
+// The guess for the f of the pattern `bits`, from 1 up to 4.
+fn near_part(bits: u64) -> Guess
     requires { ⌜ bits < 5000000000000000000 ⌝ }
 {
-    let h = f64::from_bits(bits) * 0.5;
-    refine(
+    let f = f64::from_bits(bits);
+    let h = f * 0.5;
+    let y = refine(
         h,
         refine(
             h,
             refine(h, f64::from_bits(0x5FE6_EB50_C7B5_37A9 - (bits >> 1))),
         ),
-    )
+    );
+    Guess { part: f, near: y }
 }
 
-// A float near 1 / √f for the significand f of x.
-pub fn near(x: f64) -> f64 {
+// The guess for the significand of x.
+pub fn near(x: f64) -> Guess {
     near_part(part(pattern(x)))
 }
 
@@ -172,18 +180,7 @@ pub fn near_one(f: f64) -> f64 {
 }
 
 // A float at √f or a last digit below it, from a y near 1 / √f, for an f from 1 up to 4.
-pub fn sharpen_unit(f: f64, y: f64) -> f64 {
+pub fn sharpen(f: f64, y: f64) -> f64 {
     let s = f * y;
     s + ((0.5 * y) * (f - s * s) - 1.1102230246251565e-16)
-}
-
-fn sharpen_part(bits: u64, y: f64) -> f64
-    requires { ⌜ bits < 5000000000000000000 ⌝ }
-{
-    sharpen_unit(f64::from_bits(bits), y)
-}
-
-// A float at √f or a last digit below it, for the significand f of x, from a y near 1 / √f.
-pub fn sharpen(x: f64, y: f64) -> f64 {
-    sharpen_part(part(pattern(x)), y)
 }

@@ -7,16 +7,16 @@ use Rattle.lanes.proofs.staged.Tie as tie
 
 returns : tie.Need-returns
 returns c =
-    let a = c .before .before .before .before .before in
-    let r = a .before .before .before .before .before .before .before .before .before .before in
-    let p = r .before .before .before .before .before .before .before .args in
-    λ e. let z = or-zero (r .radii-of .result .flag) (a .arcs .result) e in by-radii (p .sigma) (p .x .now) (r .radii-of .ensures .0 (z .0)) (a .arcs .ensures (z .1) (r .radii-of .ensures .1 (a .before .before .before .before .if1 .taken)))
+    let a = c .before .before .before .before .before .before .before in
+    let r = a .before .before .before .before .before .before .before .before .before .before .before .before .before in
+    let p = r .before .before .before .before .before .before .before .before .before .args in
+    λ e. let z = or-zero (r .radii-of .result .flag) (a .arcs .result) e in by-radii (p .sigma) (p .x .now) (r .radii-of .ensures .0 (z .0)) (a .arcs .ensures (z .1) (r .radii-of .ensures .1 (a .before .before .before .before .before .if1 .taken)))
 
 returns-2 : tie.Need-returns-2
 returns-2 c =
     let s = c .before .before .before in
-    let r = s .before .before .before .before .before .before .before .before .before in
-    let p = r .before .before .before .before .before .before .before .args in
+    let r = s .before .before .before .before .before .before .before .before .before .before .before in
+    let p = r .before .before .before .before .before .before .before .before .before .args in
     λ e. let z = or-zero (r .radii-of .result .flag) (s .all-series .result) e in by-radii (p .sigma) (p .x .now) (r .radii-of .ensures .0 (z .0)) (s .all-series .ensures (z .1))
 
 pub staged-spec : {M : Type 1} → statement M
@@ -28,8 +28,10 @@ staged-spec =
     (λ c. search needs)
     (λ c. search needs)
     (λ c. search needs)
+    (λ c. search needs)
     returns
     (λ c κs. search needs)
+    (λ c. search needs)
     (λ c. search needs)
     (λ c. search needs)
     returns-2)

@@ -7,10 +7,9 @@ use Rattle.lanes.proofs.arcs.arcs.Tie as tie
 
 returns : tie.Need-returns
 returns c =
-    let s = c .before .before .before .before .before .before .before .before .before in
-    let f = s .before .before .before .before .before .before .before .before .before .before .before .before in
-    let i = f .before .before .before .before .before .before .before in
-    λ e l. let z = or-zero (f .halve-by .result) (s .halve-by2 .result) e in by-arcs l (i .invert .ensures) (f .halve-by .ensures (z .0)) (s .halve-by2 .ensures (z .1)) (c .before .before .quotients .ensures)
+    let s = c .before .before .before .before .before .before .before .before .before .before .before in
+    let f = s .before .before .before .before .before .before .before .before in
+    λ e l. let z = or-zero (f .halve-by .result) (s .halve-again .result) e in by-arcs l (f .before .before .before .before .before .before .before .before .before .before .invert .ensures) (f .halve-by .ensures (z .0)) (s .halve-again .ensures (z .1)) (c .before .before .quotients .ensures)
 
 pub arcs-spec : {M : Type 1} → statement M
 arcs-spec =
@@ -20,7 +19,7 @@ arcs-spec =
     (λ c κs. search needs)
     (λ c κs. search needs)
     (λ c κs. search needs)
-    (λ c κs. search needs)
+    (λ c. search needs)
     (λ c. search needs)
     (λ c. search needs)
     returns)

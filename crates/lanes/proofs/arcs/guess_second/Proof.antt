@@ -1,16 +1,19 @@
--- `guess_second` keeps within its runs. Assumes nothing.
-use Prim.Native.Nat.{_-_, _≤_}
+-- `guess_second` meets its contract: a loop that sets each element. Assumes nothing.
+use Prim.Native.Nat.{_-_}
 use mathlib.Core.Path.{_≡_}
 use lib.ListN.{length}
+use Rattle.lanes.specs.Factors.{Of}
+use Rattle.lanes.specs.Stages.{radicand}
+use Rattle.lanes.proofs.Filling.{Filled, none-filled, fills, all-filled}
 use borrow.Author.Needs.{needs}
 use Rattle.lanes.proofs.arcs.guess_second.Statement.{statement}
 use Rattle.lanes.proofs.arcs.guess_second.Tie as tie
 
 abbrev Inv-loop : tie.InvT-loop
-Inv-loop v y₀ i₀ y i = (i ≤ 28) × (length y ≡ 28)
+Inv-loop v f₀ y₀ i₀ f y i = Filled (Of radicand v) f₀ i f × (length y ≡ 28)
 
 abbrev μ-loop : tie.MeasureT-loop
-μ-loop v y₀ i₀ y i = 28 - i
+μ-loop v f₀ y₀ i₀ f y i = 28 - i
 
 pub guess-second-spec : {M : Type 1} → statement M
 guess-second-spec =
@@ -18,6 +21,8 @@ guess-second-spec =
     (tie.spec
     Inv-loop
     μ-loop
+    (λ c. search (none-filled, needs))
+    (λ c. search needs)
     (λ c. search needs)
     (λ c. search needs)
     (λ c. search needs)
@@ -26,6 +31,7 @@ guess-second-spec =
     (λ c. search needs)
     (λ c. search needs)
     (λ c. search needs)
+    (λ c. search (fills, needs))
     (λ c. search needs)
     (λ c. search needs)
-    (λ c. search needs))
+    (λ c. search (all-filled, needs)))

@@ -1,19 +1,26 @@
 -- `invert` meets its contract: a loop that sets each element. Assumes nothing.
 use Prim.Native.Nat.{_-_}
-use mathlib.Core.Path.{_≡_}
+use mathlib.Core.Path.{_≡_, ap}
 use lib.ListN.{length}
+use lib.Ieee.{Float}
 use Rattle.lanes.specs.Factors.{Of}
-use Rattle.lanes.specs.Stages.{inverted}
+use Rattle.lanes.specs.Stages.{inverted, radicand}
 use Rattle.lanes.proofs.Filling.{Filled, none-filled, fills, all-filled}
 use borrow.Author.Needs.{needs}
 use Rattle.lanes.proofs.arcs.invert.Statement.{statement}
 use Rattle.lanes.proofs.arcs.invert.Tie as tie
 
 abbrev Inv-loop : tie.InvT-loop
-Inv-loop t v₀ y₀ i₀ v y i = Filled (Of inverted t) v₀ i v × (length y ≡ 28)
+Inv-loop t v₀ f₀ y₀ i₀ v f y i = Filled (Of inverted t) v₀ i v × Filled (Of (λ (s : Float). radicand (inverted s)) t) f₀ i f × (length y ≡ 28)
 
 abbrev μ-loop : tie.MeasureT-loop
-μ-loop t v₀ y₀ i₀ v y i = 28 - i
+μ-loop t v₀ f₀ y₀ i₀ v f y i = 28 - i
+
+loop-again : tie.Need-loop-again Inv-loop μ-loop
+loop-again c =
+    let l = c .before .before .before .before .loop in
+    let e = c .before .inverted .ensures in
+    (fills (l .inv .0) (search needs) e, fills (l .inv .1) (search needs) (ap radicand e), search needs)
 
 pub invert-spec : {M : Type 1} → statement M
 invert-spec =
@@ -27,12 +34,15 @@ invert-spec =
     (λ c κs. search needs)
     (λ c. search needs)
     (λ c. search needs)
+    (λ c. search needs)
+    (λ c. search needs)
     (λ c κs. search needs)
     (λ c. search needs)
     (λ c. search needs)
     (λ c. search needs)
     (λ c. search needs)
-    (λ c. search (fills, needs))
+    loop-again
+    (λ c. search needs)
     (λ c. search needs)
     (λ c. search needs)
     (λ c. search (all-filled, needs)))
