@@ -72,11 +72,7 @@ pub fn enclosed_volume(mesh: Mesh<'_>) -> Result<f64, Refusal> {
 /// # Ok::<(), cauchy::Refusal>(())
 /// ```
 pub fn normalize(mesh: Mesh<'_>, kernels: &[Kernel], target: f64) -> Result<Vec<Kernel>, Refusal> {
-    let (xyz, faces) = mesh.runs();
-    let list = Kernel::flat(kernels);
-    let mut out = vec![0.0; list.len()];
-    // SAFETY: slices, borrowed for the call; the one that is written is new.
-    let told = unsafe {
+    written(mesh, kernels, |xyz, faces, list, out| unsafe {
         sys::cauchy_source_normalize(
             xyz.as_ptr(),
             xyz.len(),
@@ -88,8 +84,7 @@ pub fn normalize(mesh: Mesh<'_>, kernels: &[Kernel], target: f64) -> Result<Vec<
             out.as_mut_ptr(),
             out.len(),
         )
-    };
-    Refusal::check(told.no).map(|()| Kernel::listed(&out, told.kernels as usize))
+    })
 }
 
 /// The kernels stretched with their mesh (by its farthest vertex over 528.5 m, where that is above 10 m) and
@@ -114,11 +109,7 @@ pub fn calibrate(
     total: f64,
     mean: Option<f64>,
 ) -> Result<Vec<Kernel>, Refusal> {
-    let (xyz, faces) = mesh.runs();
-    let list = Kernel::flat(kernels);
-    let mut out = vec![0.0; list.len()];
-    // SAFETY: slices, borrowed for the call; the one that is written is new.
-    let told = unsafe {
+    written(mesh, kernels, |xyz, faces, list, out| unsafe {
         sys::cauchy_source_calibrate(
             xyz.as_ptr(),
             xyz.len(),
@@ -132,6 +123,18 @@ pub fn calibrate(
             out.as_mut_ptr(),
             out.len(),
         )
-    };
+    })
+}
+
+/// The kernels that a call writes. SAFETY of its callers: slices, borrowed for the call; the one that is written is new.
+fn written(
+    mesh: Mesh<'_>,
+    kernels: &[Kernel],
+    call: impl FnOnce(&[f64], &[u32], &[f64], &mut [f64]) -> sys::Kernels,
+) -> Result<Vec<Kernel>, Refusal> {
+    let (xyz, faces) = mesh.runs();
+    let list = Kernel::flat(kernels);
+    let mut out = vec![0.0; list.len()];
+    let told = call(&xyz, &faces, &list, &mut out);
     Refusal::check(told.no).map(|()| Kernel::listed(&out, told.kernels as usize))
 }

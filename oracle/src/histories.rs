@@ -208,9 +208,8 @@ impl Places {
 }
 
 /// The next call, by where the model stands.
-pub fn call(r: &mut Rng, model: &impl Model, places: &Places, readings: bool) -> Call {
-    let kinds = if readings { 24 } else { 16 };
-    match r.below(kinds) {
+pub fn call(r: &mut Rng, model: &impl Model, places: &Places) -> Call {
+    match r.below(24) {
         0..=5 => Call::Put(places.one(r), kernel(r)),
         6 | 7 => Call::Clear(places.one(r)),
         8 | 9 => Call::Reweigh(places.one(r), weight(r)),

@@ -69,11 +69,9 @@ pub fn advance(floats: &mut [f64], words: &mut [u32], budget: u64) -> Steps {
     unsafe { cauchy_store_advance(floats.as_mut_ptr(), floats.len(), words.as_mut_ptr(), words.len(), budget) }
 }
 
-#[cfg(feature = "readings")]
 pub use reading::{density, list, report};
 
-/// The three readings; an archive that does not have them yet links without the feature `readings`.
-#[cfg(feature = "readings")]
+/// The three readings.
 mod reading {
     use crate::conventions::{Convention, Report};
 

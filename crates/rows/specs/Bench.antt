@@ -15,6 +15,7 @@ use Rattle.radial.specs.Radial.{radialG}
 use Rattle.solve.specs.Solve.{solution, solved, refused}
 use Rattle.solve.specs.Rows as solve
 use Rattle.pieces.specs.Pieces.{delta, sizeOf, itself, decomposed}
+use Rattle.pieces.specs.Rows.{near, twoAndHalf}
 use Rattle.pieces.specs.Rows as pieces
 use Rattle.mesh.specs.declared.vectors.V3.{V3}
 use Rattle.mesh.specs.declared.triangles.Triangle.{Triangle}
@@ -30,13 +31,6 @@ minusZero = bits 0x8000_0000_0000_0000
 
 abbrev five : Float
 five = bits 0x4014_0000_0000_0000
-
--- 1.0000000005 and 2.5
-abbrev near : Float
-near = bits 0x3ff0_0000_0022_5c18
-
-abbrev twoAndHalf : Float
-twoAndHalf = bits 0x4004_0000_0000_0000
 
 pub record BenchRows : Type 0 where
   -- "root 4 = 2; root -0 = -0"

@@ -1,6 +1,6 @@
 //! Runs that are no store: wild words, too few of them, and one word of a sound store changed. The number is the soundness check's; a
 //! damage that leaves the store sound is followed by what its fields then ask for.
-use crate::judge::{READINGS, Runs, Seen, differs, fields, lent};
+use crate::judge::{Runs, Seen, differs, fields, lent};
 use oracle::cases;
 use oracle::held::{Held, store_number};
 use oracle::histories::{self, Call};
@@ -19,10 +19,8 @@ fn calls(r: &mut Rng) -> Vec<Call> {
         Call::Clear(place),
         Call::Reweigh(place, inputs::any(r)),
     ];
-    if READINGS {
-        let by = histories::convention(r);
-        calls.extend([Call::Density(by, [1.0, 2.0, 3.0]), Call::Report(by), Call::List(by, cases::one(r, &[0, 6, 600, 3_072]))]);
-    }
+    let by = histories::convention(r);
+    calls.extend([Call::Density(by, [1.0, 2.0, 3.0]), Call::Report(by), Call::List(by, cases::one(r, &[0, 6, 600, 3_072]))]);
     calls
 }
 

@@ -9,8 +9,6 @@ use oracle::store;
 use oracle::tally::Tally;
 use oracle::text::ByArchive;
 
-pub const READINGS: bool = cfg!(feature = "readings");
-
 /// The two runs that the archive's store lives in.
 #[derive(Clone)]
 pub struct Runs {
@@ -40,7 +38,6 @@ impl Runs {
         }
     }
 
-    #[cfg(feature = "readings")]
     fn reading(&self, call: Call, out: &mut [f64]) -> Answer {
         // beside a refusal's number every value is 0
         let told = |no, values: &[f64], answer| match no {
@@ -64,11 +61,6 @@ impl Runs {
             }
             _ => unreachable!("no reading"),
         }
-    }
-
-    #[cfg(not(feature = "readings"))]
-    fn reading(&self, _: Call, _: &mut [f64]) -> Answer {
-        unreachable!("the archive's readings are not linked")
     }
 }
 
@@ -198,7 +190,7 @@ fn history(r: &mut Rng, i: u64, calls: usize, tally: &mut Tally, seen: &mut Seen
     let places = Places::draw(r);
     let (mut charged, mut done) = (0, 0);
     for n in 0..calls {
-        let call = histories::call(r, &machine, &places, READINGS);
+        let call = histories::call(r, &machine, &places);
         let lent = lent(r, call);
         let (difference, told, want) = differs(&mut runs, &mut machine, call, &lent, Machine::fields);
         seen.add(want);
@@ -234,7 +226,7 @@ pub fn unopened(count: u64, mut r: Rng) -> Tally {
         runs.words.extend((0..r.below(4)).map(|_| r.word() as u32));
         let places = Places::draw(&mut r);
         for n in 0..25 {
-            let call = histories::call(&mut r, &held, &places, READINGS);
+            let call = histories::call(&mut r, &held, &places);
             let lent = lent(&mut r, call);
             let (difference, _, want) = differs(&mut runs, &mut held, call, &lent, fields);
             seen.add(want);

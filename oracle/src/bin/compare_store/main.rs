@@ -2,7 +2,7 @@
 //! meshes, every word of both runs and of a lent list after every call, every answer, and at the end done + left + dropped = charged.
 //! Then openings, stores that nobody opened, wild runs, runs one word short, and every damage of one word: the number that a soundness
 //! check written from 01 expects, and what a sound store's fields ask for. `compare_store` takes a few seconds, `compare_store --long`
-//! 10,000 histories; `--seed N` draws others. The readings are compared with the feature `readings`.
+//! 10,000 histories; `--seed N` draws others.
 //! The last line counts what differs; the exit status is 1 if anything does.
 #[cfg(original)]
 mod damage;

@@ -69,7 +69,7 @@ impl Writer {
     /// A good line: a call on the store.
     fn call(&mut self) -> String {
         loop {
-            let call = histories::call(&mut self.r, &self.program.machine, &self.places, true);
+            let call = histories::call(&mut self.r, &self.program.machine, &self.places);
             if let Some(line) = call_line(&mut self.r, call) {
                 return line;
             }
