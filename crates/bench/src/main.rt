@@ -1,6 +1,9 @@
 // The program `bench`: 01's lines on standard input, an answer a line on standard output.
+ghost use mathlib.Core.Path.{_≡_};
+ghost use mathlib.Core.Bool.{true};
 ghost use Prim.Native.Nat.{_≤_};
-ghost use Rattle.session.specs.Session.{Small};
+ghost use Rattle.session.specs.Session.{Small, session};
+ghost use Rattle.program.specs.Bytes.{held, heldAfter};
 use libc::EINTR;
 use libc::STDIN_FILENO;
 use libc::STDOUT_FILENO;
@@ -42,6 +45,7 @@ fn feed_chunk(
 ) -> Fed
     requires { ⌜ Small (st .opening) ⌝ ∗ ⌜ n ≤ 4096 ⌝ }
     ensures { λ r. ⌜ Small (r .state .opening) ⌝ }
+    ensures { λ r. ⌜ (r .said ≡ true → held (session (r .state .opening) (now (f .exit)) (now (w .exit)) (now (coords .exit)) (now (corners .exit))) (now (line .exit)) (r .state .count) ≡ heldAfter (now (chunk .entry)) n (held (session (st .opening) (now (f .entry)) (now (w .entry)) (now (coords .entry)) (now (corners .entry))) (now (line .entry)) (st .count))) ⌝ }
 {
     let mut state = st;
     let mut i = 0;

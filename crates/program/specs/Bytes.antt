@@ -3,7 +3,8 @@ use Prim.Native.Nat.{ℕ, _+_}
 use mathlib.Core.Bool.{cond}
 use mathlib.Core.List.{List, [], _∷_, _++_}
 use lib.Dec.{leb, ltb, eqb}
-use lib.ListN.{take, set}
+use lib.ListN.{take, set, getD}
+use Rattle.base.specs.Loops.{times}
 use Rattle.forms.specs.declared.line.Line.{Line}
 use Rattle.forms.specs.declared.line.Line.the-variants.{Bad}
 use Rattle.forms.specs.Forms.{parseLine}
@@ -54,6 +55,13 @@ feedByte h b = cond (eqb b 10) (endLine h) (record { next = keep h b; text = [] 
 -- the input's end: "a last line without a newline is a line if it has a byte" (docs/DECISIONS.md)
 unfoldable pub feedEnd : Held → Fed
 feedEnd h = cond (eqb (h .count) 0) (record { next = h; text = [] }) (endLine h)
+
+-- what is held after the first n of these bytes
+abbrev pub feedAt : List ℕ → ℕ → Held → Held
+feedAt bytes i h = feedByte h (getD bytes i 0) .next
+
+abbrev pub heldAfter : List ℕ → ℕ → Held → Held
+heldAfter bytes n h = times (feedAt bytes) n 0 h
 
 -- all that is printed for an input
 abbrev pub printed : Held → List ℕ → List ℕ

@@ -1,16 +1,33 @@
--- `bench::feed_chunk` meets its contract: each turn answers an opening of the program's counts. Assumes nothing.
+-- `bench::feed_chunk` meets its contract: each turn feeds the next byte. Assumes nothing.
+use mathlib.Core.Path.{refl}
+use mathlib.Core.Bool.{false≢true}
 use Prim.Native.Nat.{_-_}
 use native.Mathlib.Omega.{arith}
 use borrow.Author.Needs.{needs}
-use Rattle.session.specs.Session.{Small}
+use Rattle.base.specs.LoopLaws.{Left, from-zero, goes, ended}
+use Rattle.session.specs.Session.{Small, session}
+use Rattle.program.specs.Bytes.{held, feedAt, heldAfter}
 use Rattle.bench.proofs.feed_chunk.Statement.{statement}
 use Rattle.bench.proofs.feed_chunk.Tie as tie
 
 abbrev Inv-loop : tie.InvT-loop
-Inv-loop chunk n line₀ f₀ w₀ coords₀ corners₀ out₀ state₀ i₀ line f w coords corners out state i = Small (state .opening)
+Inv-loop chunk n line₀ f₀ w₀ coords₀ corners₀ out₀ state₀ i₀ line f w coords corners out state i =
+    Small (state .opening)
+    × Left (feedAt chunk) n i (held (session (state .opening) f w coords corners) line (state .count)) (heldAfter chunk n (held (session (state₀ .opening) f₀ w₀ coords₀ corners₀) line₀ (state₀ .count)))
 
 abbrev μ-loop : tie.MeasureT-loop
 μ-loop chunk n line₀ f₀ w₀ coords₀ corners₀ out₀ state₀ i₀ line f w coords corners out state i = n - i
+
+-- after an answer that was not written nothing is promised of what is held
+returns : tie.Need-returns Inv-loop μ-loop
+returns c = (search needs, λ e. absurd (false≢true e))
+
+loop-again : tie.Need-loop-again Inv-loop μ-loop
+loop-again c =
+    (search needs, goes (c .before .before .before .before .before .before .before .before .before .before .before .before .before .loop .inv .1) (c .before .before .before .before .before .before .before .before .before .before .before .before .loop-test .taken) (c .before .before .before .before .feed .ensures .1 .0))
+
+returns-2 : tie.Need-returns-2 Inv-loop μ-loop
+returns-2 c = (search needs, λ e. ended (c .before .loop .inv .1) (c .loop-test .left))
 
 pub feed-chunk-spec : {M : Type 1} → statement M
 feed-chunk-spec =
@@ -18,12 +35,12 @@ feed-chunk-spec =
     (tie.spec
     Inv-loop
     μ-loop
-    (λ c. search needs)
+    (λ c. (search needs, from-zero refl))
     (λ c. search needs)
     (λ c κs. search needs)
     (λ c κs. search needs)
+    returns
     (λ c. search needs)
     (λ c. search needs)
-    (λ c. search needs)
-    (λ c. search needs)
-    (λ c. search needs))
+    loop-again
+    returns-2)
