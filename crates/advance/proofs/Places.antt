@@ -1,4 +1,4 @@
--- The loop over the places, and the work that they have left. Assumes nothing.
+-- The loop over the places. Assumes nothing.
 use mathlib.Core.Path.{_≡_, refl, sym, ap, subst, _∙_}
 use mathlib.Core.Bool.{Bool, true, false, _&&_, cond}
 use mathlib.Core.List.{List}
@@ -17,23 +17,8 @@ use Rattle.mesh.specs.declared.triangles.Triangle.{Triangle}
 use Rattle.mesh.specs.Checks.{faceLimit}
 use Rattle.layout.specs.Layout.{width, coordsFrom, cornersFrom, statusOf, finishedOf, doneOf}
 use Rattle.layout.specs.SoundLaws.{Meshed, Ready, Worded}
-use Rattle.advance.specs.Steps.{held, Work, work, oneFace, Whole, whole, slotWork, stored, slotsRun}
-
--- ---- the work left at a place, by values that equal its words
-work-bound : (q m : ℕ) → q ≤ 16 → m ≤ faceLimit → q * m ≤ 33554432
-work-bound q m a b = mul-le-mul a b
-
-work-low : (q m d : ℕ) → 0 < q → d ≤ m → d ≤ q * m
-work-low zero m d h l = absurd (omega arith)
-work-low (suc q) m d h l = rw (suc-mul q m) (omega arith)
-
-pub left-term : (m i s n d q a b : ℕ) → Ready m i (s - 1) n d → m ≤ faceLimit → q ≡ s - 1 → a ≡ n → b ≡ d → a < q → ((q - a) * m ≤ 33554432) × (b ≤ (q - a) * m)
-left-term m i s n d q a b r hm e f g h =
-    let z = r .part (omega arith) in
-    (work-bound (q - a) m (omega (arith, r)) hm, work-low (q - a) m b (omega arith) (omega arith))
-
-pub left-none : (m s n d : ℕ) → s - 1 ≤ n → 0 ≡ (s - 1 - n) * m - d
-left-none m s n d h = let e : s - 1 - n ≡ 0 = omega arith in rw (e, zero-mul, zero-sub) refl
+use Rattle.layout.specs.Left.{held}
+use Rattle.advance.specs.Steps.{Work, work, oneFace, Whole, whole, slotWork, stored, slotsRun}
 
 -- ---- steps at place i do not reach the mesh
 one-mesh : (t : ℕ → Triangle) (c : V3) (m i p : ℕ) → i < 32 → p ≤ 16 → (r : Work) → drop coordsFrom (oneFace t c m (225 + 48 * i) p r .floats) ≡ drop coordsFrom (r .floats)

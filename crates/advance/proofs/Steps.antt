@@ -16,10 +16,11 @@ use Rattle.runs.specs.RunLaws.{length-part}
 use Rattle.mesh.specs.declared.vectors.V3.{V3}
 use Rattle.mesh.specs.declared.triangles.Triangle.{Triangle}
 use Rattle.mesh.specs.Triangles.{Sound}
-use Rattle.mass.specs.Volume.{faceStep, volumeFrom}
+use Rattle.volume.specs.Volume.{faceStep, volumeFrom}
 use Rattle.layout.specs.Layout.{centreAt, width, coordsFrom, cornersFrom}
 use Rattle.layout.specs.SoundLaws.{Meshed, Ready}
-use Rattle.advance.specs.Steps.{held, Work, work, oneFace}
+use Rattle.layout.specs.Left.{held}
+use Rattle.advance.specs.Steps.{Work, work, oneFace}
 
 module _ (t : ℕ → Triangle) (c : V3) (m base p : ℕ) where
   -- what k faces of one piece, from d on, leave in the floats
@@ -63,22 +64,6 @@ module _ (t : ℕ → Triangle) (c : V3) (m base p : ℕ) where
   unfolding oneFace
   idle zero r e = refl
   idle (suc k) r e = rw (idle k r e, e) refl
-
--- ---- the mesh that a store holds is one that `volume_from` takes
-pub mesh-ready : (fs : List Float) (ws : List ℕ) (vs ms : ℕ) → Meshed width fs ws vs ms → (d k : ℕ) → d + k ≤ ms
-    → (Sound (length (take (coordsFrom + 3 * vs - coordsFrom) (drop coordsFrom fs))) (take (cornersFrom width + 3 * ms - cornersFrom width) (drop (cornersFrom width) ws)))
-    × ((d ≤ d + k) × (3 * (d + k) ≤ length (take (cornersFrom width + 3 * ms - cornersFrom width) (drop (cornersFrom width) ws))))
-mesh-ready fs ws vs ms h d k hk =
-    let a = length-part ws (cornersFrom width) (3 * ms) (h .words) in
-    let b = length-part fs coordsFrom (3 * vs) (h .floats) in (
-      record {
-        corner = λ j l.
-            let e : getD (take (cornersFrom width + 3 * ms - cornersFrom width) (drop (cornersFrom width) ws)) j 0 ≡ getD ws (cornersFrom width + j) 0
-            = getD-take (cornersFrom width + 3 * ms - cornersFrom width) (drop (cornersFrom width) ws) j 0 (omega arith) ∙ getD-drop (cornersFrom width) ws j 0 in
-            omega (arith, h .corners j (omega arith));
-      },
-      (omega arith, omega arith),
-    )
 
 pub meshed-same : (f f₀ : List Float) (w : List ℕ) (vs ms : ℕ) → length f ≡ length f₀ → Meshed width f₀ w vs ms → Meshed width f w vs ms
 meshed-same f f₀ w vs ms e m = record { floats = rw e (m .floats); words = m .words; verts = m .verts; faces = m .faces; corners = m .corners }

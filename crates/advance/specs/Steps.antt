@@ -9,15 +9,11 @@ use Rattle.base.specs.Answers.{counted}
 use Rattle.base.specs.Loops.{iterate}
 use Rattle.mesh.specs.declared.vectors.V3.{V3}
 use Rattle.mesh.specs.declared.triangles.Triangle.{Triangle}
-use Rattle.mesh.specs.Triangles.{triangleAt}
-use Rattle.mass.specs.Volume.{faceSum}
+use Rattle.volume.specs.Volume.{faceSum}
 use Rattle.layout.specs.Layout.{slotLimit, centreAt, piecesFrom, coordsFrom, cornersFrom, vertsOf, facesOf, statusOf, finishedAt, finishedOf, doneAt, doneOf}
 use Rattle.layout.specs.Soundness.{storeCheck}
+use Rattle.layout.specs.Left.{held, leftOf}
 use Rattle.store.specs.Calls.{After, after, guarded}
-
--- the triangles of the mesh that the runs hold
-abbrev pub held : ℕ → List Float → List ℕ → ℕ → ℕ → ℕ → Triangle
-held q fs ws verts faces = triangleAt (take (3 * verts) (drop coordsFrom fs)) (take (3 * faces) (drop (cornersFrom q) ws))
 
 -- ---- "one face of one piece each"
 
@@ -69,14 +65,6 @@ stored q ws i r = whole (r .floats) (set (set ws (finishedAt q i) (r .finished))
 unfoldable pub slotsRun : ℕ → (ℕ → Triangle) → ℕ → ℕ → Whole → Whole
 slotsRun q t m zero s = s
 slotsRun q t m (suc i) s = stored q (slotsRun q t m i s .words) i (slotWork q t m i (slotsRun q t m i s))
-
--- ---- "left, the sum of need - p", where p = finished * F + done
-abbrev pub leftAt : ℕ → List ℕ → ℕ → ℕ → ℕ
-leftAt q ws m i = (statusOf q ws i - 1 - finishedOf q ws i) * m - doneOf q ws i
-
-unfoldable pub leftOf : ℕ → List ℕ → ℕ → ℕ → ℕ
-leftOf q ws m zero = 0
-leftOf q ws m (suc k) = leftOf q ws m k + leftAt q ws m k
 
 -- ---- the call: "the step count in its result is done, beside left"
 abbrev pub spentAll : ℕ → List Float → List ℕ → ℕ → Whole

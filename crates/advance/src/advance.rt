@@ -4,11 +4,11 @@ ghost use Rattle.layout.specs.Layout.{width};
 ghost use Rattle.store.specs.Calls.{after};
 ghost use Rattle.advance.specs.Steps.{advanceStep};
 ghost use Rattle.advance.specs.AdvanceAnswer.{advanced};
-use crate::left::left;
 use crate::work::run_slots;
 use base::refusal::Checked;
 use base::refusal::Refusal;
 use layout::check::check_store;
+use layout::left::left;
 use runs::less;
 use runs::word;
 

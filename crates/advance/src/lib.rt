@@ -1,4 +1,3 @@
-// The call that does a store's work in portions, and the work that is left.
+// The call that does a store's work in portions.
 pub mod advance;
-pub mod left;
 pub mod work;

@@ -6,11 +6,12 @@ ghost use lib.ListN.{take, drop, getD, set};
 ghost use lib.Ieee.{nan};
 ghost use Rattle.base.specs.Loops.{times, iterate};
 ghost use Rattle.mesh.specs.Triangles.{triangleAt};
-ghost use Rattle.mass.specs.Volume.{volumeFrom};
+ghost use Rattle.volume.specs.Volume.{volumeFrom};
 ghost use Rattle.layout.specs.Layout.{centreAt, width, slotLimit, piecesFrom, coordsFrom, cornersFrom, statusOf, finishedOf, doneOf};
 ghost use Rattle.layout.specs.SoundLaws.{Ready, Meshed, Worded};
-ghost use Rattle.advance.specs.Steps.{held, work, oneFace, whole, slotWork, stored, slotsRun};
-use crate::left::pieces;
+ghost use Rattle.layout.specs.Left.{held};
+ghost use Rattle.advance.specs.Steps.{work, oneFace, whole, slotWork, stored, slotsRun};
+use layout::left::pieces;
 use layout::offsets::COORDS;
 use layout::offsets::CORNERS;
 use layout::offsets::KERNEL;
@@ -20,10 +21,10 @@ use layout::offsets::PIECES_SIZE;
 use layout::offsets::SLOTS;
 use layout::offsets::STATE;
 use layout::offsets::WIDTH;
-use mass::volume::volume_from;
 use mesh::vectors::V3;
 use runs::lesser;
 use runs::word;
+use volume::faces::volume_from;
 
 // Where the work on a place stands, and the steps still to spend.
 pub struct Ran {

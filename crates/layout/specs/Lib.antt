@@ -1,3 +1,5 @@
 pub mod Layout
 pub mod Soundness
 pub mod SoundLaws
+pub mod Left
+pub mod LeftLaws

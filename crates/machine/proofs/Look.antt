@@ -11,14 +11,14 @@ use lib.Ieee.{Float, nan, lt, ofBits}
 use borrow.Author.Tests.{ltb-false, ne-eqb}
 use Rattle.base.specs.Floats.{+0, greater}
 use Rattle.base.specs.declared.refusal.Refusal.the-variants.{Unfinished}
-use Rattle.mass.specs.Centroid.{bodyVolume}
+use Rattle.volume.specs.Volume.{bodyVolume}
 use Rattle.kernel.specs.declared.kernel.Kernel.{Kernel}
 use Rattle.pieces.specs.declared.pieces.Pieces.{Pieces}
 use Rattle.density.specs.declared.convention.Convention.{Convention}
 use Rattle.density.specs.declared.convention.Convention.the-variants.{Raw, Rho0, Mass}
 use Rattle.density.specs.Conventions.{bulkOf, targetOf, rho0Scale, massScale, appliedScale}
 use Rattle.layout.specs.Layout.{vertsOf, facesOf}
-use Rattle.advance.specs.Steps.{held}
+use Rattle.layout.specs.Left.{held}
 use Rattle.readings.specs.Readings.{Reading, density, report, list, byMass, needsWork, Part, bare, densityAt, rawMass, origin, applied, rescaled, Seen, seeing, outcome, listing, answerOf, refusing, readingOf, heldFilled, heldWorst, heldSeen, readStep}
 use Rattle.machine.specs.Machine.{Mesh, Slot, empty, full, leftSum}
 use Rattle.machine.specs.Holding.{Width, triangles, placeRow, floatsOf, wordsOf}

@@ -13,9 +13,9 @@ use lib.Dec.{eqb}
 use lib.Ieee.{Float, nan}
 use borrow.Author.Tests.{lt-ltb, le-ltb, ne-eqb, eqb-true, eqb-false}
 use Rattle.base.specs.Loops.{iterate}
-use Rattle.mass.specs.Volume.{faceSum, volumeTo}
-use Rattle.mass.specs.Laws.{volume-suc}
-use Rattle.mass.specs.Total.{centreOf}
+use Rattle.volume.specs.Volume.{faceSum, volumeTo}
+use Rattle.volume.specs.Laws.{volume-suc}
+use Rattle.field.specs.Field.{centreOf}
 use Rattle.kernel.specs.declared.kernel.Kernel.{Kernel}
 use Rattle.pieces.specs.declared.pieces.Pieces.{Pieces}
 use Rattle.advance.specs.Steps.{Work, work, oneFace}

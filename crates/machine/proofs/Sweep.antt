@@ -12,11 +12,12 @@ use lib.Dec.{eqb}
 use lib.Ieee.{Float}
 use Rattle.base.specs.Loops.{iterate}
 use Rattle.base.specs.LoopLaws.{iterate-inner}
-use Rattle.mass.specs.Total.{centreOf}
+use Rattle.field.specs.Field.{centreOf}
 use Rattle.kernel.specs.declared.kernel.Kernel.{Kernel}
 use Rattle.pieces.specs.declared.pieces.Pieces.{Pieces}
 use Rattle.layout.specs.Layout.{centreAt}
-use Rattle.advance.specs.Steps.{work, Whole, whole, slotWork, stored, slotsRun, leftOf}
+use Rattle.advance.specs.Steps.{work, Whole, whole, slotWork, stored, slotsRun}
+use Rattle.layout.specs.Left.{leftOf}
 use Rattle.advance.proofs.Steps.{idle}
 use Rattle.machine.specs.Machine.{Mesh, Slot, empty, full, need, leftSlot, leftSum, adv, bump}
 use Rattle.machine.specs.Holding.{Width, triangles, finished, placeRow, floatsOf, wordsOf}

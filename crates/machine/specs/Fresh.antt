@@ -5,9 +5,9 @@ use Prim.Native.Nat.{ℕ, zero, suc, _+_}
 use lib.ListN.{getD}
 use lib.Ieee.{Float, nan}
 use Rattle.base.specs.Floats.{_⊗_, +0, greater}
-use Rattle.mass.specs.Volume.{kernelVolume}
-use Rattle.mass.specs.Centroid.{bodyVolume}
-use Rattle.mass.specs.Total.{centreOf}
+use Rattle.volume.specs.Volume.{kernelVolume}
+use Rattle.volume.specs.Volume.{bodyVolume}
+use Rattle.field.specs.Field.{centreOf}
 use Rattle.kernel.specs.declared.kernel.Kernel.{Kernel}
 use Rattle.pieces.specs.declared.pieces.Pieces.{Pieces}
 use Rattle.pieces.specs.Pieces.{decomposed, pieceAlpha}

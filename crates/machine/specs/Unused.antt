@@ -8,8 +8,8 @@ use lib.ListN.{getD, replicate}
 use lib.Ieee.{Float, nan}
 use Rattle.base.specs.Floats.{+0}
 use Rattle.base.specs.Loops.{times}
-use Rattle.mass.specs.Volume.{volumeTo}
-use Rattle.mass.specs.Total.{centreOf}
+use Rattle.volume.specs.Volume.{volumeTo}
+use Rattle.field.specs.Field.{centreOf}
 use Rattle.kernel.specs.declared.kernel.Kernel.{Kernel}
 use Rattle.pieces.specs.declared.pieces.Pieces.{Pieces}
 use Rattle.pieces.specs.Pieces.{decomposed}

@@ -3,16 +3,15 @@ use Prim.Native.Nat.{ℕ}
 use mathlib.Core.List.{List, [], _∷_}
 use lib.ListN.{length}
 use lib.Ieee.{Float}
-use Rattle.base.specs.Answers.{Answer, accepted, refused, answered, andThen}
-use Rattle.base.specs.declared.refusal.Checked.{Checked}
-use Rattle.kernel.specs.Kernels.{listCheck}
+use Rattle.base.specs.Answers.{Answer, accepted, refused, answered}
 use Rattle.mesh.specs.declared.vectors.V3.{V3}
 use Rattle.mesh.specs.Triangles.{triangleAt, faceCount}
 use Rattle.mesh.specs.Checks.{meshCheck}
+use Rattle.field.specs.Field.{fieldCheck}
+use Rattle.volume.specs.Volume.{kernelVolume, bodyVolume}
 use Rattle.mass.specs.declared.calls.Located.{Located}
 use Rattle.mass.specs.declared.calls.Located.the-variants.{At, Refused}
-use Rattle.mass.specs.Volume.{kernelVolume}
-use Rattle.mass.specs.Centroid.{bodyVolume, volumeCentroid}
+use Rattle.mass.specs.Centroid.{volumeCentroid}
 use Rattle.mass.specs.Total.{fieldMass}
 
 abbrev pub pointValues : V3 → List Float
@@ -34,10 +33,6 @@ bodyVolumeCall xyz corners =
 unfoldable pub volumeCentroidCall : List Float → List ℕ → Answer
 volumeCentroidCall xyz corners =
     answered (meshCheck (length xyz) corners) (pointValues (volumeCentroid (triangleAt xyz corners) (faceCount corners)))
-
--- of the mesh first, then of the list
-unfoldable pub fieldCheck : ℕ → List ℕ → List Float → Checked
-fieldCheck coordinates corners kernels = andThen (meshCheck coordinates corners) (listCheck kernels)
 
 unfoldable pub fieldMassCall : List Float → List ℕ → List Float → Answer
 fieldMassCall xyz corners kernels =

@@ -1,4 +1,4 @@
--- 01, "Remainder": `body_volume`, `volume_centroid` of native mass.rs. Definitions only.
+-- 01, "Remainder": `volume_centroid` of native mass.rs. Definitions only.
 -- A mesh is taken as its triangles t, by face number, and their count n.
 use Prim.Native.Nat.{ℕ}
 use mathlib.Core.Bool.{cond}
@@ -9,16 +9,10 @@ use Rattle.base.specs.Loops.{times}
 use Rattle.mesh.specs.declared.vectors.V3.{V3}
 use Rattle.mesh.specs.declared.triangles.Triangle.{Triangle}
 use Rattle.mesh.specs.Vectors.{dot}
-use Rattle.mass.specs.declared.dunavant.Node.{Node}
-use Rattle.mass.specs.Dunavant.{row, node, pointOf}
-use Rattle.mass.specs.Volume.{normalOf, kernelVolume}
-
-abbrev pub origin : V3
-origin = record { x = +0; y = +0; z = +0 }
-
--- `kernel_volume` at the origin with sigma 0; it is signed
-abbrev pub bodyVolume : (ℕ → Triangle) → ℕ → Float
-bodyVolume t n = kernelVolume t n origin +0
+use Rattle.mesh.specs.Triangles.{normalOf}
+use Rattle.field.specs.declared.dunavant.Node.{Node}
+use Rattle.field.specs.Dunavant.{row, node, pointOf}
+use Rattle.volume.specs.Volume.{origin, bodyVolume}
 
 -- what a point y adds to the three sums: ((w·0.25)·(y·y))·n_k
 unfoldable pub moment : Triangle → V3 → Node → V3 → V3

@@ -1,6 +1,3 @@
-pub mod Dunavant
-pub mod Volume
-pub mod Block
 pub mod Centroid
 pub mod Total
 pub mod Calls

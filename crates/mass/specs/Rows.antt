@@ -7,9 +7,9 @@ use Rattle.base.specs.Loops.{times}
 use Rattle.mesh.specs.declared.vectors.V3.{V3}
 use Rattle.mesh.specs.declared.triangles.Triangle.{Triangle}
 use Rattle.radial.specs.Radial.{seriesOf, radialG}
-use Rattle.mass.specs.Volume.{volumeTo, kernelVolume}
-use Rattle.mass.specs.Centroid.{origin, momentTo, centred, volumeCentroid}
-use Rattle.mass.specs.Dunavant.{third}
+use Rattle.field.specs.Dunavant.{third}
+use Rattle.volume.specs.Volume.{origin, volumeTo, kernelVolume}
+use Rattle.mass.specs.Centroid.{momentTo, centred, volumeCentroid}
 
 -- "g(0) = 1/3"
 pub g-zero : radialG +0 ≡ third

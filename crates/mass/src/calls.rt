@@ -1,19 +1,18 @@
 // The calls on a mesh that is given beside them: volumes, centroid, mass. None has a `requires`;
 // a mesh or a list that will not do is refused by its number.
 ghost use mathlib.Core.Path.{_≡_};
-ghost use lib.ListN.{length};
 ghost use Rattle.base.specs.Answers.{measuredAs};
-ghost use Rattle.mass.specs.Calls.{locatedAs, kernelVolumeCall, bodyVolumeCall, volumeCentroidCall, fieldCheck, fieldMassCall};
-use crate::centroid::body_volume_of;
+ghost use Rattle.mass.specs.Calls.{locatedAs, kernelVolumeCall, bodyVolumeCall, volumeCentroidCall, fieldMassCall};
 use crate::centroid::centroid_of;
 use crate::total::field_mass_of;
-use crate::volume::volume_of;
 use base::refusal::Checked;
 use base::refusal::Measured;
 use base::refusal::Refusal;
-use kernel::kernel::check_list;
+use field::check_field;
 use mesh::check::check_mesh;
 use mesh::vectors::V3;
+use volume::faces::body_volume_of;
+use volume::faces::volume_of;
 
 // A point, or the refusal.
 pub enum Located {
@@ -51,17 +50,6 @@ pub fn volume_centroid(xyz: &[f64], faces: &[u32]) -> Located
     match checked {
         Checked::Passed => Located::At(centroid_of(xyz, faces)),
         Checked::Failed(refusal) => Located::Refused(refusal),
-    }
-}
-
-// Refusals 1, 2, 3 of a mesh, then 9 of a list of kernels.
-pub fn check_field(xyz: &[f64], faces: &[u32], kernels: &[f64]) -> Checked
-    ensures { λ r. ⌜ r ≡ fieldCheck (length (now (xyz .entry))) (now (faces .entry)) (now (kernels .entry)) ⌝ }
-{
-    let checked = check_mesh(xyz, faces);
-    match checked {
-        Checked::Passed => check_list(kernels),
-        Checked::Failed(refusal) => Checked::Failed(refusal),
     }
 }
 

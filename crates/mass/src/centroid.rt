@@ -1,25 +1,25 @@
-// The volume and the centroid of a body, for meshes that are sound.
+// The centroid of a body, for meshes that are sound.
 ghost use mathlib.Core.Path.{_≡_};
 ghost use lib.ListN.{length};
 ghost use Rattle.mesh.specs.Triangles.{triangleAt, faceCount, Sound};
-ghost use Rattle.mass.specs.Centroid.{bodyVolume, moment, threeMoments, faceMoment, momentTo, centred, volumeCentroid};
-use crate::dunavant::INNER_ONE;
-use crate::dunavant::INNER_TWO;
-use crate::dunavant::INNER_WEIGHT;
-use crate::dunavant::MIDDLE_WEIGHT;
-use crate::dunavant::Node;
-use crate::dunavant::OUTER_ONE;
-use crate::dunavant::OUTER_TWO;
-use crate::dunavant::OUTER_WEIGHT;
-use crate::dunavant::THIRD;
-use crate::dunavant::point_of;
-use crate::volume::normal_of;
-use crate::volume::volume_of;
+ghost use Rattle.mass.specs.Centroid.{moment, threeMoments, faceMoment, momentTo, centred, volumeCentroid};
 use base::floats::abs;
+use field::dunavant::INNER_ONE;
+use field::dunavant::INNER_TWO;
+use field::dunavant::INNER_WEIGHT;
+use field::dunavant::MIDDLE_WEIGHT;
+use field::dunavant::Node;
+use field::dunavant::OUTER_ONE;
+use field::dunavant::OUTER_TWO;
+use field::dunavant::OUTER_WEIGHT;
+use field::dunavant::THIRD;
+use field::dunavant::point_of;
 use mesh::triangles::Triangle;
+use mesh::triangles::normal_of;
 use mesh::triangles::triangle_at;
 use mesh::vectors::V3;
 use mesh::vectors::dot;
+use volume::faces::body_volume_of;
 
 // Zeros.
 const ORIGIN: V3 = V3 {
@@ -27,14 +27,6 @@ const ORIGIN: V3 = V3 {
     y: 0.0,
     z: 0.0,
 };
-
-// The enclosed volume, signed.
-pub fn body_volume_of(xyz: &[f64], faces: &[u32]) -> f64
-    requires { ⌜ Sound (length (now xyz)) (now faces) ⌝ }
-    ensures { λ r. ⌜ r ≡ bodyVolume (triangleAt (now (xyz .entry)) (now (faces .entry))) (faceCount (now (faces .entry))) ⌝ }
-{
-    volume_of(xyz, faces, ORIGIN, 0.0)
-}
 
 // The sums after the point at a node, for the normal n.
 fn moment(acc: V3, t: Triangle, n: V3, k: Node) -> V3

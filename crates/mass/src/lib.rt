@@ -1,7 +1,4 @@
-// Volumes and masses of kernels inside a mesh, as surface integrals (native mass.rs).
-mod block;
+// Volume, centroid and mass of a field, with their refusals (native mass.rs).
 pub mod calls;
 pub mod centroid;
-pub mod dunavant;
 pub mod total;
-pub mod volume;

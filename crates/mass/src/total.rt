@@ -2,22 +2,10 @@
 ghost use mathlib.Core.Path.{_≡_};
 ghost use lib.ListN.{length};
 ghost use Rattle.mesh.specs.Triangles.{triangleAt, faceCount, Sound};
-ghost use Rattle.mass.specs.Total.{centreOf, fieldMass};
-use crate::volume::volume_of;
-use kernel::kernel::Kernel;
+ghost use Rattle.mass.specs.Total.{fieldMass};
+use field::centre_of;
 use kernel::kernel::kernel_at;
-use mesh::vectors::V3;
-
-// A kernel's centre.
-pub fn centre_of(k: Kernel) -> V3
-    ensures { λ r. ⌜ r ≡ centreOf k ⌝ }
-{
-    V3 {
-        x: k.c[0],
-        y: k.c[1],
-        z: k.c[2],
-    }
-}
+use volume::faces::volume_of;
 
 // Weight times volume of each kernel, added up.
 pub fn field_mass_of(xyz: &[f64], faces: &[u32], kernels: &[f64]) -> f64

@@ -6,6 +6,7 @@ use lib.ListN.{getD, length}
 use lib.Ieee.{Float, nan}
 use Rattle.mesh.specs.declared.vectors.V3.{V3}
 use Rattle.mesh.specs.declared.triangles.Triangle.{Triangle}
+use Rattle.mesh.specs.Vectors.{vsub, cross}
 
 -- vertex i of a run of coordinates
 unfoldable pub vertex : List Float → ℕ → V3
@@ -19,6 +20,10 @@ triangleAt xyz corners f =
       b = vertex xyz (getD corners (3 * f + 1) 0);
       c = vertex xyz (getD corners (3 * f + 2) 0);
     }
+
+-- the raw normal: cross(p1 - p0, p2 - p1)
+unfoldable pub normalOf : Triangle → V3
+normalOf t = cross (vsub (t .b) (t .a)) (vsub (t .c) (t .b))
 
 -- how many faces there are
 abbrev pub faceCount : List ℕ → ℕ

@@ -3,8 +3,10 @@
 ghost use mathlib.Core.Path.{_≡_};
 ghost use Prim.Native.Nat.{_+_, _*_, _≤_, _<_};
 ghost use lib.ListN.{length, getD};
-ghost use Rattle.mesh.specs.Triangles.{vertex, triangleAt, Sound};
+ghost use Rattle.mesh.specs.Triangles.{vertex, triangleAt, normalOf, Sound};
 use crate::vectors::V3;
+use crate::vectors::cross;
+use crate::vectors::sub;
 
 // The three corners of a face, in the face's order.
 #[repr(C)]
@@ -43,4 +45,14 @@ pub fn triangle_at(xyz: &[f64], faces: &[u32], f: usize) -> Triangle
     let b = corner(xyz, faces, 3 * f + 1);
     let c = corner(xyz, faces, 3 * f + 2);
     Triangle { a, b, c }
+}
+
+// The normal of a triangle, as long as twice its area.
+pub fn normal_of(t: Triangle) -> V3
+    ensures { λ r. ⌜ r ≡ normalOf t ⌝ }
+{
+    let a = t.a;
+    let b = t.b;
+    let c = t.c;
+    cross(sub(b, a), sub(c, b))
 }

@@ -10,7 +10,7 @@ use Rattle.base.specs.declared.refusal.Checked.{Checked}
 use Rattle.base.specs.declared.refusal.Checked.the-variants.{Passed, Failed}
 use Rattle.layout.specs.Layout.{slotLimit, facesOf}
 use Rattle.layout.specs.Soundness.{storeCheck}
-use Rattle.advance.specs.Steps.{leftOf}
+use Rattle.layout.specs.Left.{leftOf}
 
 -- the check of a store, then whether work is left that the reading needs
 unfoldable pub readCheck : ℕ → List Float → List ℕ → Bool → Checked

@@ -16,7 +16,7 @@ use Rattle.base.specs.declared.refusal.Checked.the-variants.{Passed, Failed}
 use Rattle.layout.specs.Layout.{slotLimit, facesOf}
 use Rattle.layout.specs.Soundness.{storeCheck}
 use Rattle.layout.specs.SoundLaws.{passed-both}
-use Rattle.advance.specs.Steps.{leftOf}
+use Rattle.layout.specs.Left.{leftOf}
 use Rattle.readings.specs.Readings.{Part, bare, outcome, listing, Reading, needsWork, answerOf, refusing, guardedRead, heldSeen, readStep}
 use Rattle.readings.specs.Checks.{readCheck}
 

@@ -13,7 +13,7 @@ use Rattle.base.specs.declared.refusal.Refusal.the-variants.{Unfinished, ShortL
 use Rattle.base.specs.declared.refusal.Checked.{Checked}
 use Rattle.base.specs.declared.refusal.Checked.the-variants.{Passed, Failed}
 use Rattle.runs.specs.Runs.{write}
-use Rattle.mass.specs.Centroid.{bodyVolume}
+use Rattle.volume.specs.Volume.{bodyVolume}
 use Rattle.kernel.specs.declared.kernel.Kernel.{Kernel}
 use Rattle.pieces.specs.Pieces.{pieceAlpha}
 use Rattle.density.specs.declared.convention.Convention.{Convention}
@@ -24,7 +24,7 @@ use Rattle.density.specs.Conventions.{bulkOf, rho0Scale, appliedScale}
 use Rattle.density.specs.Reports.{reportOf}
 use Rattle.layout.specs.Layout.{slotLimit, centreOf, weightOf, alphaOf, errorOf, pieceFrom, vertsOf, facesOf, statusOf}
 use Rattle.layout.specs.Soundness.{storeCheck}
-use Rattle.advance.specs.Steps.{held, leftOf}
+use Rattle.layout.specs.Left.{held, leftOf}
 
 -- ---- a reading and its convention
 

@@ -14,7 +14,6 @@ ghost use Rattle.readings.specs.Checks.{readCheck};
 use crate::sums::density_sum;
 use crate::sums::origin_density;
 use crate::sums::raw_mass;
-use advance::left::left;
 use base::refusal::Checked;
 use base::refusal::Measured;
 use base::refusal::Refusal;
@@ -23,6 +22,7 @@ use density::convention::applied_scale;
 use density::convention::bulk_of;
 use density::convention::rho0_scale;
 use layout::check::check_store;
+use layout::left::left;
 use runs::word;
 
 // Whether a convention is by mass with a target above 0.

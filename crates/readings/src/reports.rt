@@ -3,11 +3,11 @@ ghost use mathlib.Core.Path.{_≡_};
 ghost use mathlib.Core.List.{[], map};
 ghost use Prim.Native.Nat.{_≤_};
 ghost use lib.ListN.{length};
-ghost use Rattle.mass.specs.Centroid.{bodyVolume};
+ghost use Rattle.volume.specs.Volume.{bodyVolume};
 ghost use Rattle.density.specs.Reports.{reportOf};
 ghost use Rattle.layout.specs.Layout.{width, slotLimit};
 ghost use Rattle.layout.specs.SoundLaws.{Meshed, Worded};
-ghost use Rattle.advance.specs.Steps.{held};
+ghost use Rattle.layout.specs.Left.{held};
 ghost use Rattle.readings.specs.Readings.{bare, densityAt, rawMass, origin, heldAll, outcome, readStep};
 ghost use Rattle.readings.specs.Readings;
 ghost use Rattle.readings.specs.ReportAnswer.{reportRead};
@@ -24,9 +24,9 @@ use density::report::MassReport;
 use density::report::report_of;
 use layout::offsets::COORDS;
 use layout::offsets::CORNERS;
-use mass::volume::volume_from;
 use mesh::vectors::V3;
 use runs::word;
+use volume::faces::volume_from;
 
 // The answer of a report: the masses, the filled places, the pieces, and the greatest error.
 pub enum Reported {

@@ -10,8 +10,8 @@ ghost use Rattle.readings.specs.Readings.{bare, heldPart, heldAt, heldAl
 ghost use Rattle.readings.specs.Folds.{fold, scaledStep, originStep, massStep};
 use crate::held::piece_at;
 use crate::held::rescale;
-use advance::left::pieces;
 use density::densitize::density_of;
+use layout::left::pieces;
 use layout::offsets::PIECE;
 use layout::offsets::PIECES_SIZE;
 use layout::offsets::SLOTS;

@@ -6,7 +6,7 @@ use lib.Ieee.{Float}
 use Rattle.base.specs.Answers.{Answer, accepted, refused, answered}
 use Rattle.mesh.specs.Triangles.{triangleAt, faceCount}
 use Rattle.mesh.specs.Checks.{meshCheck}
-use Rattle.mass.specs.Centroid.{bodyVolume}
+use Rattle.volume.specs.Volume.{bodyVolume}
 use Rattle.density.specs.declared.report.MassReport.{MassReport}
 use Rattle.density.specs.Reports.{homogeneousOf}
 use Rattle.reports.specs.declared.Reported.{Reported}

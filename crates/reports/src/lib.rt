@@ -6,8 +6,8 @@ use base::refusal::Checked;
 use base::refusal::Refusal;
 use density::report::MassReport;
 use density::report::homogeneous_of;
-use mass::centroid::body_volume_of;
 use mesh::check::check_mesh;
+use volume::faces::body_volume_of;
 
 // A report, or the refusal.
 pub enum Reported {

@@ -19,9 +19,9 @@ use Rattle.pieces.specs.Rows.{near, twoAndHalf}
 use Rattle.pieces.specs.Rows as pieces
 use Rattle.mesh.specs.declared.vectors.V3.{V3}
 use Rattle.mesh.specs.declared.triangles.Triangle.{Triangle}
-use Rattle.mass.specs.Volume.{kernelVolume}
+use Rattle.volume.specs.Volume.{kernelVolume}
 use Rattle.mass.specs.Centroid.{volumeCentroid}
-use Rattle.mass.specs.Dunavant.{third-is}
+use Rattle.field.specs.Dunavant.{third-is}
 use Rattle.mass.specs.Rows as mass
 use Rattle.density.specs.Densitize.{densitized}
 use Rattle.density.specs.Rows as density

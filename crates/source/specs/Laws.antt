@@ -8,7 +8,7 @@ use Rattle.base.specs.LoopLaws.{times-same}
 use Rattle.kernel.specs.declared.kernel.Kernel.{Kernel}
 use Rattle.mesh.specs.declared.vectors.V3.{V3}
 use Rattle.mesh.specs.declared.triangles.Triangle.{Triangle}
-use Rattle.mass.specs.Total.{centreOf}
+use Rattle.field.specs.Field.{centreOf}
 use Rattle.source.specs.declared.calibrate.Mean.{Mean}
 use Rattle.source.specs.Volumes.{faceSum, kernelVolume, pyramid, signedVolume, enclosedVolume}
 use Rattle.source.specs.Weights.{kernelMass, rawMass, normalizedRun}

@@ -15,10 +15,10 @@ use Rattle.mesh.specs.declared.triangles.Triangle.{Triangle}
 use Rattle.mesh.specs.Vectors.{vsub, dot, norm}
 use Rattle.mesh.specs.Triangles.{triangleAt, faceCount}
 use Rattle.mesh.specs.Checks.{meshCheck}
-use Rattle.mass.specs.declared.dunavant.Node.{Node}
-use Rattle.mass.specs.Dunavant.{row, node, pointOf}
+use Rattle.field.specs.declared.dunavant.Node.{Node}
+use Rattle.field.specs.Dunavant.{row, node, pointOf}
 use Rattle.radial.specs.Radial.{radialGSeries}
-use Rattle.mass.specs.Volume.{normalOf}
+use Rattle.mesh.specs.Triangles.{normalOf}
 
 -- ---- `kernel_volume`
 

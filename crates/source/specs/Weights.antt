@@ -17,8 +17,8 @@ use Rattle.kernel.specs.declared.kernel.Kernel.{Kernel}
 use Rattle.kernel.specs.Kernels.{kernelAt, kernelSet}
 use Rattle.mesh.specs.declared.triangles.Triangle.{Triangle}
 use Rattle.mesh.specs.Triangles.{triangleAt, faceCount}
-use Rattle.mass.specs.Total.{centreOf}
-use Rattle.mass.specs.Calls.{fieldCheck}
+use Rattle.field.specs.Field.{centreOf}
+use Rattle.field.specs.Field.{fieldCheck}
 use Rattle.source.specs.declared.weights.Stretch.{Stretch}
 use Rattle.source.specs.declared.weights.Stretch.the-variants.{Not, By}
 use Rattle.source.specs.Outcomes.{After, done, kept, guarded}

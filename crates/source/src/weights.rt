@@ -10,11 +10,11 @@ use crate::volume::volume_of;
 use base::floats::abs;
 use base::refusal::Checked;
 use base::refusal::Refusal;
+use field::centre_of;
+use field::check_field;
 use kernel::kernel::Kernel;
 use kernel::kernel::kernel_at;
 use kernel::kernel::write_kernel;
-use mass::calls::check_field;
-use mass::total::centre_of;
 
 // How a list of kernels was answered: the kernels are written, or a refusal.
 pub enum Outcome {

@@ -7,7 +7,8 @@ use Rattle.base.specs.Answers.{counted}
 use Rattle.layout.specs.Layout.{width, slotLimit, facesOf}
 use Rattle.layout.specs.SoundLaws.{fine}
 use Rattle.store.specs.Calls.{after}
-use Rattle.advance.specs.Steps.{Whole, whole, leftOf, spentAll, advanceStep}
+use Rattle.layout.specs.Left.{leftOf}
+use Rattle.advance.specs.Steps.{Whole, whole, spentAll, advanceStep}
 use borrow.Author.Needs.{needs}
 use Rattle.advance.proofs.advance.advance.Statement.{statement}
 use Rattle.advance.proofs.advance.advance.Tie as tie

@@ -4,7 +4,7 @@ use mathlib.Core.Path.{_≡_, ap}
 use native.Mathlib.Omega.{arith}
 use lib.ListN.{set}
 use Rattle.layout.specs.Layout.{width, coordsFrom, cornersFrom}
-use Rattle.advance.proofs.Steps.{mesh-ready}
+use Rattle.layout.specs.LeftLaws.{mesh-ready}
 use borrow.Author.Needs.{needs}
 use Rattle.advance.proofs.work.chunk.Statement.{statement}
 use Rattle.advance.proofs.work.chunk.Tie as tie

@@ -3,7 +3,7 @@ use mathlib.Core.Path.{_≡_, sym, _∙_}
 use native.Mathlib.Omega.{arith}
 use Rattle.layout.specs.Layout.{width, slotLimit, facesOf}
 use Rattle.layout.specs.SoundLaws.{fine}
-use Rattle.advance.specs.Steps.{leftOf}
+use Rattle.layout.specs.Left.{leftOf}
 use Rattle.readings.specs.Checks.{readCheck}
 use borrow.Author.Needs.{needs}
 use Rattle.readings.proofs.at_point.check_read.Statement.{statement}

@@ -3,9 +3,9 @@ use Prim.Native.Nat.{_+_, _-_, _*_}
 use mathlib.Core.Path.{_≡_}
 use native.Mathlib.Nat.{sub-zero}
 use native.Mathlib.Omega.{arith}
-use Rattle.mass.specs.Volume.{volumeTo, volumeFrom}
+use Rattle.volume.specs.Volume.{volumeTo, volumeFrom}
 use Rattle.layout.specs.Layout.{width, coordsFrom, cornersFrom}
-use Rattle.advance.proofs.Steps.{mesh-ready}
+use Rattle.layout.specs.LeftLaws.{mesh-ready}
 use borrow.Author.Needs.{needs}
 use Rattle.readings.proofs.reports.body_of.Statement.{statement}
 use Rattle.readings.proofs.reports.body_of.Tie as tie

@@ -2,11 +2,11 @@
 use mathlib.Core.Path.{_≡_, refl, sym, _∙_}
 use mathlib.Core.List.{map}
 use native.Mathlib.Omega.{arith}
-use Rattle.mass.specs.Centroid.{bodyVolume}
+use Rattle.volume.specs.Volume.{bodyVolume}
 use Rattle.density.specs.Reports.{reportOf}
 use Rattle.layout.specs.Layout.{width, vertsOf, facesOf}
 use Rattle.layout.specs.SoundLaws.{fine}
-use Rattle.advance.specs.Steps.{held}
+use Rattle.layout.specs.Left.{held}
 use Rattle.readings.specs.Readings.{bare, densityAt, rawMass, origin, report, heldAll, heldSeen}
 use Rattle.readings.specs.Lists.{all-length}
 use Rattle.readings.specs.ReadLaws.{read-as, read-passed}

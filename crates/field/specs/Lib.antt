@@ -1,0 +1,3 @@
+pub mod Dunavant
+pub mod Field
+pub mod FieldLaws

@@ -1,0 +1,54 @@
+// The work that a store has left, by its words.
+// Internal: a function with a `requires` is called by proved code alone.
+ghost use mathlib.Core.Path.{_≡_};
+ghost use Prim.Native.Nat.{_-_, _*_, _≤_, _<_};
+ghost use lib.ListN.{length};
+ghost use Rattle.mesh.specs.Checks.{faceLimit};
+ghost use Rattle.layout.specs.Layout.{width, slotLimit, cornersFrom, statusOf};
+ghost use Rattle.layout.specs.SoundLaws.{Worded};
+ghost use Rattle.layout.specs.Left.{leftAt, leftOf};
+use crate::offsets::SLOTS;
+use crate::offsets::STATE;
+use crate::offsets::WIDTH;
+use runs::word;
+
+// The pieces of a place, by its status.
+pub fn pieces(status: u32) -> usize
+    ensures { λ r. ⌜ r ≡ status - 1 ⌝ }
+{
+    if status == 0 {
+        0
+    } else {
+        (status - 1) as usize
+    }
+}
+
+// The steps that place i has left.
+fn left_at(w: &[u32], i: usize, faces: usize) -> usize
+    requires { ⌜ Worded width (now w) faces ⌝ ∗ ⌜ i < slotLimit ⌝ }
+    ensures { λ r. ⌜ (r ≡ leftAt width (now (w .entry)) faces i) × (r ≤ 33554432) ⌝ }
+{
+    let at = WIDTH * i;
+    let count = pieces(w[STATE + at]);
+    let finished = word(w, STATE + 1 + at);
+    let done = word(w, STATE + 2 + at);
+    if finished < count {
+        (count - finished) * faces - done
+    } else {
+        0
+    }
+}
+
+// The steps that all places have left.
+pub fn left(w: &[u32], faces: usize) -> usize
+    requires { ⌜ Worded width (now w) faces ⌝ }
+    ensures { λ r. ⌜ r ≡ leftOf width (now (w .entry)) faces slotLimit ⌝ }
+{
+    let mut sum: usize = 0;
+    let mut i: usize = 0;
+    while i < SLOTS {
+        sum += left_at(w, i, faces);
+        i += 1;
+    }
+    sum
+}

@@ -1,0 +1,50 @@
+-- `volume::block::volume_blocks` meets its contract: after i turns the sum is that of i blocks. Assumes nothing.
+use borrow.Author.Needs.{needs}
+use Prim.Native.Nat.{_+_, _*_, _-_, _≤_}
+use mathlib.Core.Path.{_≡_, sym}
+use native.Mathlib.Omega.{arith}
+use lib.ListN.{length}
+use Rattle.mesh.specs.Triangles.{triangleAt}
+use Rattle.volume.specs.Volume.{volumeFrom}
+use Rattle.volume.proofs.Blocks.{no-block, one-block}
+use Rattle.volume.proofs.block.volume_blocks.Statement.{statement}
+use Rattle.volume.proofs.block.volume_blocks.Tie as tie
+
+abbrev Inv-loop : tie.InvT-loop
+Inv-loop sum xyz faces c sigma from n squares₀ heights₀ t₀ v₀ radicands₀ g₀ sum₀ i₀ squares heights t v radicands g sum' i =
+    (i ≤ n) × (sum' ≡ volumeFrom (triangleAt xyz faces) c sigma from (from + 4 * i) sum) × (length squares ≡ 28) × (length heights ≡ 28)
+
+abbrev μ-loop : tie.MeasureT-loop
+μ-loop sum xyz faces c sigma from n squares₀ heights₀ t₀ v₀ radicands₀ g₀ sum₀ i₀ squares heights t v radicands g sum' i = n - i
+
+loop-holds : tie.Need-loop-holds Inv-loop μ-loop
+loop-holds c =
+    let a = c .before .before .args in
+    (search needs, sym (no-block (triangleAt (a .xyz .now) (a .faces .now)) (a .c) (a .sigma) (a .from) (a .sum)), search needs, search needs)
+
+loop-again : tie.Need-loop-again Inv-loop μ-loop
+loop-again c =
+    let l = c .before .before .before .before .before .before .before .before in
+    let a = l .before .before .before .args in
+    (search needs, one-block (triangleAt (a .xyz .now) (a .faces .now)) (a .c) (a .sigma) (a .from) (l .loop .i) (a .sum) (l .loop .inv .1) (c .block .ensures .0), c .block .ensures .1 .0, c .block .ensures .1 .1)
+
+returns : tie.Need-returns Inv-loop μ-loop
+returns c =
+    let l = c .before .loop in
+    let h : l .i ≡ c .before .before .before .before .args .n = omega arith in
+    rw h at (l .inv .1)
+
+pub volume-blocks-spec : {M : Type 1} → statement M
+volume-blocks-spec =
+    tie.close
+    (tie.spec
+    Inv-loop
+    μ-loop
+    loop-holds
+    (λ c. search needs)
+    (λ c. search needs)
+    (λ c κs. search needs)
+    (λ c. search needs)
+    (λ c. search needs)
+    loop-again
+    returns)

@@ -1,0 +1,129 @@
+// The volume of a kernel inside a mesh: Dunavant's seven points on each face, in one running sum.
+ghost use mathlib.Core.Path.{_≡_};
+ghost use Prim.Native.Nat.{_*_, _≤_};
+ghost use lib.ListN.{length};
+ghost use Rattle.mesh.specs.Triangles.{triangleAt, faceCount, Sound};
+ghost use Rattle.volume.specs.Volume.{flux, threeFluxes, faceSum, volumeFrom, kernelVolume, bodyVolume};
+use crate::block::volume_blocks;
+use field::dunavant::INNER_ONE;
+use field::dunavant::INNER_TWO;
+use field::dunavant::INNER_WEIGHT;
+use field::dunavant::MIDDLE_WEIGHT;
+use field::dunavant::Node;
+use field::dunavant::OUTER_ONE;
+use field::dunavant::OUTER_TWO;
+use field::dunavant::OUTER_WEIGHT;
+use field::dunavant::THIRD;
+use field::dunavant::point_of;
+use mesh::triangles::Triangle;
+use mesh::triangles::normal_of;
+use mesh::triangles::triangle_at;
+use mesh::vectors::V3;
+use mesh::vectors::dot;
+use mesh::vectors::norm;
+use mesh::vectors::sub;
+use radial::radial_g;
+
+// Zeros.
+const ORIGIN: V3 = V3 {
+    x: 0.0,
+    y: 0.0,
+    z: 0.0,
+};
+
+// What the point at a node adds, for the normal n.
+fn flux(t: Triangle, n: V3, c: V3, sigma: f64, k: Node) -> f64
+    ensures { λ r. ⌜ r ≡ flux t n c sigma k ⌝ }
+{
+    let d = sub(point_of(t, k), c);
+    k.w * radial_g(sigma * norm(d)) * dot(d, n) * 0.5
+}
+
+// The sum after the three points that have one corner's share a, the others b.
+fn three_fluxes(sum: f64, t: Triangle, n: V3, c: V3, sigma: f64, a: f64, b: f64, w: f64) -> f64
+    ensures { λ r. ⌜ r ≡ threeFluxes t n c sigma a b w sum ⌝ }
+{
+    let first = Node { a, b, c: b, w };
+    let second = Node {
+        a: b,
+        b: a,
+        c: b,
+        w,
+    };
+    let third = Node { a: b, b, c: a, w };
+    let one = sum + flux(t, n, c, sigma, first);
+    let two = one + flux(t, n, c, sigma, second);
+    two + flux(t, n, c, sigma, third)
+}
+
+// The sum after one more face: seven additions.
+pub fn face_sum(sum: f64, t: Triangle, c: V3, sigma: f64) -> f64
+    ensures { λ r. ⌜ r ≡ faceSum t c sigma sum ⌝ }
+{
+    let n = normal_of(t);
+    let middle = Node {
+        a: THIRD,
+        b: THIRD,
+        c: THIRD,
+        w: MIDDLE_WEIGHT,
+    };
+    let one = sum + flux(t, n, c, sigma, middle);
+    let four = three_fluxes(one, t, n, c, sigma, INNER_ONE, INNER_TWO, INNER_WEIGHT);
+    three_fluxes(four, t, n, c, sigma, OUTER_ONE, OUTER_TWO, OUTER_WEIGHT)
+}
+
+// The sum after the faces from `from` up to `to`, face by face.
+fn volume_faces(
+    sum: f64,
+    xyz: &[f64],
+    faces: &[u32],
+    c: V3,
+    sigma: f64,
+    from: usize,
+    to: usize,
+) -> f64
+    requires { ⌜ Sound (length (now xyz)) (now faces) ⌝ ∗ ⌜ (from ≤ to) × (3 * to ≤ length (now faces)) ⌝ }
+    ensures { λ r. ⌜ r ≡ volumeFrom (triangleAt (now (xyz .entry)) (now (faces .entry))) c sigma from to sum ⌝ }
+{
+    let mut sum = sum;
+    let mut f = from;
+    while f < to {
+        sum = face_sum(sum, triangle_at(xyz, faces, f), c, sigma);
+        f += 1;
+    }
+    sum
+}
+
+// The sum after the faces from `from` up to `to`: whole blocks, then the faces that are left.
+pub fn volume_from(
+    sum: f64,
+    xyz: &[f64],
+    faces: &[u32],
+    c: V3,
+    sigma: f64,
+    from: usize,
+    to: usize,
+) -> f64
+    requires { ⌜ Sound (length (now xyz)) (now faces) ⌝ ∗ ⌜ (from ≤ to) × (3 * to ≤ length (now faces)) ⌝ }
+    ensures { λ r. ⌜ r ≡ volumeFrom (triangleAt (now (xyz .entry)) (now (faces .entry))) c sigma from to sum ⌝ }
+{
+    let n = (to - from) / 4;
+    let blocks = volume_blocks(sum, xyz, faces, c, sigma, from, n);
+    volume_faces(blocks, xyz, faces, c, sigma, from + 4 * n, to)
+}
+
+// The volume over all faces.
+pub fn volume_of(xyz: &[f64], faces: &[u32], c: V3, sigma: f64) -> f64
+    requires { ⌜ Sound (length (now xyz)) (now faces) ⌝ }
+    ensures { λ r. ⌜ r ≡ kernelVolume (triangleAt (now (xyz .entry)) (now (faces .entry))) (faceCount (now (faces .entry))) c sigma ⌝ }
+{
+    volume_from(0.0, xyz, faces, c, sigma, 0, faces.len() / 3)
+}
+
+// The enclosed volume, signed.
+pub fn body_volume_of(xyz: &[f64], faces: &[u32]) -> f64
+    requires { ⌜ Sound (length (now xyz)) (now faces) ⌝ }
+    ensures { λ r. ⌜ r ≡ bodyVolume (triangleAt (now (xyz .entry)) (now (faces .entry))) (faceCount (now (faces .entry))) ⌝ }
+{
+    volume_of(xyz, faces, ORIGIN, 0.0)
+}
