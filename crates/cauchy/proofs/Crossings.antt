@@ -17,9 +17,9 @@ use Rattle.pieces.specs.declared.lists.DecomposedList.{DecomposedList}
 use Rattle.pieces.specs.declared.lists.DecomposedList.the-variants as listing
 use Rattle.pieces.specs.Kernels.{decomposedAs}
 use Rattle.pieces.specs.Lists.{listedAs}
-use Rattle.source.specs.declared.weights.Outcome.{Outcome}
-use Rattle.source.specs.declared.weights.Outcome.the-variants as writing
-use Rattle.source.specs.Outcomes.{After, outcomeAs}
+use Rattle.weights.specs.declared.normalize.Outcome.{Outcome}
+use Rattle.weights.specs.declared.normalize.Outcome.the-variants as writing
+use Rattle.weights.specs.Outcomes.{After, outcomeAs}
 use Rattle.cauchy.specs.Sources.{kernelsOf, told, landed}
 use Rattle.cauchy.specs.Crossing.{solveNumber, solutionOf, piecesOf, decompositionOf, listPiecesOf, listDecompositionOf}
 

@@ -5,11 +5,11 @@ use mathlib.Core.List.{List}
 use lib.Dec.{eqb}
 use lib.Ieee.{Float}
 use Rattle.base.specs.Refusals.{number}
-use Rattle.source.specs.declared.weights.Outcome.{Outcome}
-use Rattle.source.specs.declared.weights.Outcome.the-variants.{Written, Refused}
-use Rattle.source.specs.declared.calibrate.Mean.{Mean}
-use Rattle.source.specs.declared.calibrate.Mean.the-variants.{Given, Missing}
-use Rattle.source.specs.Outcomes.{After}
+use Rattle.weights.specs.declared.normalize.Outcome.{Outcome}
+use Rattle.weights.specs.declared.normalize.Outcome.the-variants.{Written, Refused}
+use Rattle.weights.specs.declared.calibrate.Mean.{Mean}
+use Rattle.weights.specs.declared.calibrate.Mean.the-variants.{Given, Missing}
+use Rattle.weights.specs.Outcomes.{After}
 use Rattle.cauchy.specs.declared.sources.CauchyKernels.{CauchyKernels}
 
 -- number and count for each case of an outcome, for a list of n kernels

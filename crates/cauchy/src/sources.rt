@@ -5,21 +5,21 @@ ghost use Prim.Native.Nat.{_/_};
 ghost use lib.ListN.{length};
 ghost use Rattle.source.specs.Density.{densityAt};
 ghost use Rattle.source.specs.Volumes.{volumeAnswer, enclosedAnswer};
-ghost use Rattle.source.specs.Weights.{normalized};
-ghost use Rattle.source.specs.Calibration.{calibrated};
+ghost use Rattle.weights.specs.Weights.{normalized};
+ghost use Rattle.weights.specs.Calibration.{calibrated};
 ghost use Rattle.cauchy.specs.Volumes.{valueFrom};
 ghost use Rattle.cauchy.specs.Sources.{kernelsOf, meanOf, told, landed};
 use crate::volumes::CauchyValue;
 use crate::volumes::value_of;
 use base::refusal::refusal_number;
 use mesh::vectors::V3;
-use source::calibrate::Mean;
-use source::calibrate::calibrate_kernels;
 use source::density::density_at;
 use source::volume::kernel_volume;
 use source::volume::mesh_enclosed_volume;
-use source::weights::Outcome;
-use source::weights::normalize_kernels;
+use weights::calibrate::Mean;
+use weights::calibrate::calibrate_kernels;
+use weights::normalize::Outcome;
+use weights::normalize::normalize_kernels;
 
 // 01's number and how many kernels are written.
 #[repr(C)]

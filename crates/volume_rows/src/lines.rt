@@ -6,7 +6,7 @@ use base::refusal::refusal_number;
 use libc::STDOUT_FILENO;
 use mass::calls::Located;
 use reports::Reported;
-use source::weights::Outcome;
+use weights::normalize::Outcome;
 
 // Writes a space and a number.
 pub fn put_number(n: u64) {

@@ -21,10 +21,10 @@ use mass::calls::kernel_field_mass;
 use mass::calls::kernel_volume;
 use mass::calls::volume_centroid;
 use reports::homogeneous;
-use source::calibrate::Mean;
-use source::calibrate::calibrate_kernels;
 use source::volume::mesh_enclosed_volume;
-use source::weights::normalize_kernels;
+use weights::calibrate::Mean;
+use weights::calibrate::calibrate_kernels;
+use weights::normalize::normalize_kernels;
 
 // The coordinates of mesh m.
 fn load_coordinates(m: usize) -> [f64; 24]

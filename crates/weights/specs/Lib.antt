@@ -1,0 +1,5 @@
+pub mod Outcomes
+pub mod Weights
+pub mod Calibration
+pub mod Laws
+pub mod Rows

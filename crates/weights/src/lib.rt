@@ -1,0 +1,3 @@
+// Source density.rs: the kernels' weights and places brought to a mass and a mesh.
+pub mod calibrate;
+pub mod normalize;
