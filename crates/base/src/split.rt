@@ -1,6 +1,5 @@
 // A float's significand and exponent, which the square root and the logarithm start from.
 // Internal: a function with a `requires` is called by proved code alone.
-ghost use mathlib.Core.Path.{_≡_};
 ghost use Prim.Native.Nat.{_<_};
 ghost use Rattle.base.specs.Split.{unitsAt, Scaled};
 

@@ -1,5 +1,5 @@
 -- What a store that passes its checks has; and that the offsets of 01 go together. Assumes nothing.
-use mathlib.Core.Path.{_≡_, refl, sym, ap}
+use mathlib.Core.Path.{_≡_, refl}
 use mathlib.Core.Bool.{Bool, true, false, _&&_, cond, and-false, and-eq-true-iff}
 use mathlib.Core.List.{List}
 use Prim.Native.Nat.{ℕ, zero, suc, _+_, _*_, _-_, _≤_, _<_}
@@ -10,12 +10,12 @@ use lib.Ieee.{Float}
 use lib.ListN.{length, getD}
 use lib.Seq.{length-take-le, getD-take, getD-drop}
 use lib.ListN.{length-drop}
-use borrow.Author.Tests.{ltb-true, leb-true, eqb-true, eqb-false}
+use borrow.Author.Tests.{ltb-true, leb-true, eqb-true}
 use Rattle.base.specs.Answers.{andThen}
 use Rattle.base.specs.declared.refusal.Refusal.the-variants.{ShortStore, Unsound, NoPlace, Vacant}
 use Rattle.base.specs.declared.refusal.Checked.{Checked}
 use Rattle.base.specs.declared.refusal.Checked.the-variants.{Passed, Failed}
-use Rattle.mesh.specs.Checks.{vertexLimit, faceLimit, allBelow}
+use Rattle.mesh.specs.Checks.{vertexLimit, faceLimit}
 use Rattle.mesh.specs.CheckLaws.{below-each}
 use Rattle.layout.specs.Layout.{width, slotLimit, pieceLimit, kernelFrom, piecesFrom, pieceFrom, coordsFrom, stateFrom, cornersFrom, cornersOf, vertsOf, facesOf, statusOf, finishedOf, doneOf}
 use Rattle.layout.specs.Soundness.{every, longEnough, slotSound, slotSoundAt, sound, storeCheck, slotCheck, filledCheck}

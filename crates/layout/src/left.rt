@@ -2,9 +2,7 @@
 // Internal: a function with a `requires` is called by proved code alone.
 ghost use mathlib.Core.Path.{_≡_};
 ghost use Prim.Native.Nat.{_-_, _*_, _≤_, _<_};
-ghost use lib.ListN.{length};
-ghost use Rattle.mesh.specs.Checks.{faceLimit};
-ghost use Rattle.layout.specs.Layout.{width, slotLimit, cornersFrom, statusOf};
+ghost use Rattle.layout.specs.Layout.{width, slotLimit};
 ghost use Rattle.layout.specs.SoundLaws.{Worded};
 ghost use Rattle.layout.specs.Left.{leftAt, leftOf};
 use crate::offsets::SLOTS;

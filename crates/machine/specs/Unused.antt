@@ -1,7 +1,7 @@
 -- 01, "The store": "Unused fields are zero". Past a kernel's last piece the runs that hold a machine are +0, whatever was done. Assumes nothing.
-use mathlib.Core.Path.{_≡_, refl, sym, ap, _∙_}
-use mathlib.Core.List.{List, [], _∷_, _++_}
-use Prim.Native.Nat.{ℕ, zero, suc, _+_, _*_, _-_, _≤_, _<_, min}
+use mathlib.Core.Path.{_≡_, refl, ap, _∙_}
+use mathlib.Core.List.{List, _++_}
+use Prim.Native.Nat.{ℕ, zero, suc, _+_, _*_, _-_, _≤_, min}
 use native.Mathlib.Nat.{suc-mul, zero-mul, suc-add, zero-add, add-zero, sub-zero}
 use native.Mathlib.Omega.{arith}
 use lib.ListN.{getD, replicate}

@@ -3,7 +3,7 @@
 use Prim.Native.Nat.{ℕ}
 use mathlib.Core.Bool.{cond}
 use lib.Ieee.{Float, lt}
-use Rattle.base.specs.Floats.{_⊕_, _⊗_, _⊘_, +0, abs}
+use Rattle.base.specs.Floats.{_⊕_, _⊗_, _⊘_, abs}
 use Rattle.base.specs.Constants.{quarter, volumeLimit}
 use Rattle.base.specs.Loops.{times}
 use Rattle.mesh.specs.declared.vectors.V3.{V3}

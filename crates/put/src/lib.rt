@@ -4,7 +4,7 @@ ghost use mathlib.Core.List.{[], _∷_};
 ghost use Prim.Native.Nat.{_+_, _*_, _≤_, _<_};
 ghost use lib.ListN.{length};
 ghost use Rattle.runs.specs.Runs.{write};
-ghost use Rattle.layout.specs.Layout.{width, slotLimit, pieceLimit, kernelFrom, piecesFrom, coordsFrom, stateFrom, cornersFrom, facesOf};
+ghost use Rattle.layout.specs.Layout.{width, slotLimit, pieceLimit, coordsFrom, cornersFrom, facesOf};
 ghost use Rattle.store.specs.Calls.{after};
 ghost use Rattle.put.specs.Puts.{seven, fresh, atFirst, putFloats, putWords, putStep};
 ghost use Rattle.put.specs.PutAnswer.{placed};

@@ -7,7 +7,6 @@ use lib.ListN.{length, set, replicate}
 use lib.Ieee.{Float}
 use Rattle.base.specs.Floats.{+0}
 use Rattle.base.specs.Answers.{Answer, counted, refused, andThen}
-use Rattle.base.specs.declared.refusal.Refusal.{Refusal}
 use Rattle.base.specs.declared.refusal.Refusal.the-variants.{ShortStore}
 use Rattle.base.specs.declared.refusal.Checked.{Checked}
 use Rattle.base.specs.declared.refusal.Checked.the-variants.{Passed, Failed}

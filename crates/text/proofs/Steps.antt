@@ -1,7 +1,6 @@
 -- One step of a token at a position: what `rest` is there, and what the token's definition makes of it. Assumes nothing.
-use mathlib.Core.Path.{_≡_, refl, sym, ap, _∙_}
+use mathlib.Core.Path.{_≡_, refl, ap, _∙_}
 use mathlib.Core.List.{List, [], _∷_}
-use mathlib.Core.Bool.{Bool, true, false, cond}
 use Prim.Native.Nat.{ℕ, zero, suc, _+_, _-_, _*_, _^_, _<_, _≤_}
 use native.Mathlib.Nat.{pow-suc, pow-le-pow-right, lt-of-lt-of-le}
 use native.Mathlib.Numerals.{add-one}
@@ -11,7 +10,7 @@ use lib.Seq.{drop-cons, drop-length}
 use lib.Dec.{leb, lit<}
 use borrow.Author.Tests.{le-leb, lt-leb, eq-eqb, ne-eqb, lt-ltb, le-ltb}
 use Rattle.text.specs.Text.{Text, lost, left, rest, literal, digit, patternFrom, decimalFrom, decimal, missing, Got}
-use Rattle.text.specs.TextLaws.{rest-in, rest-past, rest-whole, rest-cons, rest-next, rest-none}
+use Rattle.text.specs.TextLaws.{rest-past, rest-whole, rest-cons, rest-next, rest-none}
 
 module _ (p s : List ℕ) (i k : ℕ) (hi : i < length p) where
   pub literal-same : k < length s → getD s k 0 ≡ getD p i 0 → literal (drop i p) (rest s k) ≡ literal (drop (i + 1) p) (rest s (k + 1))

@@ -4,9 +4,8 @@ use mathlib.Core.List.{List, [], _∷_, _++_, append-assoc, append-nil}
 use mathlib.Core.Bool.{Bool, true, false, not, _&&_, _||_}
 use mathlib.Core.Logic.{_⊎_, inl, inr}
 use Prim.Native.Nat.{ℕ, _<_, _≤_, _^_}
-use native.Mathlib.Omega.{arith}
 use lib.Dec.{T, eqb, leb, ltb, leb→le, ltb→lt}
-use lib.Ieee.{Float, binary64, fits, toBits, isNan}
+use lib.Ieee.{Float, binary64, toBits, isNan}
 use lib.Ieee.Bits.{ofBits-toBits, toBits-lt, toBits-ofBits}
 use Rattle.base.specs.Floats.{bits}
 use Rattle.text.specs.Text.{Text, lost, left, Got, literal, strip, keepIf, digit, pattern, patternFrom, float, decimal}
@@ -68,9 +67,6 @@ clear-either a b f c =
     let y = both (clear a) (clear b && clear f) (x .1) in
     let z = both (clear b) (clear f) (y .1) in
     (x .0, y .0, z .0, z .1)
-
-or-first : {A : Type 0} (g h : Got A) {l : List ℕ} → g .text ≡ left l → or g h ≡ g
-or-first g h e = (λ i. orAt (e i) g h)
 
 or-second : {A : Type 0} (g h : Got A) → g .text ≡ lost → or g h ≡ h
 or-second g h e = (λ i. orAt (e i) g h)
@@ -217,7 +213,3 @@ back f v r c h = reads f v (print f v ++ r) r c (printed f v r h)
 -- and as a whole text
 pub back-whole : (f : Form) (v : Vals f) → T (clear f) → Fit f v → read f (left (print f v)) ≡ record { val = v; text = left [] }
 back-whole f v c h = reads f v (print f v) [] c (subst (λ (l : List ℕ). Spells f v l []) (append-nil (print f v)) (printed f v [] h))
-
--- what is read was printed so, unless a value of it is a NaN
-pub forth : (f : Form) (l r : List ℕ) → T (clear f) → read f (left l) .text ≡ left r → NoNan f (read f (left l) .val) → l ≡ print f (read f (left l) .val) ++ r
-forth f l r c e n = spelled f (read f (left l) .val) l r n (spells f l r c e)

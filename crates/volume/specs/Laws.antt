@@ -17,13 +17,6 @@ module _ (t : ℕ → Triangle) (c : V3) (sigma : Float) where
   unfolding volumeTo
   volume-suc k = rw zero-add at (times-suc (faceStep t c sigma) k 0 +0)
 
-  -- the volume so far, brought on from `from` to `to`
-  pub volume-on : (from to : ℕ) → from ≤ to → volumeFrom t c sigma from to (volumeTo t c sigma from) ≡ volumeTo t c sigma to
-  unfolding volumeFrom volumeTo
-  volume-on from to h =
-      let e : from + (to - from) ≡ to = omega arith in
-      sym (rw (e, zero-add) at (times-more (faceStep t c sigma) from (to - from) 0 +0))
-
   -- the faces up to `mid`, then the rest
   pub volume-more : (from mid to : ℕ) (sum : Float) → from ≤ mid → mid ≤ to → volumeFrom t c sigma mid to (volumeFrom t c sigma from mid sum) ≡ volumeFrom t c sigma from to sum
   unfolding volumeFrom

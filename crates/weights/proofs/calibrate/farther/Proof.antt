@@ -1,6 +1,5 @@
 -- `farther` meets its contract. Assumes nothing.
 use borrow.Author.Needs.{needs}
-use mathlib.Core.Path.{_∙_, ap}
 use Rattle.base.specs.Floats.{greater}
 use Rattle.weights.specs.Calibration.{farther}
 use Rattle.weights.proofs.calibrate.farther.Statement.{statement}
