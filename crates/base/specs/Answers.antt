@@ -1,9 +1,12 @@
 -- What a call answers: 01's number of its refusal, and its values. Definitions only.
 use Prim.Native.Nat.{ℕ}
+use mathlib.Core.Bool.{cond}
 use mathlib.Core.List.{List, [], _∷_}
+use lib.Dec.{leb}
 use lib.Ieee.{Float}
 use Rattle.base.specs.Refusals.{number}
 use Rattle.base.specs.declared.refusal.Refusal.{Refusal}
+use Rattle.base.specs.declared.refusal.Refusal.the-variants.{ShortList}
 use Rattle.base.specs.declared.refusal.Checked.{Checked}
 use Rattle.base.specs.declared.refusal.Checked.the-variants.{Passed, Failed}
 use Rattle.base.specs.declared.refusal.Measured.{Measured}
@@ -21,6 +24,10 @@ accepted xs = record { refusal = 0; counts = []; floats = xs }
 abbrev pub counted : List ℕ → Answer
 counted ns = record { refusal = 0; counts = ns; floats = [] }
 
+-- no value
+abbrev pub done : Answer
+done = counted []
+
 abbrev pub refused : Refusal → Answer
 refused r = record { refusal = number r; counts = []; floats = [] }
 
@@ -33,6 +40,23 @@ measuredAs (Refused r) = refused r
 abbrev pub answered : Checked → List Float → Answer
 answered Passed xs = accepted xs
 answered (Failed r) xs = refused r
+
+-- an answer, and the words of a run that is lent to be written as they are then
+pub record Outcome : Type 0 where
+  pub reply : Answer
+  pub out : List Float
+
+abbrev pub outcome : Answer → List Float → Outcome
+outcome r xs = record { reply = r; out = xs }
+
+-- what follows where a check passes; else its refusal, the run as it was
+abbrev pub guardedRun : Checked → List Float → Outcome → Outcome
+guardedRun Passed xs good = good
+guardedRun (Failed r) xs good = outcome (refused r) xs
+
+-- row 9: "run to be written under 6 floats per piece (or kernel) written"; both are counts of floats
+abbrev pub roomCheck : ℕ → ℕ → Checked
+roomCheck floats room = cond (leb floats room) Passed (Failed ShortList)
 
 -- two checks one after the other: the first refusal is answered alone
 abbrev pub andThen : Checked → Checked → Checked

@@ -5,6 +5,7 @@ use mathlib.Core.Bool.{false}
 use mathlib.Core.List.{List}
 use lib.Dec.{eqb}
 use lib.Ieee.{Float}
+use Rattle.base.specs.Answers.{Outcome}
 use Rattle.base.specs.Refusals.{number}
 use Rattle.base.specs.declared.refusal.Refusal.{Refusal}
 use Rattle.base.specs.declared.refusal.Refusal.the-variants.{Ragged, Oversize, LooseCorner, ShortStore, Unsound, NoPlace, Vacant, Unfinished, ShortList, BadMatrix, FlatPivot, Exponent, BadLine}
@@ -17,9 +18,9 @@ use Rattle.pieces.specs.declared.lists.DecomposedList.{DecomposedList}
 use Rattle.pieces.specs.declared.lists.DecomposedList.the-variants as listing
 use Rattle.pieces.specs.Kernels.{decomposedAs}
 use Rattle.pieces.specs.Lists.{listedAs}
-use Rattle.weights.specs.declared.normalize.Outcome.{Outcome}
-use Rattle.weights.specs.declared.normalize.Outcome.the-variants as writing
-use Rattle.weights.specs.Outcomes.{After, outcomeAs}
+use Rattle.weights.specs.declared.normalize.Weighed.{Weighed}
+use Rattle.weights.specs.declared.normalize.Weighed.the-variants as writing
+use Rattle.weights.specs.Weights.{weighedAs}
 use Rattle.cauchy.specs.Sources.{kernelsOf, told, landed}
 use Rattle.cauchy.specs.Crossing.{solveNumber, solutionOf, piecesOf, decompositionOf, listPiecesOf, listDecompositionOf}
 
@@ -51,9 +52,9 @@ numbered FlatPivot = refl
 numbered Exponent = refl
 numbered BadLine = refl
 
-pub lands : (o : Outcome) (n : ℕ) {xs : List Float} {a : After} → outcomeAs o xs ≡ a → told (kernelsOf o n) xs ≡ landed n a
+pub lands : (o : Weighed) (n : ℕ) {xs : List Float} {a : Outcome} → weighedAs o xs ≡ a → told (kernelsOf o n) xs ≡ landed n a
 lands o n {xs} {a} h = rw (← h) (case o)
   where
-    case : (o : Outcome) → told (kernelsOf o n) xs ≡ landed n (outcomeAs o xs)
+    case : (o : Weighed) → told (kernelsOf o n) xs ≡ landed n (weighedAs o xs)
     case writing.Written = refl
     case (writing.Refused r) = rw (numbered r) refl

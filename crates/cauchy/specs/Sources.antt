@@ -5,15 +5,15 @@ use mathlib.Core.List.{List}
 use lib.Dec.{eqb}
 use lib.Ieee.{Float}
 use Rattle.base.specs.Refusals.{number}
-use Rattle.weights.specs.declared.normalize.Outcome.{Outcome}
-use Rattle.weights.specs.declared.normalize.Outcome.the-variants.{Written, Refused}
+use Rattle.base.specs.Answers.{Outcome}
+use Rattle.weights.specs.declared.normalize.Weighed.{Weighed}
+use Rattle.weights.specs.declared.normalize.Weighed.the-variants.{Written, Refused}
 use Rattle.weights.specs.declared.calibrate.Mean.{Mean}
 use Rattle.weights.specs.declared.calibrate.Mean.the-variants.{Given, Missing}
-use Rattle.weights.specs.Outcomes.{After}
 use Rattle.cauchy.specs.declared.sources.CauchyKernels.{CauchyKernels}
 
 -- number and count for each case of an outcome, for a list of n kernels
-abbrev pub kernelsOf : Outcome → ℕ → CauchyKernels
+abbrev pub kernelsOf : Weighed → ℕ → CauchyKernels
 kernelsOf Written n = record { no = 0; kernels = n }
 kernelsOf (Refused r) n = record { no = number r; kernels = 0 }
 
@@ -30,5 +30,5 @@ abbrev pub told : CauchyKernels → List Float → Landed
 told answer words = record { answer = answer; words = words }
 
 -- a definition's number and run; n kernels are written where nothing is refused, and none where it is
-abbrev pub landed : ℕ → After → Landed
-landed n a = told (record { no = a .refusal; kernels = cond (eqb (a .refusal) 0) n 0 }) (a .run)
+abbrev pub landed : ℕ → Outcome → Landed
+landed n a = told (record { no = a .reply .refusal; kernels = cond (eqb (a .reply .refusal) 0) n 0 }) (a .out)

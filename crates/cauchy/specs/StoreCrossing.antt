@@ -5,12 +5,11 @@ use mathlib.Core.List.{List}
 use lib.Dec.{eqb}
 use lib.ListN.{getD}
 use lib.Ieee.{Float}
-use Rattle.base.specs.Answers.{Answer}
+use Rattle.base.specs.Answers.{Answer, Outcome}
 use Rattle.base.specs.Floats.{+0}
 use Rattle.density.specs.declared.convention.Convention.{Convention}
 use Rattle.density.specs.declared.convention.Convention.the-variants.{Raw, Rho0, Mass}
 use Rattle.store.specs.Calls.{After}
-use Rattle.readings.specs.Readings.{Outcome}
 use Rattle.cauchy.specs.declared.stores.CauchyOpened.{CauchyOpened}
 use Rattle.cauchy.specs.declared.stores.CauchyPlaced.{CauchyPlaced}
 use Rattle.cauchy.specs.declared.stores.CauchySteps.{CauchySteps}

@@ -18,7 +18,7 @@ use source::volume::kernel_volume;
 use source::volume::mesh_enclosed_volume;
 use weights::calibrate::Mean;
 use weights::calibrate::calibrate_kernels;
-use weights::normalize::Outcome;
+use weights::normalize::Weighed;
 use weights::normalize::normalize_kernels;
 
 // 01's number and how many kernels are written.
@@ -57,15 +57,15 @@ pub extern "C" fn cauchy_source_enclosed_volume(xyz: &[f64], faces: &[u32]) -> C
     value_of(mesh_enclosed_volume(xyz, faces))
 }
 
-fn kernels_of(o: Outcome, n: usize) -> CauchyKernels
+fn kernels_of(o: Weighed, n: usize) -> CauchyKernels
     ensures { λ r. ⌜ r ≡ kernelsOf o n ⌝ }
 {
     match o {
-        Outcome::Written => CauchyKernels {
+        Weighed::Written => CauchyKernels {
             no: 0,
             kernels: n as u64,
         },
-        Outcome::Refused(r) => CauchyKernels {
+        Weighed::Refused(r) => CauchyKernels {
             no: refusal_number(r),
             kernels: 0,
         },

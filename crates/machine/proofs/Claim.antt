@@ -11,7 +11,7 @@ use lib.Seq.{set-getD}
 use lib.Dec.{ltb}
 use lib.Ieee.{Float, nan}
 use borrow.Author.Tests.{lt-ltb, le-ltb, ne-eqb}
-use Rattle.base.specs.Answers.{refused, counted}
+use Rattle.base.specs.Answers.{refused, counted, done}
 use Rattle.base.specs.Floats.{+0}
 use Rattle.base.specs.Loops.{times}
 use Rattle.base.specs.declared.refusal.Refusal.{Refusal}
@@ -26,7 +26,7 @@ use Rattle.pieces.specs.Pieces.{decomposed}
 use Rattle.pieces.specs.PieceLaws.{at-most-16, same-pieces}
 use Rattle.layout.specs.Layout.{slotLimit, radiusOf, vertsOf, facesOf, statusOf}
 use Rattle.layout.specs.Soundness.{storeCheck, slotCheck, filledCheck}
-use Rattle.store.specs.Calls.{done, clearStep, reweighStep}
+use Rattle.store.specs.Calls.{clearStep, reweighStep}
 use Rattle.advance.specs.Steps.{advanceStep}
 use Rattle.put.specs.Puts.{fresh, atFirst, putFloats, putWords, putStep}
 use Rattle.machine.specs.Machine.{Mesh, Slot, empty, full, need, leftSlot, leftSum, Machine, Turn, turn, putTurn, clearTurn, weighed, reweighTurn}

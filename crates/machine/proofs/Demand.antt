@@ -9,7 +9,7 @@ use lib.ListN.{length}
 use lib.Ieee.{Float}
 use borrow.Author.Tests.{lt-ltb, ltb-true}
 use Rattle.base.specs.Refusals.{number}
-use Rattle.base.specs.Answers.{andThen, Answer, refused, counted}
+use Rattle.base.specs.Answers.{andThen, Answer, refused, counted, Outcome, outcome}
 use Rattle.base.specs.declared.refusal.Refusal.{Refusal}
 use Rattle.base.specs.declared.refusal.Refusal.the-variants.{Ragged, Oversize, LooseCorner, ShortStore, Unfinished, ShortList}
 use Rattle.base.specs.declared.refusal.Checked.the-variants.{Passed, Failed}
@@ -17,7 +17,7 @@ use Rattle.runs.specs.Runs.{write}
 use Rattle.mesh.specs.Checks.{ragged, oversize, allBelow, meshCheck}
 use Rattle.layout.specs.Layout.{coordsFrom, cornersFrom}
 use Rattle.store.specs.Calls.{After, after, openCheck, openStep}
-use Rattle.readings.specs.Readings.{Reading, density, report, list, needsWork, bare, applied, rescaled, sixes, Seen, Outcome, outcome, answerOf, refusing}
+use Rattle.readings.specs.Readings.{Reading, density, report, list, needsWork, bare, applied, rescaled, sixes, Seen, answerOf, refusing}
 use Rattle.machine.specs.Machine.{leftSum, Machine, opened}
 use Rattle.machine.specs.Holding.{Width, excessF, excessW}
 use Rattle.machine.specs.Fresh.{freshSeen}

@@ -19,7 +19,8 @@ use Rattle.density.specs.declared.convention.Convention.the-variants.{Raw, Rho0
 use Rattle.density.specs.Conventions.{bulkOf, targetOf, rho0Scale, massScale, appliedScale}
 use Rattle.layout.specs.Layout.{vertsOf, facesOf}
 use Rattle.layout.specs.Left.{held}
-use Rattle.readings.specs.Readings.{Reading, density, report, list, byMass, needsWork, Part, bare, densityAt, rawMass, origin, applied, rescaled, Seen, seeing, outcome, listing, answerOf, refusing, readingOf, heldFilled, heldWorst, heldSeen, readStep}
+use Rattle.base.specs.Answers.{outcome}
+use Rattle.readings.specs.Readings.{Reading, density, report, list, byMass, needsWork, Part, bare, densityAt, rawMass, origin, applied, rescaled, Seen, seeing, listing, answerOf, refusing, readingOf, heldFilled, heldWorst, heldSeen, readStep}
 use Rattle.machine.specs.Machine.{Mesh, Slot, empty, full, leftSum}
 use Rattle.machine.specs.Holding.{Width, triangles, placeRow, floatsOf, wordsOf}
 use Rattle.machine.specs.Fresh.{filledOne, freshFilled, worseOne, worstFrom, freshSeen}

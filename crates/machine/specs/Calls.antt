@@ -5,7 +5,7 @@ use Prim.Native.Nat.{ℕ, _+_}
 use lib.Dec.{ltb}
 use lib.ListN.{getD}
 use lib.Ieee.{Float}
-use Rattle.base.specs.Answers.{Answer, refused}
+use Rattle.base.specs.Answers.{Answer, refused, Outcome}
 use Rattle.base.specs.declared.refusal.Refusal.the-variants.{NoPlace}
 use Rattle.kernel.specs.declared.kernel.Kernel.{Kernel}
 use Rattle.pieces.specs.Pieces.{decomposed}
@@ -13,7 +13,7 @@ use Rattle.layout.specs.Layout.{slotLimit}
 use Rattle.store.specs.Calls.{After, clearStep, reweighStep}
 use Rattle.advance.specs.Steps.{advanceStep}
 use Rattle.put.specs.Puts.{putStep}
-use Rattle.readings.specs.Readings.{Reading, Outcome, readingOf, readStep}
+use Rattle.readings.specs.Readings.{Reading, readingOf, readStep}
 use Rattle.machine.specs.Machine.{empty, leftSum, Machine, Turn, turn, putTurn, clearTurn, reweighTurn, advanceTurn}
 use Rattle.machine.specs.Holding.{floatsOf, wordsOf}
 use Rattle.machine.specs.Fresh.{freshSeen}

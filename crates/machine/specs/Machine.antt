@@ -6,12 +6,11 @@ use lib.Dec.{eqb}
 use lib.ListN.{length, getD, set, replicate}
 use lib.Ieee.{Float}
 use Rattle.base.specs.Loops.{iterate}
-use Rattle.base.specs.Answers.{Answer, refused, counted}
+use Rattle.base.specs.Answers.{Answer, refused, counted, done}
 use Rattle.base.specs.declared.refusal.Refusal.the-variants.{Vacant}
 use Rattle.kernel.specs.declared.kernel.Kernel.{Kernel}
 use Rattle.pieces.specs.declared.pieces.Pieces.{Pieces}
 use Rattle.layout.specs.Layout.{slotLimit}
-use Rattle.store.specs.Calls.{done}
 
 -- the mesh and radius that an opening gave: V and F are the counts of vertices and faces
 pub record Mesh : Type 0 where

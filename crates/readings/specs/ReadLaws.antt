@@ -9,7 +9,7 @@ use Rattle.runs.specs.Runs.{write}
 use Rattle.readings.specs.Lists.{rows}
 use lib.Dec.{ltb}
 use lib.Ieee.{Float}
-use Rattle.base.specs.Answers.{andThen, refused, counted}
+use Rattle.base.specs.Answers.{andThen, refused, counted, outcome}
 use Rattle.base.specs.declared.refusal.Refusal.the-variants.{Unfinished, ShortList}
 use Rattle.base.specs.declared.refusal.Checked.{Checked}
 use Rattle.base.specs.declared.refusal.Checked.the-variants.{Passed, Failed}
@@ -17,7 +17,7 @@ use Rattle.layout.specs.Layout.{slotLimit, facesOf}
 use Rattle.layout.specs.Soundness.{storeCheck}
 use Rattle.layout.specs.SoundLaws.{passed-both}
 use Rattle.layout.specs.Left.{leftOf}
-use Rattle.readings.specs.Readings.{Part, bare, outcome, listing, Reading, needsWork, answerOf, refusing, guardedRead, heldSeen, readStep}
+use Rattle.readings.specs.Readings.{Part, bare, listing, Reading, needsWork, answerOf, refusing, guardedRead, heldSeen, readStep}
 use Rattle.readings.specs.Checks.{readCheck}
 
 -- a reading is its check, then its answer

@@ -5,7 +5,7 @@ use Prim.Native.Nat.{ℕ, zero, suc, _+_, _*_, _-_}
 use lib.Dec.{ltb, leb, eqb}
 use lib.ListN.{length, getD}
 use lib.Ieee.{Float, nan, lt}
-use Rattle.base.specs.Answers.{Answer, accepted, refused, counted}
+use Rattle.base.specs.Answers.{Answer, accepted, refused, counted, Outcome, outcome}
 use Rattle.base.specs.Floats.{_⊕_, _⊗_, +0, greater}
 use Rattle.base.specs.Loops.{times}
 use Rattle.base.specs.declared.refusal.Refusal.{Refusal}
@@ -96,14 +96,6 @@ pub record Seen : Type 0 where
 
 abbrev pub seeing : List Part → Float → ℕ → Float → Seen
 seeing ps body filled worst = record { parts = ps; body = body; filled = filled; worst = worst }
-
--- a reply, and the run lent beside the store as it is then ([] where none is lent)
-pub record Outcome : Type 0 where
-  pub reply : Answer
-  pub out : List Float
-
-abbrev pub outcome : Answer → List Float → Outcome
-outcome r o = record { reply = r; out = o }
 
 -- "Report adds filled count, pieces, greatest error"; "the first seven in `MassReport` order"
 abbrev pub reported : MassReport → ℕ → ℕ → Float → Answer

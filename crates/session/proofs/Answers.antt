@@ -3,10 +3,9 @@ use Prim.Native.Nat.{ℕ}
 use mathlib.Core.Path.{_≡_, sym, subst, _∙_}
 use mathlib.Core.List.{List, []}
 use lib.Ieee.{Float}
-use Rattle.base.specs.Answers.{Answer}
+use Rattle.base.specs.Answers.{Answer, Outcome, outcome}
 use Rattle.text.specs.Print.{Wrote}
 use Rattle.store.specs.Calls.{After, after}
-use Rattle.readings.specs.Readings.{Outcome, outcome}
 
 -- a text that is another one
 pub wrote-as : {o t u o′ : List ℕ} {at r : ℕ} → t ≡ u → Wrote o at t r o′ → Wrote o at u r o′

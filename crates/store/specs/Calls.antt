@@ -6,7 +6,7 @@ use lib.Dec.{leb}
 use lib.ListN.{length, set, replicate}
 use lib.Ieee.{Float}
 use Rattle.base.specs.Floats.{+0}
-use Rattle.base.specs.Answers.{Answer, counted, refused, andThen}
+use Rattle.base.specs.Answers.{Answer, counted, done, refused, andThen}
 use Rattle.base.specs.declared.refusal.Refusal.the-variants.{ShortStore}
 use Rattle.base.specs.declared.refusal.Checked.{Checked}
 use Rattle.base.specs.declared.refusal.Checked.the-variants.{Passed, Failed}
@@ -14,10 +14,6 @@ use Rattle.runs.specs.Runs.{write}
 use Rattle.mesh.specs.Checks.{meshCheck}
 use Rattle.layout.specs.Layout.{slotLimit, kernelFrom, weightAt, piecesFrom, coordsFrom, stateFrom, cornersFrom}
 use Rattle.layout.specs.Soundness.{filledCheck}
-
--- clear and reweigh answer no value
-abbrev pub done : Answer
-done = counted []
 
 -- ---- what a call leaves: its reply, the float run fs and the u32 run ws
 pub record After : Type 0 where

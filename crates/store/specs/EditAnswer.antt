@@ -1,6 +1,5 @@
 -- 01's number and values for each case of the answer of clear and reweigh. Definitions only.
-use Rattle.base.specs.Answers.{Answer, refused}
-use Rattle.store.specs.Calls.{done}
+use Rattle.base.specs.Answers.{Answer, refused, done}
 use Rattle.store.specs.declared.edit.Edited.{Edited}
 use Rattle.store.specs.declared.edit.Edited.the-variants.{Done, Refused}
 

@@ -6,7 +6,7 @@ use base::refusal::refusal_number;
 use libc::STDOUT_FILENO;
 use mass::calls::Located;
 use reports::Reported;
-use weights::normalize::Outcome;
+use weights::normalize::Weighed;
 
 // Writes a space and a number.
 pub fn put_number(n: u64) {
@@ -93,13 +93,13 @@ fn put_words(words: [f64; 12]) {
 }
 
 // Ends the line of a call that writes kernels, with all words of its run.
-pub fn put_outcome(o: Outcome, run: [f64; 12]) {
+pub fn put_outcome(o: Weighed, run: [f64; 12]) {
     match o {
-        Outcome::Written => {
+        Weighed::Written => {
             put_number(0);
             put_words(run);
             put_end();
         }
-        Outcome::Refused(refusal) => put_refusal(refusal),
+        Weighed::Refused(refusal) => put_refusal(refusal),
     }
 }

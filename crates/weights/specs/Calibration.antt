@@ -7,6 +7,7 @@ use lib.Ieee.{Float, lt, le}
 use Rattle.base.specs.Floats.{_⊗_, _⊘_, +0, greater}
 use Rattle.base.specs.Constants.{one, ten, meshRadius}
 use Rattle.base.specs.Loops.{times}
+use Rattle.base.specs.Answers.{done, Outcome, outcome, guardedRun}
 use Rattle.mesh.specs.declared.vectors.V3.{V3}
 use Rattle.mesh.specs.declared.triangles.Triangle.{Triangle}
 use Rattle.mesh.specs.Vectors.{norm}
@@ -14,7 +15,6 @@ use Rattle.mesh.specs.Triangles.{triangleAt, faceCount}
 use Rattle.weights.specs.declared.calibrate.Mean.{Mean}
 use Rattle.weights.specs.declared.calibrate.Mean.the-variants.{Given, Missing}
 use Rattle.weights.specs.declared.normalize.Stretch.the-variants.{By}
-use Rattle.weights.specs.Outcomes.{After, done, guarded}
 use Rattle.source.specs.Volumes.{enclosedVolume}
 use Rattle.weights.specs.Weights.{kernelsOf, writtenOf, callCheck, normalizedRun}
 
@@ -45,16 +45,15 @@ targetMass (Given density) total volume = density ⊗ volume
 targetMass Missing total volume = cond (lt +0 total) total +0
 
 -- "With target ≤ 0 `calibrate_kernels` skips the exponent test"; a NaN target is not ≤ 0
-unfoldable pub calibratedRun : (ℕ → Triangle) → ℕ → List Float → Mean → Float → List Float → After
+unfoldable pub calibratedRun : (ℕ → Triangle) → ℕ → List Float → Mean → Float → List Float → Outcome
 calibratedRun t f ks mean total run =
     let k = kernelsOf (By (geometryScale (reachOf t f))) ks in
     let n = length ks / 6 in
     let target = targetMass mean total (enclosedVolume t f) in
-    cond (le target +0) (done (writtenOf k n run)) (normalizedRun t f k n target run)
+    cond (le target +0) (outcome done (writtenOf k n run)) (normalizedRun t f k n target run)
 
 -- `calibrate_kernels`, of the runs given to the call. The Rust's first test, for no kernels, is met by what follows: nothing is written then
-unfoldable pub calibrated : List Float → List ℕ → List Float → Mean → Float → List Float → After
+unfoldable pub calibrated : List Float → List ℕ → List Float → Mean → Float → List Float → Outcome
 calibrated xyz faces ks mean total run =
-    guarded (callCheck (length xyz) faces ks (length run))
+    guardedRun (callCheck (length xyz) faces ks (length run)) run
     (calibratedRun (triangleAt xyz faces) (faceCount faces) ks mean total run)
-    run

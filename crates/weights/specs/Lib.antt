@@ -1,4 +1,3 @@
-pub mod Outcomes
 pub mod Weights
 pub mod Calibration
 pub mod Laws

@@ -8,10 +8,10 @@ use lib.Ieee.{Float, nan, inf, fin, lt, le, div, ofBits}
 use Rattle.base.specs.Floats.{+0, abs}
 use Rattle.base.specs.Constants.{one}
 use Rattle.base.specs.Loops.{times}
+use Rattle.base.specs.Answers.{done, Outcome, outcome}
 use Rattle.kernel.specs.declared.kernel.Kernel.{Kernel}
 use Rattle.mesh.specs.declared.triangles.Triangle.{Triangle}
 use Rattle.weights.specs.declared.calibrate.Mean.{Mean}
-use Rattle.weights.specs.Outcomes.{After, done}
 use Rattle.source.specs.Volumes.{enclosedVolume}
 use Rattle.weights.specs.Weights.{someOff, scaleOf, writtenOf, normalizedRun}
 use Rattle.weights.specs.Calibration.{targetMass, calibratedRun}
@@ -28,14 +28,14 @@ unfolding scaleOf abs lt ofBits
 nan-mass target = rw (and-false (lt +0 target))
 
 -- with no kernel nothing is written, which is the first case of the Rust's `calibrate_kernels`
-pub nothing-normalized : (t : ℕ → Triangle) (f : ℕ) (k : ℕ → Kernel) (target : Float) (run : List Float) → normalizedRun t f k 0 target run ≡ done run
+pub nothing-normalized : (t : ℕ → Triangle) (f : ℕ) (k : ℕ → Kernel) (target : Float) (run : List Float) → normalizedRun t f k 0 target run ≡ outcome done run
 unfolding normalizedRun someOff writtenOf times
 nothing-normalized t f k target run = refl
 
-either : (b : Bool) (x : After) → cond b x x ≡ x
+either : (b : Bool) (x : Outcome) → cond b x x ≡ x
 either true x = refl
 either false x = refl
 
-pub nothing-calibrated : (t : ℕ → Triangle) (f : ℕ) (mean : Mean) (total : Float) (run : List Float) → calibratedRun t f [] mean total run ≡ done run
+pub nothing-calibrated : (t : ℕ → Triangle) (f : ℕ) (mean : Mean) (total : Float) (run : List Float) → calibratedRun t f [] mean total run ≡ outcome done run
 unfolding calibratedRun normalizedRun someOff writtenOf times
-nothing-calibrated t f mean total run = either (le (targetMass mean total (enclosedVolume t f)) +0) (done run)
+nothing-calibrated t f mean total run = either (le (targetMass mean total (enclosedVolume t f)) +0) (outcome done run)

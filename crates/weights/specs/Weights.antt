@@ -3,16 +3,14 @@
 use Prim.Native.Nat.{ℕ, _/_}
 use mathlib.Core.Bool.{Bool, false, cond, _&&_, _||_}
 use mathlib.Core.List.{List, [], _∷_}
-use lib.Dec.{leb}
 use lib.ListN.{getD, length}
 use lib.Ieee.{Float, nan, lt}
 use Rattle.base.specs.Floats.{_⊕_, _⊖_, _⊗_, _⊘_, +0, abs}
 use Rattle.base.specs.Constants.{one, stayLimit, scaleLimit}
 use Rattle.base.specs.Loops.{times}
-use Rattle.base.specs.Answers.{andThen}
-use Rattle.base.specs.declared.refusal.Refusal.the-variants.{ShortList, Exponent}
+use Rattle.base.specs.Answers.{done, refused, andThen, Outcome, outcome, guardedRun, roomCheck}
+use Rattle.base.specs.declared.refusal.Refusal.the-variants.{Exponent}
 use Rattle.base.specs.declared.refusal.Checked.{Checked}
-use Rattle.base.specs.declared.refusal.Checked.the-variants.{Passed, Failed}
 use Rattle.kernel.specs.declared.kernel.Kernel.{Kernel}
 use Rattle.kernel.specs.Kernels.{kernelAt, kernelSet}
 use Rattle.mesh.specs.declared.triangles.Triangle.{Triangle}
@@ -21,7 +19,8 @@ use Rattle.field.specs.Field.{centreOf}
 use Rattle.field.specs.Field.{fieldCheck}
 use Rattle.weights.specs.declared.normalize.Stretch.{Stretch}
 use Rattle.weights.specs.declared.normalize.Stretch.the-variants.{Not, By}
-use Rattle.weights.specs.Outcomes.{After, done, kept, guarded}
+use Rattle.weights.specs.declared.normalize.Weighed.{Weighed}
+use Rattle.weights.specs.declared.normalize.Weighed.the-variants.{Written, Refused}
 use Rattle.source.specs.Volumes.{kernelVolume}
 
 -- ---- the test of the exponents
@@ -69,25 +68,25 @@ writeStep k i run = kernelSet run i (k i)
 unfoldable pub writtenOf : (ℕ → Kernel) → ℕ → List Float → List Float
 writtenOf k n run = times (writeStep k) n 0 run
 
--- row 9: "run to be written under 6 floats per piece (or kernel) written"; both are counts of floats
-abbrev pub roomCheck : ℕ → ℕ → Checked
-roomCheck kernels room = cond (leb kernels room) Passed (Failed ShortList)
-
 -- rows 1 to 3 of the mesh, then 9
 unfoldable pub callCheck : ℕ → List ℕ → List Float → ℕ → Checked
 callCheck coordinates faces ks room = andThen (fieldCheck coordinates faces ks) (roomCheck (length ks) room)
 
 -- `normalize_kernels`, of a mesh and kernels
-unfoldable pub normalizedRun : (ℕ → Triangle) → ℕ → (ℕ → Kernel) → ℕ → Float → List Float → After
+unfoldable pub normalizedRun : (ℕ → Triangle) → ℕ → (ℕ → Kernel) → ℕ → Float → List Float → Outcome
 normalizedRun t f k n target run =
-    cond (someOff k n) (kept Exponent run) (done (writtenOf (rescaled (scaleOf target (rawMass t f k n)) k) n run))
+    cond (someOff k n) (outcome (refused Exponent) run) (outcome done (writtenOf (rescaled (scaleOf target (rawMass t f k n)) k) n run))
 
 -- `normalize_kernels`, of the runs given to the call
-unfoldable pub normalized : List Float → List ℕ → List Float → Float → List Float → After
+unfoldable pub normalized : List Float → List ℕ → List Float → Float → List Float → Outcome
 normalized xyz faces ks target run =
-    guarded (callCheck (length xyz) faces ks (length run))
+    guardedRun (callCheck (length xyz) faces ks (length run)) run
     (normalizedRun (triangleAt xyz faces) (faceCount faces) (kernelAt ks) (length ks / 6) target run)
-    run
+
+-- 01's number for each case of the code's answer, with the run beside it
+abbrev pub weighedAs : Weighed → List Float → Outcome
+weighedAs Written run = outcome done run
+weighedAs (Refused r) run = outcome (refused r) run
 
 -- ---- for `calibrate_kernels`, which stretches its kernels first
 

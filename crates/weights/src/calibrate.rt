@@ -3,10 +3,10 @@ ghost use mathlib.Core.Path.{_≡_};
 ghost use Prim.Native.Nat.{_≤_};
 ghost use lib.ListN.{length};
 ghost use Rattle.mesh.specs.Triangles.{triangleAt, faceCount, Sound};
-ghost use Rattle.weights.specs.Outcomes.{outcomeAs};
+ghost use Rattle.weights.specs.Weights.{weighedAs};
 ghost use Rattle.weights.specs.Calibration.{farther, fartherFace, reachOf, geometryScale, targetMass, calibratedRun, calibrated};
-use crate::normalize::Outcome;
 use crate::normalize::Stretch;
+use crate::normalize::Weighed;
 use crate::normalize::check_call;
 use crate::normalize::normalize;
 use crate::normalize::write_all;
@@ -82,15 +82,15 @@ fn calibrate(
     mean: Mean,
     total: f64,
     run: &mut [f64],
-) -> Outcome
+) -> Weighed
     requires { ⌜ Sound (length (now xyz)) (now faces) ⌝ ∗ ⌜ length (now kernels) ≤ length (now run) ⌝ }
-    ensures { λ r. ⌜ outcomeAs r (now (run .exit)) ≡ calibratedRun (triangleAt (now (xyz .entry)) (now (faces .entry))) (faceCount (now (faces .entry))) (now (kernels .entry)) mean total (now (run .entry)) ⌝ }
+    ensures { λ r. ⌜ weighedAs r (now (run .exit)) ≡ calibratedRun (triangleAt (now (xyz .entry)) (now (faces .entry))) (faceCount (now (faces .entry))) (now (kernels .entry)) mean total (now (run .entry)) ⌝ }
 {
     let by = Stretch::By(geometry_scale(reach_of(xyz, faces)));
     let target = target_mass(mean, total, abs(signed_volume(xyz, faces)));
     if target <= 0.0 {
         write_all(kernels, by, kernels.len() / 6, run);
-        return Outcome::Written;
+        return Weighed::Written;
     }
     normalize(xyz, faces, kernels, by, target, run)
 }
@@ -104,12 +104,12 @@ pub fn calibrate_kernels(
     mean: Mean,
     total: f64,
     run: &mut [f64],
-) -> Outcome
-    ensures { λ r. ⌜ outcomeAs r (now (run .exit)) ≡ calibrated (now (xyz .entry)) (now (faces .entry)) (now (kernels .entry)) mean total (now (run .entry)) ⌝ }
+) -> Weighed
+    ensures { λ r. ⌜ weighedAs r (now (run .exit)) ≡ calibrated (now (xyz .entry)) (now (faces .entry)) (now (kernels .entry)) mean total (now (run .entry)) ⌝ }
 {
     let checked = check_call(xyz, faces, kernels, run.len());
     match checked {
         Checked::Passed => calibrate(xyz, faces, kernels, mean, total, run),
-        Checked::Failed(refusal) => Outcome::Refused(refusal),
+        Checked::Failed(refusal) => Weighed::Refused(refusal),
     }
 }

@@ -4,8 +4,7 @@ ghost use mathlib.Core.Path.{_≡_};
 ghost use Prim.Native.Nat.{_+_, _*_, _/_, _≤_};
 ghost use lib.ListN.{length};
 ghost use Rattle.mesh.specs.Triangles.{triangleAt, faceCount, Sound};
-ghost use Rattle.weights.specs.Outcomes.{outcomeAs};
-ghost use Rattle.weights.specs.Weights.{stretched, kernelsOf, offUnit, someOff, kernelMass, rawMass, scaleOf, weighed, rescaled, writtenOf, callCheck, normalizedRun, normalized};
+ghost use Rattle.weights.specs.Weights.{stretched, kernelsOf, offUnit, someOff, kernelMass, rawMass, scaleOf, weighed, rescaled, writtenOf, callCheck, normalizedRun, normalized, weighedAs};
 use base::floats::abs;
 use base::refusal::Checked;
 use base::refusal::Refusal;
@@ -17,7 +16,7 @@ use kernel::kernel::write_kernel;
 use source::volume::volume_of;
 
 // How a list of kernels was answered: the kernels are written, or a refusal.
-pub enum Outcome {
+pub enum Weighed {
     Written,
     Refused(Refusal),
 }
@@ -166,17 +165,17 @@ pub fn normalize(
     by: Stretch,
     target: f64,
     run: &mut [f64],
-) -> Outcome
+) -> Weighed
     requires { ⌜ Sound (length (now xyz)) (now faces) ⌝ ∗ ⌜ length (now kernels) ≤ length (now run) ⌝ }
-    ensures { λ r. ⌜ outcomeAs r (now (run .exit)) ≡ normalizedRun (triangleAt (now (xyz .entry)) (now (faces .entry))) (faceCount (now (faces .entry))) (kernelsOf by (now (kernels .entry))) (length (now (kernels .entry)) / 6) target (now (run .entry)) ⌝ }
+    ensures { λ r. ⌜ weighedAs r (now (run .exit)) ≡ normalizedRun (triangleAt (now (xyz .entry)) (now (faces .entry))) (faceCount (now (faces .entry))) (kernelsOf by (now (kernels .entry))) (length (now (kernels .entry)) / 6) target (now (run .entry)) ⌝ }
 {
     let n = kernels.len() / 6;
     if some_off(kernels, by, n) {
-        return Outcome::Refused(Refusal::Exponent);
+        return Weighed::Refused(Refusal::Exponent);
     }
     let scale = scale_of(target, raw_mass(xyz, faces, kernels, by, n));
     write_scaled(kernels, by, n, scale, run);
-    Outcome::Written
+    Weighed::Written
 }
 
 // Brings a list of kernels to a target mass inside a mesh, and writes them to the run. Words past
@@ -187,12 +186,12 @@ pub fn normalize_kernels(
     kernels: &[f64],
     target: f64,
     run: &mut [f64],
-) -> Outcome
-    ensures { λ r. ⌜ outcomeAs r (now (run .exit)) ≡ normalized (now (xyz .entry)) (now (faces .entry)) (now (kernels .entry)) target (now (run .entry)) ⌝ }
+) -> Weighed
+    ensures { λ r. ⌜ weighedAs r (now (run .exit)) ≡ normalized (now (xyz .entry)) (now (faces .entry)) (now (kernels .entry)) target (now (run .entry)) ⌝ }
 {
     let checked = check_call(xyz, faces, kernels, run.len());
     match checked {
         Checked::Passed => normalize(xyz, faces, kernels, Stretch::Not, target, run),
-        Checked::Failed(refusal) => Outcome::Refused(refusal),
+        Checked::Failed(refusal) => Weighed::Refused(refusal),
     }
 }

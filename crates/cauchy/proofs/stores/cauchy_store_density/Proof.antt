@@ -1,7 +1,7 @@
 -- `cauchy::stores::cauchy_store_density` meets its contract. Assumes nothing.
 use borrow.Author.Needs.{needs}
 use mathlib.Core.Path.{ap}
-use Rattle.readings.specs.Readings.{Outcome}
+use Rattle.base.specs.Answers.{Outcome}
 use Rattle.cauchy.specs.Volumes.{valueFrom}
 use Rattle.cauchy.proofs.stores.cauchy_store_density.Statement.{statement}
 use Rattle.cauchy.proofs.stores.cauchy_store_density.Tie as tie

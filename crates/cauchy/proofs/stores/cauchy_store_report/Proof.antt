@@ -1,7 +1,7 @@
 -- `cauchy::stores::cauchy_store_report` meets its contract. Assumes nothing.
 use borrow.Author.Needs.{needs}
 use mathlib.Core.Path.{ap}
-use Rattle.readings.specs.Readings.{Outcome}
+use Rattle.base.specs.Answers.{Outcome}
 use Rattle.cauchy.specs.StoreCrossing.{reportFrom}
 use Rattle.cauchy.proofs.stores.cauchy_store_report.Statement.{statement}
 use Rattle.cauchy.proofs.stores.cauchy_store_report.Tie as tie
