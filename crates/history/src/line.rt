@@ -1,59 +1,47 @@
-// The words of a line.
+// The words of an answer's line.
 use crate::digest::digest_floats;
 use crate::digest::digest_words;
 use base::floats::to_pattern;
 use base::refusal::Refusal;
 use base::refusal::refusal_number;
-use density::convention::Convention;
-use density::report::MassReport;
 use libc::STDOUT_FILENO;
 
-pub fn put_text(text: &[u8]) {
-    io::write_all(STDOUT_FILENO, text);
+// The floats of an answer that has none.
+pub const NO_FLOATS: [f64; 8] = [0.0; 8];
+
+fn put_byte(b: u8) {
+    let one = [b];
+    io::write_all(STDOUT_FILENO, &one);
 }
 
-pub fn put_number(name: &[u8], n: u64) {
-    put_text(name);
-    io::print_decimal(STDOUT_FILENO, n);
-}
-
-pub fn put_bits(name: &[u8], n: u64) {
-    put_text(name);
-    io::print_hex(STDOUT_FILENO, n, 16);
-}
-
-pub fn put_float(name: &[u8], x: f64) {
-    put_bits(name, to_pattern(x));
-}
-
-pub fn put_refusal(r: Refusal) {
-    put_number(b" no ", refusal_number(r) as u64);
-}
-
-pub fn put_convention(v: Convention) {
-    match v {
-        Convention::Raw => put_text(b" raw"),
-        Convention::Rho0(bulk) => put_float(b" rho0 ", bulk),
-        Convention::Mass(target, bulk) => {
-            put_float(b" mass ", target);
-            put_float(b" ", bulk);
+// Writes a byte of a form, or what it stands for.
+fn put_mark(b: u8, numbers: [u64; 2], floats: [f64; 8]) {
+    match b {
+        b'0'..=b'1' => {
+            io::print_decimal(STDOUT_FILENO, numbers[(b - b'0') as usize]);
         }
+        b'X'..=b'Y' => {
+            io::print_hex(STDOUT_FILENO, numbers[(b - b'X') as usize], 16);
+        }
+        b'A'..=b'H' => {
+            io::print_hex(STDOUT_FILENO, to_pattern(floats[(b - b'A') as usize]), 16);
+        }
+        _ => put_byte(b),
     }
 }
 
-pub fn put_masses(mass: MassReport) {
-    put_float(b" masses ", mass.raw_mass);
-    put_float(b" ", mass.rho0_scale);
-    put_float(b" ", mass.rho0_mass);
-    put_float(b" ", mass.applied_scale);
-    put_float(b" ", mass.applied_mass);
-    put_float(b" ", mass.target_mass);
-    put_float(b" ", mass.volume);
+// Writes a form, in which 0 and 1 stand for the numbers, X and Y for their bits, and A to H for those of the floats.
+pub fn say(form: &[u8], numbers: [u64; 2], floats: [f64; 8]) {
+    for i in 0..form.len() {
+        put_mark(form[i], numbers, floats);
+    }
+}
+
+pub fn say_refused(r: Refusal) {
+    say(b" no 0", [refusal_number(r) as u64, 0], NO_FLOATS);
 }
 
 // The end of a call's line: what both runs are after it.
-pub fn put_runs(f: &[f64], w: &[u32]) {
-    put_bits(b" ", digest_floats(f));
-    put_bits(b" ", digest_words(w));
-    put_text(b"\n");
+pub fn say_runs(f: &[f64], w: &[u32]) {
+    say(b" X Y\n", [digest_floats(f), digest_words(w)], NO_FLOATS);
 }
