@@ -17,7 +17,8 @@ fn approximate(terms: usize, scales: &[f64; 16], coefficients: &[f64; 16], u: f6
     let mut sum = 0.0;
     let mut i = 0;
     while i < terms {
-        sum = sum + coefficients[i] / (1.0 + (scales[i] * u) * (scales[i] * u));
+        let v = scales[i] * u;
+        sum += coefficients[i] / (1.0 + v * v);
         i += 1;
     }
     sum

@@ -2,10 +2,8 @@
 // Internal: a function with a `requires` is called by proved code alone.
 ghost use mathlib.Core.Path.{_≡_};
 ghost use Prim.Native.Nat.{_<_, _≤_};
-ghost use mathlib.Core.List.{[]};
-ghost use lib.ListN.{getD, set};
 ghost use Rattle.solve.specs.Elimination.{eliminated};
-ghost use Rattle.fit.specs.Fit.{zeros, termOf, basisOf, crossed, rowAt, sampled, equations, ridged, coefficientsOf};
+ghost use Rattle.fit.specs.Fit.{zeros, termOf, basisOf, crossed, targetAt, sampled, equations, ridged, coefficientsOf};
 ghost use Rattle.fit.specs.Samples.{Samples};
 use crate::points::Curve;
 use solve::eliminate::Elimination;
@@ -31,26 +29,17 @@ fn fill_basis(basis: &mut [f64; 16], terms: usize, scales: &[f64; 16], u: f64)
     }
 }
 
-// Adds wa times each term's value to the left side of row a.
-fn cross(m: &mut [[f64; 17]; 16], a: usize, terms: usize, basis: &[f64; 16], wa: f64)
-    requires { ⌜ (terms ≤ 16) × (a < 16) ⌝ }
-    ensures { λ _. ⌜ now (m .exit) ≡ set (now (m .entry)) a (crossed terms (now (basis .entry)) wa (getD (now (m .entry)) a [])) ⌝ }
+// Adds one sample to a row, left and right side; wa is the value of the row's own term.
+fn add_row(row: &mut [f64; 17], terms: usize, basis: &[f64; 16], wa: f64, target: f64)
+    requires { ⌜ terms ≤ 16 ⌝ }
+    ensures { λ _. ⌜ now (row .exit) ≡ targetAt terms wa target (crossed terms (now (basis .entry)) wa (now (row .entry))) ⌝ }
 {
     let mut b = 0;
     while b < terms {
-        m[a][b] = m[a][b] + wa * basis[b];
+        row[b] += wa * basis[b];
         b += 1;
     }
-}
-
-// Adds one sample to row a, left and right side.
-fn add_row(m: &mut [[f64; 17]; 16], terms: usize, basis: &[f64; 16], target: f64, a: usize)
-    requires { ⌜ (terms ≤ 16) × (a < terms) ⌝ }
-    ensures { λ _. ⌜ now (m .exit) ≡ rowAt terms (now (basis .entry)) target a (now (m .entry)) ⌝ }
-{
-    let wa = basis[a];
-    cross(m, a, terms, basis, wa);
-    m[a][terms] = m[a][terms] + wa * target;
+    row[terms] += wa * target;
 }
 
 // Adds one sample to every row.
@@ -60,7 +49,7 @@ fn add_sample(m: &mut [[f64; 17]; 16], terms: usize, basis: &[f64; 16], target: 
 {
     let mut a = 0;
     while a < terms {
-        add_row(m, terms, basis, target, a);
+        add_row(&mut m[a], terms, basis, basis[a], target);
         a += 1;
     }
 }
@@ -101,7 +90,7 @@ pub fn add_ridge(m: &mut [[f64; 17]; 16], terms: usize)
 {
     let mut i = 0;
     while i < terms {
-        m[i][i] = m[i][i] + 1e-12;
+        m[i][i] += 1e-12;
         i += 1;
     }
 }

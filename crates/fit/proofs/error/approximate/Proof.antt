@@ -30,7 +30,5 @@ approximate-spec =
     (λ c. search needs)
     (λ c. search needs)
     (λ c. search needs)
-    (λ c. search needs)
-    (λ c. search needs)
     (λ c. search (goes, needs))
     (λ c. search (ended, needs)))

@@ -32,7 +32,5 @@ add-ridge-spec =
     (λ c. search needs)
     (λ c. search needs)
     (λ c. search needs)
-    (λ c. search needs)
-    (λ c. search needs)
     (λ c. search (goes, needs))
     (λ c. search (ended, needs)))

@@ -1,38 +1,41 @@
--- `add_row` meets its contract: the right side is added to the row as `cross` has left it. Assumes nothing.
+-- `add_row` meets its contract: the cells that are left, added to, give `crossed`; then the right side. Assumes nothing.
 use borrow.Author.Needs.{needs}
-use Prim.Native.Nat.{ℕ}
-use mathlib.Core.Path.{_≡_}
-use mathlib.Core.List.{List, []}
-use lib.ListN.{getD, set}
-use lib.Ieee.{Float, nan}
-use Rattle.solve.specs.Elimination.{Matrix}
-use Rattle.solve.specs.RowLaws.{row-again}
-use Rattle.fit.specs.Fit.{crossed, targetAt, rowAt}
+use Prim.Native.Nat.{_-_}
+use mathlib.Core.Path.{refl, ap}
+use Rattle.base.specs.LoopLaws.{Left, from-zero, goes, ended}
+use Rattle.fit.specs.Fit.{crossed, crossAt, targetAt}
 use Rattle.fit.proofs.normal.add_row.Statement.{statement}
 use Rattle.fit.proofs.normal.add_row.Tie as tie
 
--- the left side of row a added to, then its right side
-both : (m m₁ : Matrix) (a terms : ℕ) (basis : List Float) (target : Float) → m₁ ≡ set m a (crossed terms basis (getD basis a nan) (getD m a []))
-    → set m₁ a (targetAt terms (getD basis a nan) target (getD m₁ a [])) ≡ rowAt terms basis target a m
-both m m₁ a terms basis target e = rw e (row-again a m _ (targetAt terms (getD basis a nan) target))
+abbrev Inv-loop : tie.InvT-loop
+Inv-loop row₀ terms basis wa target b₀ row b = Left (crossAt basis wa) terms b row (crossed terms basis wa row₀)
 
-returns : tie.Need-returns
+abbrev μ-loop : tie.MeasureT-loop
+μ-loop row₀ terms basis wa target b₀ row b = terms - b
+
+loop-holds : tie.Need-loop-holds Inv-loop μ-loop
+unfolding crossed
+loop-holds c = from-zero refl
+
+returns : tie.Need-returns Inv-loop μ-loop
 returns c =
-    let a = c .before .before .before .before .args in
-    both (a .m .now) _ (a .a) (a .terms) (a .basis .now) (a .target) (c .before .cross .ensures)
+    ap (targetAt _ _ _) (ended (c .before .before .loop .inv) (c .before .loop-test .left))
 
 pub add-row-spec : {M : Type 1} → statement M
 add-row-spec =
     tie.close
     (tie.spec
+    Inv-loop
+    μ-loop
+    loop-holds
     (λ c. search needs)
     (λ c. search needs)
-    (λ c κs. search needs)
     (λ c. search needs)
     (λ c. search needs)
     (λ c. search needs)
     (λ c. search needs)
     (λ c. search needs)
+    (λ c. search (goes, needs))
     (λ c. search needs)
     (λ c. search needs)
     (λ c. search needs)

@@ -2,7 +2,7 @@
 use borrow.Author.Needs.{needs}
 use Prim.Native.Nat.{_-_}
 use mathlib.Core.Path.{refl}
-use Rattle.base.specs.LoopLaws.{Left, from-zero, goes, ended}
+use Rattle.base.specs.LoopLaws.{Left, from-zero, goes, ended, set-to}
 use Rattle.fit.specs.Fit.{sampled, rowAt}
 use Rattle.fit.proofs.normal.add_sample.Statement.{statement}
 use Rattle.fit.proofs.normal.add_sample.Tie as tie
@@ -24,8 +24,12 @@ add-sample-spec =
     Inv-loop
     μ-loop
     loop-holds
+    (λ c. search needs)
+    (λ c. search needs)
+    (λ c. search needs)
+    (λ c. search needs)
     (λ c κs. search needs)
     (λ c. search needs)
     (λ c. search needs)
-    (λ c. search (goes, needs))
+    (λ c. search (goes, set-to, needs))
     (λ c. search (ended, needs)))
