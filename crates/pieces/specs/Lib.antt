@@ -1,5 +1,3 @@
-pub mod Fit
-pub mod Samples
 pub mod Pieces
 pub mod Kernels
 pub mod Lists

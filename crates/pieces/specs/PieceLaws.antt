@@ -1,28 +1,24 @@
--- Theorems of a kernel's pieces: how many there are, that the rest of their arrays is +0, where the fallback stands, that the peak error is at least +0, what they do not depend on, and what a NaN exponent gives. Assumes nothing.
+-- Theorems of a kernel's pieces: how many there are, that the rest of their arrays is +0, that the peak error is at least +0, what they do not depend on, and what a NaN exponent gives. Assumes nothing.
 use mathlib.Core.Path.{_≡_, refl, ap, _∙_}
-use mathlib.Core.Logic.{⊎-elim}
-use mathlib.Core.Bool.{Bool, true, false, cond, _||_}
+use mathlib.Core.Bool.{Bool, true, false, cond}
 use mathlib.Core.List.{List}
 use Prim.Native.Nat.{ℕ, zero, suc, _+_, _≤_, _<_}
 use native.Mathlib.Nat.{le-trans}
 use native.Mathlib.Omega.{arith}
 use lib.ListN.{getD, set, replicate}
 use lib.Seq.{getD-set-other}
-use lib.Ieee.{Float, nan, ofBits, lt, le, eq, add, sub, mul, neg, isNan}
-use Rattle.base.specs.Floats.{_⊖_, _⊗_, bits, +0, abs, greater}
+use lib.Ieee.{Float, nan, ofBits, lt, le, sub}
+use Rattle.base.specs.Floats.{_⊗_, +0, abs, greater}
 use Rattle.base.specs.Constants.{one, keepLimit}
 use Rattle.base.specs.Loops.{times}
 use Rattle.base.specs.ChoiceLaws.{cond-of}
-use Rattle.base.specs.OrderLaws.{lt-nan, abs-least}
-use Rattle.powers.specs.Exp.{exp}
-use Rattle.powers.specs.Log.{log}
-use Rattle.powers.specs.Power.{power, log10}
-use Rattle.solve.specs.Elimination.{flat, eliminated}
+use Rattle.powers.specs.Power.{log10}
+use Rattle.solve.specs.Elimination.{eliminated}
 use Rattle.solve.specs.Solve.{answers}
-use Rattle.pieces.specs.Fit.{zeros, scalesOf, sampleOf, targetOf, coefficientsOf, approx, errorAt, peakError}
+use Rattle.fit.specs.Fit.{zeros, scalesOf, coefficientsOf}
+use Rattle.fit.specs.FitLaws.{zero-least, error-least, error-one}
 use Rattle.pieces.specs.Pieces.{delta, stays, sizeOf, curveOf, none, itself, keep, keepAt, kept, fitted, decomposed, pieceAlpha}
 use Rattle.kernel.specs.declared.kernel.Kernel.{Kernel}
-use Rattle.pieces.specs.declared.points.Curve.{Curve}
 use Rattle.pieces.specs.declared.pieces.Size.{Size}
 use Rattle.pieces.specs.declared.pieces.Pieces.{Pieces}
 
@@ -119,35 +115,7 @@ clean k radius =
     })
     (kept-clean _ _ _ _ _ (record { no-sigma = λ i l b. all-zero 16 i b; no-coefficient = λ i l b. all-zero 16 i b }))
 
--- ---- the fallback
-
--- "coefficient 1 at terms/2"
-pub fallback-13 : (c : ℕ) → coefficientsOf 13 zeros (flat c) ≡ set zeros 6 one
-unfolding coefficientsOf
-fallback-13 c = refl
-
-pub fallback-16 : (c : ℕ) → coefficientsOf 16 zeros (flat c) ≡ set zeros 8 one
-unfolding coefficientsOf
-fallback-16 c = refl
-
 -- ---- the peak error
-
-greater-least : (a x : Float) → le +0 a ≡ true → le +0 (greater a (abs x)) ≡ true
-unfolding greater
-greater-least a x h =
-    ⊎-elim (λ n. rw n (rw (lt-nan a) h)) (λ g. cond-of (λ (y : Float). le +0 y ≡ true) (lt a (abs x)) g h) (abs-least x)
-
-zero-least : le +0 +0 ≡ true
-unfolding le ofBits
-zero-least = refl
-
-error-least : (terms : ℕ) (scales coefs : List Float) (curve : Curve) → le +0 (peakError terms scales coefs curve) ≡ true
-unfolding peakError times errorAt
-error-least terms scales coefs curve = go (curve .samples) 0 +0 zero-least
-  where
-    go : (k i : ℕ) (e : Float) → le +0 e ≡ true → le +0 (times (errorAt terms scales coefs curve) k i e) ≡ true
-    go zero i e h = h
-    go (suc k) i e h = go k (suc i) _ (greater-least e _ h)
 
 keep-error : (p : Pieces) (s k : Float) → keep p s k .error ≡ p .error
 unfolding keep
@@ -188,43 +156,6 @@ pub same-pieces : (c c' : List Float) (sigma w w' alpha radius : Float)
     → decomposed (record { c = c; sigma = sigma; w = w; alpha = alpha }) radius ≡ decomposed (record { c = c'; sigma = sigma; w = w'; alpha = alpha }) radius
 unfolding decomposed
 same-pieces c c' sigma w w' alpha radius = refl
-
--- ---- a NaN exponent
-
-power-nan : (b : Float) → power b nan ≡ cond (eq b one) one nan
-unfolding power exp eq mul isNan
-power-nan b = go (eq b one)
-  where
-    go : (t : Bool) → cond (t || eq nan (bits 0)) one (exp (nan ⊗ log b)) ≡ cond t one nan
-    go true = refl
-    go false = refl
-
-one-stays : (b : Float) → greater one (abs (+0 ⊖ power b nan)) ≡ one
-unfolding greater abs sub lt ofBits
-one-stays b = rw (power-nan b) (go (eq b one))
-  where
-    go : (t : Bool) → greater one (abs (+0 ⊖ cond t one nan)) ≡ one
-    go true = refl
-    go false = refl
-
-module _ (scales coefs : List Float) (l : Float) where
-  abbrev curve : Curve
-  curve = record { alpha = nan; samples = 24; reach = l }
-
-  -- at the peak the deviation is 1
-  first : errorAt 0 scales coefs curve 0 +0 ≡ one
-  unfolding times errorAt approx sampleOf targetOf power greater abs add sub mul neg eq lt ofBits
-  first = refl
-
-  -- after it every deviation is 1 or a NaN
-  later : (k i : ℕ) → times (errorAt 0 scales coefs curve) k i one ≡ one
-  unfolding times errorAt approx targetOf neg
-  later zero i = refl
-  later (suc k) i = rw one-stays (later k (suc i))
-
-  error-one : peakError 0 scales coefs curve ≡ one
-  unfolding peakError times
-  error-one = rw first (later 23 1)
 
 -- "NaN alpha gives no piece and error 1"
 pub nan-alpha : (c : List Float) (sigma w radius : Float) → decomposed (record { c = c; sigma = sigma; w = w; alpha = nan }) radius ≡ none one

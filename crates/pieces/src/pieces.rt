@@ -1,24 +1,20 @@
 // The pieces of a kernel: itself where its exponent is near 1, else a fit by kernels of exponent 1.
 ghost use mathlib.Core.Path.{_≡_};
 ghost use Prim.Native.Nat.{_<_, _≤_};
-ghost use Rattle.solve.specs.Elimination.{eliminated};
-ghost use Rattle.pieces.specs.Fit.{coefficientsOf};
-ghost use Rattle.pieces.specs.Samples.{Samples};
+ghost use Rattle.fit.specs.Samples.{Samples};
 ghost use Rattle.pieces.specs.Pieces.{sizeOf, keep, kept, fitted, decomposed, pieceAlpha};
-use crate::error::peak_error;
-use crate::normal::add_ridge;
-use crate::normal::add_samples;
-use crate::points::Curve;
-use crate::points::fill_points;
-use crate::points::fill_scales;
-use crate::points::fill_targets;
 use base::floats::abs;
 use base::floats::greater_of;
+use fit::error::peak_error;
+use fit::normal::add_ridge;
+use fit::normal::add_samples;
+use fit::normal::solve_for;
+use fit::points::Curve;
+use fit::points::fill_points;
+use fit::points::fill_scales;
+use fit::points::fill_targets;
 use kernel::kernel::Kernel;
 use powers::power::log10;
-use solve::eliminate::Elimination;
-use solve::eliminate::eliminate;
-use solve::runs::copy_out;
 
 // The size of a fit: how many terms and samples.
 pub struct Size {
@@ -54,22 +50,6 @@ fn size_of(delta: f64) -> Size
     Size {
         terms: 0,
         samples: 24,
-    }
-}
-
-// Solves the normal equations for the coefficients; where that fails, one term stands for all.
-fn solve_for(coefficients: &mut [f64; 16], m: &mut [[f64; 17]; 16], terms: usize)
-    requires { ⌜ terms ≤ 16 ⌝ }
-    ensures { λ _. ⌜ now (coefficients .exit) ≡ coefficientsOf terms (now (coefficients .entry)) (eliminated terms (now (m .entry))) ⌝ }
-{
-    let end = eliminate(m, terms);
-    match end {
-        Elimination::Reduced => {
-            copy_out(m, terms, coefficients);
-        }
-        Elimination::Flat(_) => {
-            coefficients[terms / 2] = 1.0;
-        }
     }
 }
 

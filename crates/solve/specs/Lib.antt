@@ -1,4 +1,3 @@
 pub mod Elimination
 pub mod Solve
-pub mod RowLaws
 pub mod Rows

@@ -3,8 +3,6 @@
 // Internal: a function with a `requires` is called by proved code alone.
 ghost use mathlib.Core.Path.{_≡_};
 ghost use Prim.Native.Nat.{_<_, _≤_};
-ghost use mathlib.Core.List.{[]};
-ghost use lib.ListN.{getD, set};
 ghost use Rattle.solve.specs.Elimination.{exchanged, over, less, clearAt, swept, scaled};
 use base::floats::abs;
 
@@ -27,7 +25,7 @@ fn divide(row: &mut [f64; 17], n: usize, col: usize, divisor: f64)
     let width = n + 1;
     let mut j = col;
     while j < width {
-        row[j] = row[j] / divisor;
+        row[j] /= divisor;
         j += 1;
     }
 }
@@ -37,28 +35,19 @@ pub fn scale(m: &mut [[f64; 17]; 16], n: usize, col: usize)
     requires { ⌜ (n ≤ 16) × (col < n) ⌝ }
     ensures { λ _. ⌜ now (m .exit) ≡ scaled n col (now (m .entry)) ⌝ }
 {
-    let mut cells = m[col];
-    let divisor = cells[col];
-    divide(&mut cells, n, col, divisor);
-    m[col] = cells;
+    let divisor = m[col][col];
+    divide(&mut m[col], n, col, divisor);
 }
 
 // Subtracts factor times the pivot's row from a row, from column col on.
-fn subtract(
-    m: &mut [[f64; 17]; 16],
-    row: usize,
-    pivot_row: &[f64; 17],
-    n: usize,
-    col: usize,
-    factor: f64,
-)
-    requires { ⌜ (n ≤ 16) × (col ≤ n) × (row < 16) ⌝ }
-    ensures { λ _. ⌜ now (m .exit) ≡ set (now (m .entry)) row (less n col (now («pivot_row» .entry)) factor (getD (now (m .entry)) row [])) ⌝ }
+fn subtract(row: &mut [f64; 17], pivot_row: &[f64; 17], n: usize, col: usize, factor: f64)
+    requires { ⌜ (n ≤ 16) × (col ≤ n) ⌝ }
+    ensures { λ _. ⌜ now (row .exit) ≡ less n col (now («pivot_row» .entry)) factor (now (row .entry)) ⌝ }
 {
     let width = n + 1;
     let mut j = col;
     while j < width {
-        m[row][j] = m[row][j] - factor * pivot_row[j];
+        row[j] -= factor * pivot_row[j];
         j += 1;
     }
 }
@@ -76,7 +65,7 @@ fn clear_row(m: &mut [[f64; 17]; 16], pivot_row: &[f64; 17], n: usize, col: usiz
     if abs(factor) <= 1e-30 {
         return;
     }
-    subtract(m, row, pivot_row, n, col, factor);
+    subtract(&mut m[row], pivot_row, n, col, factor);
 }
 
 // Clears column col of every row but row col, which is the pivot's.

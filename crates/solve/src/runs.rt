@@ -26,9 +26,7 @@ pub fn load(m: &mut [[f64; 17]; 16], cells: &[f64], n: usize)
     let width = n + 1;
     let mut row = 0;
     while row < n {
-        let mut line = m[row];
-        load_row(&mut line, cells, n, row * width);
-        m[row] = line;
+        load_row(&mut m[row], cells, n, row * width);
         row += 1;
     }
 }

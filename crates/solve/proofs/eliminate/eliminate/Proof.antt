@@ -31,13 +31,15 @@ columns-holds c = (from-zero refl, refl)
 
 pivots-holds : tie.Need-pivots-holds Inv-pivots μ-pivots Inv-columns μ-columns
 unfolding pivotOf
-pivots-holds c = (begins (omega arith) (cc), omega arith, search needs)
+pivots-holds c =
+    let k = c .before .before .before .columns in
+    (begins (omega arith) (simp (c .abs .ensures)), c .before .before .columns-test .taken, k .inv .1)
 
 pivots-again : tie.Need-pivots-again Inv-pivots μ-pivots Inv-columns μ-columns
 pivots-again c =
     let p = c .before .before .before .before .pivots in
     let h : p .row < c .before .before .before .before .before .before .before .before .before .args .n = search needs in
-    (goes (p .inv .0) h (cc), rw (c .better .ensures) (better-below _ _ _ (p .inv .1) h), search needs)
+    (goes (p .inv .0) h (simp (c .better .ensures, c .before .abs2 .ensures)), rw (c .better .ensures) (better-below _ _ _ (p .inv .1) h), p .inv .2)
 
 columns-again : tie.Need-columns-again Inv-pivots μ-pivots Inv-columns μ-columns
 columns-again c =

@@ -40,5 +40,7 @@ clear-row-spec =
     (λ c. search needs)
     (λ c κs. search needs)
     returns-2
+    (λ c. search needs)
+    (λ c. search needs)
     (λ c κs. search needs)
     returns-3)

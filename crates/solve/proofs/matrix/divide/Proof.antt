@@ -30,6 +30,5 @@ divide-spec =
     (λ c. search needs)
     (λ c. search needs)
     (λ c. search needs)
-    (λ c. search needs)
     (λ c. search (goes, needs))
     (λ c. search (ended, needs)))

@@ -1,5 +1,6 @@
--- `scale` meets its contract: the divided row, stored back, is `scaled`. Assumes nothing.
+-- `scale` meets its contract: the matrix with its row divided is `scaled`. Assumes nothing.
 use borrow.Author.Needs.{needs}
+use Rattle.base.specs.LoopLaws.{set-to}
 use Rattle.solve.proofs.matrix.scale.Statement.{statement}
 use Rattle.solve.proofs.matrix.scale.Tie as tie
 
@@ -11,7 +12,7 @@ scale-spec =
     (λ c. search needs)
     (λ c. search needs)
     (λ c. search needs)
+    (λ c. search needs)
+    (λ c. search needs)
     (λ c κs. search needs)
-    (λ c. search needs)
-    (λ c. search needs)
-    (λ c. cc))
+    (λ c. search (set-to, needs)))

@@ -3,7 +3,7 @@ use borrow.Author.Needs.{needs}
 use Prim.Native.Nat.{_-_}
 use mathlib.Core.Path.{refl}
 use native.Mathlib.Omega.{arith}
-use Rattle.base.specs.LoopLaws.{Left, from-zero, goes, ended}
+use Rattle.base.specs.LoopLaws.{Left, from-zero, goes, ended, set-to}
 use Rattle.solve.specs.Solve.{loaded, loadedAt}
 use Rattle.solve.proofs.Solutions.{row-within, square-within}
 use Rattle.solve.proofs.runs.load.Statement.{statement}
@@ -29,11 +29,9 @@ load-spec =
     loop-holds
     (λ c. search needs)
     (λ c. search needs)
-    (λ c. omega (arith, row-within (c .before .before .before .before .before .args .n) (c .before .before .before .loop .row) (c .before .before .loop-test .taken), square-within (c .before .before .before .before .before .args .n) (search needs)))
-    (λ c κs. omega (arith, row-within (c .before .before .before .before .before .args .n) (c .before .before .before .loop .row) (c .before .before .loop-test .taken)))
+    (λ c. omega (arith, row-within (c .before .before .before .before .args .n) (c .before .before .loop .row) (c .before .loop-test .taken), square-within (c .before .before .before .before .args .n) (search needs)))
+    (λ c κs. omega (arith, row-within (c .before .before .before .before .args .n) (c .before .before .loop .row) (c .before .loop-test .taken)))
     (λ c. search needs)
     (λ c. search needs)
-    (λ c. search needs)
-    (λ c. search needs)
-    (λ c. goes (c .before .before .before .before .loop .inv) (c .before .before .before .loop-test .taken) (cc))
+    (λ c. search (goes, set-to, needs))
     (λ c. search (ended, needs)))

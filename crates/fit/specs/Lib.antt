@@ -1,0 +1,4 @@
+pub mod Fit
+pub mod Samples
+pub mod FitLaws
+pub mod SampleLaws
