@@ -1,15 +1,15 @@
 -- A run of steps at one place. Assumes nothing.
-use mathlib.Core.Path.{_≡_, refl, sym, ap, _∙_}
+use mathlib.Core.Path.{_≡_, refl, sym, ap, subst, _∙_}
 use mathlib.Core.Bool.{Bool, true, false, _&&_}
 use mathlib.Core.List.{List}
-use Prim.Native.Nat.{ℕ, zero, suc, _+_, _*_, _-_, _≤_, _<_, min}
+use Prim.Native.Nat.{ℕ, zero, suc, _+_, _*_, _-_, _≤_, _<_}
 use native.Mathlib.Nat.{add-zero, sub-zero, add-suc}
 use native.Mathlib.Omega.{arith}
 use lib.Dec.{ltb, eqb}
 use lib.Ieee.{Float, nan}
 use lib.ListN.{length, getD, set, take, drop, length-set, length-take, length-drop}
 use lib.Seq.{getD-set-same, getD-set-other, set-set, set-getD, getD-take, getD-drop, drop-set-lt}
-use borrow.Author.Tests.{lt-ltb, eq-eqb, ne-eqb}
+use borrow.Author.Tests.{lt-ltb, le-ltb, ltb-true, ltb-false, eq-eqb, ne-eqb}
 use Rattle.base.specs.Loops.{times, iterate}
 use Rattle.base.specs.LoopLaws.{times-suc, iterate-add}
 use Rattle.runs.specs.RunLaws.{length-part}
@@ -65,6 +65,32 @@ module _ (t : ℕ → Triangle) (c : V3) (m base p : ℕ) where
   idle zero r e = refl
   idle (suc k) r e = rw (idle k r e, e) refl
 
+-- ---- up to b steps at a place, no further than the end of its current piece
+module _ (t : ℕ → Triangle) (c : V3) (m base : ℕ) (fs : List Float) (n d b : ℕ) (h : d < m) (hl : base + 3 * n + 2 < length fs) where
+  abbrev upTo : Work
+  upTo = iterate (oneFace t c m base (n + 1)) b (work fs n d b)
+
+  -- its end is reached
+  pub piece-end : (k : ℕ) → k ≡ m - d → k ≤ b → upTo ≡ work (chunked t c m base (n + 1) fs n d k) (n + 1) 0 (b - k)
+  piece-end zero e hk = absurd (omega arith)
+  piece-end (suc k) e hk =
+      let q : b ≡ suc k + (b - suc k) = omega arith in
+      let f = oneFace t c m base (n + 1) in
+      ap (λ (j : ℕ). iterate f j (work fs n d b)) q ∙ (iterate-add f (suc k) (b - suc k) (work fs n d b)
+      ∙ (ap (iterate f (b - suc k)) (chunk-end t c m base (n + 1) fs n d b (omega arith) hl k (omega arith) hk)
+      ∙ idle t c m base (n + 1) (b - suc k) _ (rw (le-ltb (n + 1) (n + 1) (omega arith)) refl)))
+
+  -- the steps end before it
+  pub piece-more : (k : ℕ) → k ≡ b → d + k < m → upTo ≡ work (chunked t c m base (n + 1) fs n d k) n (d + k) (b - k)
+  piece-more k e hk = ap (λ (j : ℕ). iterate (oneFace t c m base (n + 1)) j (work fs n d b)) (sym e) ∙ chunk-more t c m base (n + 1) fs n d b (omega arith) hl k hk (omega arith)
+
+-- what `chunk` leaves
+pub left-chunk : (f f′ : List Float) (w : List ℕ) (vs ms : ℕ) (c : V3) (base n d k : ℕ)
+    → f′ ≡ set f (base + 3 * n + 2) (volumeFrom (held width f w vs ms) c (getD f (base + 3 * n) nan) d (d + k) (getD f (base + 3 * n + 2) nan))
+    → f′ ≡ chunked (held width f w vs ms) c ms base (n + 1) f n d k
+unfolding volumeFrom
+left-chunk f f′ w vs ms c base n d k r = let e : d + k - d ≡ k = omega arith in rw e at r
+
 pub meshed-same : (f f₀ : List Float) (w : List ℕ) (vs ms : ℕ) → length f ≡ length f₀ → Meshed width f₀ w vs ms → Meshed width f w vs ms
 meshed-same f f₀ w vs ms e m = record { floats = rw e (m .floats); words = m .words; verts = m .verts; faces = m .faces; corners = m .corners }
 
@@ -89,45 +115,65 @@ module _ (f₀ : List Float) (w : List ℕ) (vs ms i p n₀ d₀ b₀ : ℕ) whe
       let e : b₀ - (b - k) ≡ b₀ - b + k = omega arith in
       sym t ∙ (ap (iterate stepHere k) s ∙ (sym (iterate-add stepHere (b₀ - b) k (work f₀ n₀ d₀ b₀)) ∙ ap (λ (j : ℕ). iterate stepHere j (work f₀ n₀ d₀ b₀)) (sym e)))
 
-  module _ (hf : coordsFrom ≤ length f₀) (hi : i < 32) (hp : p ≤ 16) (f f′ : List Float) (n d b : ℕ) (g : Going f n d b) (h : n < p) (hb : b ≡ 0 → ⊥) where
-    -- what `chunk` leaves
-    abbrev Chunk : ℕ → Type 0
-    Chunk k = f′ ≡ set f (225 + 48 * i + 3 * n + 2) (volumeFrom (held width f w vs ms) (centreAt f₀ i) (getD f (225 + 48 * i + 3 * n) nan) d (d + k) (getD f (225 + 48 * i + 3 * n + 2) nan))
+  module _ (hf : coordsFrom ≤ length f₀) (hi : i < 32) (hp : p ≤ 16) (f : List Float) (n d b : ℕ) (g : Going f n d b) (h : n < p) (hb : b ≡ 0 → ⊥) where
+    abbrev t : ℕ → Triangle
+    t = held width f₀ w vs ms
 
-    left-chunk : (k : ℕ) → Chunk k → f′ ≡ chunked (held width f₀ w vs ms) (centreAt f₀ i) ms (225 + 48 * i) p f n d k
-    unfolding volumeFrom
-    left-chunk k r = let e : d + k - d ≡ k = omega arith in rw (g .mesh, e) at r
+    abbrev next : ℕ → List Float
+    next k = chunked t (centreAt f₀ i) ms (225 + 48 * i) p f n d k
 
-    pub turn-end : (k : ℕ) → k ≡ min b (ms - d) → k ≡ ms - d → Chunk k → Going f′ (n + 1) 0 (b - k)
-    turn-end zero e q r = let z = g .part h in absurd (omega arith)
-    turn-end (suc k) e q r =
+    -- a later state, nearer to the end
+    abbrev Onward : Work → Type 0
+    Onward r = Going (r .floats) (r .finished) (r .done) (r .budget) × (r .budget + p - r .finished < b + p - n)
+
+    turn-end : (k : ℕ) → k ≡ ms - d → k ≤ b → Onward (work (next k) (n + 1) 0 (b - k))
+    turn-end zero e q = let z = g .part h in absurd (omega arith)
+    turn-end (suc k) e q =
         let z = g .part h in
-        let l = g .long in
-        record {
-          long = ap length r ∙ (length-set f _ _ ∙ l);
-          mesh = ap (drop coordsFrom) r ∙ (drop-set-lt coordsFrom f (225 + 48 * i + 3 * n + 2) _ (omega arith) ∙ g .mesh);
-          fits = omega arith;
-          part = λ _. omega arith;
-          low = omega arith;
-          spent = omega (arith, g .spent);
-          state = later (suc k) b f f′ n d (n + 1) 0 (omega arith) (g .spent) (g .state)
-              (chunk-end _ _ _ _ _ f n d b h (omega arith) k (omega arith) (omega arith) ∙ ap (λ (x : List Float). work x (n + 1) 0 (b - suc k)) (sym (left-chunk (suc k) r)));
-        }
+        let l = g .long in (
+          record {
+            long = length-set f _ _ ∙ l;
+            mesh = drop-set-lt coordsFrom f (225 + 48 * i + 3 * n + 2) _ (omega arith) ∙ g .mesh;
+            fits = omega arith;
+            part = λ _. omega arith;
+            low = omega arith;
+            spent = omega (arith, g .spent);
+            state = later (suc k) b f (next (suc k)) n d (n + 1) 0 (omega arith) (g .spent) (g .state) (chunk-end _ _ _ _ _ f n d b h (omega arith) k (omega arith) (omega arith));
+          },
+          omega arith,
+        )
 
-    pub turn-more : (k : ℕ) → k ≡ min b (ms - d) → (k ≡ ms - d → ⊥) → Chunk k → Going f′ n (d + k) (b - k)
-    turn-more k e q r =
-        let z = g .part h in
-        let l = g .long in
-        record {
-          long = ap length r ∙ (length-set f _ _ ∙ l);
-          mesh = ap (drop coordsFrom) r ∙ (drop-set-lt coordsFrom f (225 + 48 * i + 3 * n + 2) _ (omega arith) ∙ g .mesh);
-          fits = omega arith;
-          part = λ _. omega arith;
-          low = omega arith;
-          spent = omega (arith, g .spent);
-          state = later k b f f′ n d n (d + k) (omega arith) (g .spent) (g .state)
-              (chunk-more _ _ _ _ _ f n d b h (omega arith) k (omega arith) (omega arith) ∙ ap (λ (x : List Float). work x n (d + k) (b - k)) (sym (left-chunk k r)));
-        }
+    turn-more : (k : ℕ) → k ≡ b → d + k < ms → Onward (work (next k) n (d + k) (b - k))
+    turn-more k e q =
+        let l = g .long in (
+          record {
+            long = length-set f _ _ ∙ l;
+            mesh = drop-set-lt coordsFrom f (225 + 48 * i + 3 * n + 2) _ (omega arith) ∙ g .mesh;
+            fits = omega arith;
+            part = λ _. omega arith;
+            low = omega arith;
+            spent = omega (arith, g .spent);
+            state = later k b f (next k) n d n (d + k) (omega arith) (g .spent) (g .state) (chunk-more _ _ _ _ _ f n d b h (omega arith) k (omega arith) (omega arith));
+          },
+          omega arith,
+        )
+
+    -- what `run_piece` leaves
+    pub turn : (r : Work) → r ≡ iterate (oneFace (held width f w vs ms) (centreAt f₀ i) ms (225 + 48 * i) (n + 1)) b (work f n d b) → Onward r
+    turn r e = go (ltb b (ms - d)) refl
+      where
+        z : d < ms
+        z = g .part h
+
+        l : 225 + 48 * i + 3 * n + 2 < length f
+        l = rw (g .long) (omega arith)
+
+        q : r ≡ iterate (oneFace t (centreAt f₀ i) ms (225 + 48 * i) (n + 1)) b (work f n d b)
+        q = rw (g .mesh) at e
+
+        go : (x : Bool) → ltb b (ms - d) ≡ x → Onward r
+        go true u = let v = ltb-true b (ms - d) u in subst Onward (sym (q ∙ piece-more t (centreAt f₀ i) ms (225 + 48 * i) f n d b z l b refl (omega arith))) (turn-more b refl (omega arith))
+        go false u = let v = ltb-false b (ms - d) u in subst Onward (sym (q ∙ piece-end t (centreAt f₀ i) ms (225 + 48 * i) f n d b z l (ms - d) refl v)) (turn-end (ms - d) refl v)
 
   -- it ends where no step is left, or no piece
   pub stopped : (f : List Float) (n d b : ℕ) → Going f n d b → ltb n p && ltb 0 b ≡ false → work f n d b ≡ iterate stepHere b₀ (work f₀ n₀ d₀ b₀)

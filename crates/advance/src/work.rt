@@ -63,6 +63,40 @@ fn chunk(
     f[at + 2] = volume;
 }
 
+// Spends up to `budget` steps at place i, no further than the end of the current piece; c is the place's centre.
+fn run_piece(
+    f: &mut [f64],
+    w: &[u32],
+    verts: usize,
+    faces: usize,
+    i: usize,
+    c: V3,
+    start: Ran,
+) -> Ran
+    requires { ⌜ Meshed width (now f) (now w) verts faces ⌝ ∗ ⌜ Ready faces i (start .finished + 1) (start .finished) (start .done) ⌝ }
+    ensures { λ r. ⌜ work (now (f .exit)) (r .finished) (r .done) (r .budget) ≡ iterate (oneFace (held width (now (f .entry)) (now (w .entry)) verts faces) c faces (piecesFrom i) (start .finished + 1)) (start .budget) (work (now (f .entry)) (start .finished) (start .done) (start .budget)) ⌝ }
+{
+    let finished = start.finished;
+    let done = start.done;
+    let room = faces - done;
+    let k = lesser(start.budget, room);
+    let at = PIECE + PIECES_SIZE * i + 3 * finished;
+    chunk(f, w, verts, faces, c, at, done, k);
+    let budget = start.budget - k;
+    if k == room {
+        return Ran {
+            finished: finished + 1,
+            done: 0,
+            budget,
+        };
+    }
+    Ran {
+        finished,
+        done: done + k,
+        budget,
+    }
+}
+
 // Spends up to `budget` steps at place i, which has `count` pieces.
 fn run_slot(
     f: &mut [f64],
@@ -82,42 +116,14 @@ fn run_slot(
         y: f[KERNEL + 1 + at],
         z: f[KERNEL + 2 + at],
     };
-    let mut finished = start.finished;
-    let mut done = start.done;
-    let mut budget = start.budget;
-    while finished < count {
-        if budget == 0 {
-            return Ran {
-                finished,
-                done,
-                budget,
-            };
+    let mut r = start;
+    while r.finished < count {
+        if r.budget == 0 {
+            return r;
         }
-        let room = faces - done;
-        let k = lesser(budget, room);
-        chunk(
-            f,
-            w,
-            verts,
-            faces,
-            c,
-            PIECE + PIECES_SIZE * i + 3 * finished,
-            done,
-            k,
-        );
-        budget -= k;
-        if k == room {
-            finished += 1;
-            done = 0;
-        } else {
-            done += k;
-        }
+        r = run_piece(f, w, verts, faces, i, c, r);
     }
-    Ran {
-        finished,
-        done,
-        budget,
-    }
+    r
 }
 
 // Spends up to `budget` steps at place i, and answers how many are over.

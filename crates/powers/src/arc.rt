@@ -11,6 +11,14 @@ fn halved(v: f64) -> f64
     v / (1.0 + root::root(1.0 + v * v))
 }
 
+// The tangent of a quarter of the angle whose tangent is v.
+fn quartered(v: f64) -> f64
+    ensures { λ r. ⌜ r ≡ halved (halved v) ⌝ }
+{
+    let half = halved(v);
+    halved(half)
+}
+
 // The series, without its first factor, at q = v * v.
 fn arc_sum(q: f64) -> f64
     ensures { λ r. ⌜ r ≡ arcSum q ⌝ }
@@ -36,9 +44,9 @@ fn arc_abs(s: f64) -> f64
     ensures { λ r. ⌜ r ≡ arcAbs s ⌝ }
 {
     if s > 1.0 {
-        1.5707963267948966 - arc_core(halved(halved(1.0 / s)))
+        1.5707963267948966 - arc_core(quartered(1.0 / s))
     } else {
-        arc_core(halved(halved(s)))
+        arc_core(quartered(s))
     }
 }
 

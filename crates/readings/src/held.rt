@@ -2,8 +2,10 @@
 // Internal: a function with a `requires` is called by proved code alone.
 ghost use mathlib.Core.Path.{_≡_};
 ghost use Prim.Native.Nat.{_≤_, _<_};
-ghost use lib.ListN.{length};
-ghost use Rattle.layout.specs.Layout.{slotLimit, pieceLimit, coordsFrom};
+ghost use lib.ListN.{length, getD};
+ghost use lib.Ieee.{nan};
+ghost use Rattle.layout.specs.Layout.{slotLimit, pieceLimit, coordsFrom, centreOf, alphaOf, pieceFrom};
+ghost use Rattle.pieces.specs.Pieces.{pieceAlpha};
 ghost use Rattle.readings.specs.Readings.{bare, heldPart, rescaled};
 use kernel::kernel::Kernel;
 use layout::offsets::KERNEL;
@@ -12,31 +14,37 @@ use layout::offsets::PIECE;
 use layout::offsets::PIECES_SIZE;
 use pieces::pieces::piece_alpha;
 
+// Piece j of place i, with the weight w.
+fn piece_of_weight(f: &[f64], i: usize, j: usize, w: f64) -> Kernel
+    requires { ⌜ (coordsFrom ≤ length (now f)) × (i < slotLimit) × (j < pieceLimit) ⌝ }
+    ensures { λ r. ⌜ r ≡ record { c = centreOf (now (f .entry)) i; sigma = getD (now (f .entry)) (pieceFrom i j) nan; w = w; alpha = pieceAlpha (alphaOf (now (f .entry)) i) } ⌝ }
+{
+    let at = KERNEL_SIZE * i;
+    let alpha = piece_alpha(f[KERNEL + 5 + at]);
+    Kernel {
+        c: [f[KERNEL + at], f[KERNEL + 1 + at], f[KERNEL + 2 + at]],
+        sigma: f[PIECE + PIECES_SIZE * i + 3 * j],
+        w,
+        alpha,
+    }
+}
+
 // Piece j of place i.
 pub fn piece_at(f: &[f64], i: usize, j: usize) -> Kernel
     requires { ⌜ (coordsFrom ≤ length (now f)) × (i < slotLimit) × (j < pieceLimit) ⌝ }
     ensures { λ r. ⌜ r ≡ bare (heldPart (now (f .entry)) i j) ⌝ }
 {
-    let at = KERNEL_SIZE * i;
-    let o = PIECE + PIECES_SIZE * i + 3 * j;
-    let alpha = piece_alpha(f[KERNEL + 5 + at]);
-    Kernel {
-        c: [f[KERNEL + at], f[KERNEL + 1 + at], f[KERNEL + 2 + at]],
-        sigma: f[o],
-        w: f[KERNEL + 4 + at] * f[o + 1],
-        alpha,
-    }
+    let weight = f[KERNEL + 4 + KERNEL_SIZE * i];
+    let coefficient = f[PIECE + PIECES_SIZE * i + 3 * j + 1];
+    piece_of_weight(f, i, j, weight * coefficient)
 }
 
-// A piece with its weight rescaled.
-pub fn rescale(k: Kernel, s: f64) -> Kernel
-    ensures { λ r. ⌜ r ≡ rescaled s k ⌝ }
+// Piece j of place i, its weight rescaled.
+pub fn rescaled_at(f: &[f64], i: usize, j: usize, s: f64) -> Kernel
+    requires { ⌜ (coordsFrom ≤ length (now f)) × (i < slotLimit) × (j < pieceLimit) ⌝ }
+    ensures { λ r. ⌜ r ≡ rescaled s (bare (heldPart (now (f .entry)) i j)) ⌝ }
 {
-    let c = k.c;
-    Kernel {
-        c,
-        sigma: k.sigma,
-        w: k.w * s,
-        alpha: k.alpha,
-    }
+    let weight = f[KERNEL + 4 + KERNEL_SIZE * i];
+    let coefficient = f[PIECE + PIECES_SIZE * i + 3 * j + 1];
+    piece_of_weight(f, i, j, weight * coefficient * s)
 }

@@ -9,8 +9,7 @@ ghost use Rattle.layout.specs.SoundLaws.{Worded};
 ghost use Rattle.readings.specs.Readings.{six, heldAt, heldAll};
 ghost use Rattle.readings.specs.Counts.{pieceCount};
 ghost use Rattle.readings.specs.Lists.{rows};
-use crate::held::piece_at;
-use crate::held::rescale;
+use crate::held::rescaled_at;
 use kernel::kernel::Kernel;
 use layout::left::pieces;
 use layout::offsets::SLOTS;
@@ -38,7 +37,7 @@ fn slot_list(out: &mut [f64], at: usize, f: &[f64], i: usize, count: usize, s: f
 {
     let mut j: usize = 0;
     while j < count {
-        let k = rescale(piece_at(f, i, j), s);
+        let k = rescaled_at(f, i, j, s);
         write_six(out, at + 6 * j, k);
         j += 1;
     }

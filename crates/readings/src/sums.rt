@@ -9,7 +9,7 @@ ghost use Rattle.layout.specs.SoundLaws.{Worded};
 ghost use Rattle.readings.specs.Readings.{bare, heldPart, heldAt, heldAll, rescaled, origin};
 ghost use Rattle.readings.specs.Folds.{fold, scaledStep, originStep, massStep};
 use crate::held::piece_at;
-use crate::held::rescale;
+use crate::held::rescaled_at;
 use density::densitize::density_of;
 use layout::left::pieces;
 use layout::offsets::PIECE;
@@ -26,7 +26,7 @@ fn slot_density(f: &[f64], i: usize, count: usize, s: f64, x: [f64; 3], start: f
     let mut rho = start;
     let mut j: usize = 0;
     while j < count {
-        rho += density_of(rescale(piece_at(f, i, j), s), x);
+        rho += density_of(rescaled_at(f, i, j, s), x);
         j += 1;
     }
     rho

@@ -128,10 +128,7 @@ fn confirm(d: u64, g: u64) -> u64
     if v < step + 2 {
         return g + 1;
     }
-    if v < 2 * step + 6 {
-        return g + 2;
-    }
-    0
+    if v < 2 * step + 6 { g + 2 } else { 0 }
 }
 
 // The root of d * 2^52, rounded, where d is sig * 2^odd and `bits` the pattern to guess from.

@@ -16,9 +16,9 @@ abbrev μ-loop : tie.MeasureT-loop
 
 loop-again : tie.Need-loop-again Inv-loop μ-loop
 loop-again c =
-    let a = c .before .before .before .before .before .before .before .before .before .before .args in
-    let l = c .before .before .before .before .before .before .before .loop in
-    (omega arith, piece-listed (a .out .now) (a .at) (a .s) (a .f .now) (a .i) (l .j) (l .out) (c .before .before .write-six .last .0) (l .inv .1) (omega arith) (rw (c .before .before .before .before .rescale .ensures, c .before .before .before .before .before .piece-at .ensures) at (c .before .before .write-six .ensures)))
+    let a = c .before .before .before .before .before .before .before .before .before .args in
+    let l = c .before .before .before .before .before .before .loop in
+    (omega arith, piece-listed (a .out .now) (a .at) (a .s) (a .f .now) (a .i) (l .j) (l .out) (c .before .before .write-six .last .0) (l .inv .1) (omega arith) (rw (c .before .before .before .before .rescaled-at .ensures) at (c .before .before .write-six .ensures)))
 
 returns : tie.Need-returns Inv-loop μ-loop
 returns c =
@@ -34,10 +34,9 @@ slot-list-spec =
     μ-loop
     (λ c. (omega arith, none-listed _ _))
     (λ c κs. search needs)
-    (λ c κs. search needs)
     (λ c. search needs)
     (λ c. search needs)
-    (λ c κs. omega (arith, c .before .before .before .before .loop .inv .1 .long))
+    (λ c κs. omega (arith, c .before .before .before .loop .inv .1 .long))
     (λ c. search needs)
     (λ c. search needs)
     loop-again

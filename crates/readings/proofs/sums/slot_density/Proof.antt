@@ -17,9 +17,9 @@ abbrev μ-loop : tie.MeasureT-loop
 
 loop-again : tie.Need-loop-again Inv-loop μ-loop
 loop-again c =
-    let a = c .before .before .before .before .before .before .args in
-    let l = c .before .before .before .before .loop in
-    (omega arith, rw (piece-more (scaledStep (a .s) (a .x)) (a .f .now) (a .i) (l .j) (a .start), ← l .inv .1, c .density-of .ensures, c .before .rescale .ensures, c .before .before .piece-at .ensures) refl)
+    let a = c .before .before .before .before .before .args in
+    let l = c .before .before .before .loop in
+    (omega arith, rw (piece-more (scaledStep (a .s) (a .x)) (a .f .now) (a .i) (l .j) (a .start), ← l .inv .1, c .density-of .ensures, c .before .rescaled-at .ensures) refl)
 
 returns : tie.Need-returns Inv-loop μ-loop
 returns c =
@@ -34,7 +34,6 @@ slot-density-spec =
     Inv-loop
     μ-loop
     (λ c. (omega arith, refl))
-    (λ c κs. search needs)
     (λ c κs. search needs)
     (λ c κs. search needs)
     (λ c. search needs)

@@ -1,16 +1,12 @@
--- `readings::held::piece_at` meets its contract. Assumes nothing.
+-- `readings::held::piece_of_weight` meets its contract. Assumes nothing.
 use borrow.Author.Needs.{needs}
-use Rattle.readings.proofs.held.piece_at.Statement.{statement}
-use Rattle.readings.proofs.held.piece_at.Tie as tie
+use Rattle.readings.proofs.held.piece_of_weight.Statement.{statement}
+use Rattle.readings.proofs.held.piece_of_weight.Tie as tie
 
-pub piece-at-spec : {M : Type 1} → statement M
-piece-at-spec =
+pub piece-of-weight-spec : {M : Type 1} → statement M
+piece-of-weight-spec =
     tie.close
     (tie.spec
-    (λ c. search needs)
-    (λ c. search needs)
-    (λ c. search needs)
-    (λ c. search needs)
     (λ c. search needs)
     (λ c. search needs)
     (λ c. search needs)
@@ -34,7 +30,4 @@ piece-at-spec =
     (λ c. search needs)
     (λ c. search needs)
     (λ c. search needs)
-    (λ c. search needs)
-    (λ c. search needs)
-    (λ c. search needs)
-    (λ c. rw (← c .before .before .before .before .before .before .piece-alpha .ensures)))
+    (λ c. rw (← c .before .before .before .before .piece-alpha .ensures)))
