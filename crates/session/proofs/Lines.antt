@@ -16,9 +16,9 @@ use Rattle.text.specs.Print.{Wrote}
 use Rattle.forms.specs.declared.line.Line.{Line}
 use Rattle.forms.specs.declared.line.Line.the-variants.{Bad, Open, Vert, Face, Put, Clear, Reweigh, Advance, Density, Report}
 use Rattle.session.specs.declared.opening.Opening.{Opening}
-use Rattle.session.specs.Texts.{openText}
-use Rattle.session.specs.Session.{Session, Said, looked, Small, vertLimit, faceLimit, vertsDue, due, idle, begun, vertRead, faceRead, session, said, badText, givenUp, callOf, calls, opens, settled, inOpening, outside}
-use Rattle.session.proofs.Answers.{wrote-as}
+use Rattle.calls.specs.Texts.{openText}
+use Rattle.calls.specs.Calls.{badText, callOf}
+use Rattle.session.specs.Session.{Session, Said, Small, vertLimit, faceLimit, vertsDue, due, idle, begun, vertRead, faceRead, session, said, givenUp, calls, opens, settled, inOpening, outside}
 
 -- three stores in a row
 pub stored3 : {A : Type 0} (l : List A) (k : ℕ) (a b c : A) → set (set (set l k a) (k + 1) b) (k + 2) c ≡ sets l k (a ∷ b ∷ c ∷ [])
@@ -38,7 +38,7 @@ face-room o (s, (h, d)) =
 
 -- what is held and written, where another thing is said that is the same
 pub saying : {s : Session} {x y : Said} {o o′ : List ℕ} {r : ℕ} → x ≡ y → s ≡ y .next → Wrote o 0 (y .text) r o′ → (s ≡ x .next) × Wrote o 0 (x .text) r o′
-saying e a w = (a ∙ (λ i. sym e i .next), wrote-as (λ i. sym e i .text) w)
+saying {o} {o′ = o′} {r} e a w = (a ∙ (λ i. sym e i .next), subst (λ (t : List ℕ). Wrote o 0 t r o′) (λ i. sym e i .text) w)
 
 -- ---- an opening so far
 pub settled-due : (s : Session) → due (s .opening) ≡ true → settled s ≡ said s []
@@ -97,23 +97,6 @@ makes-call s l e m (u, b) (f, v) w =
     ((subst (λ (q : Opening). Small q) (sym u) m, b), saying e (λ i. session (u i) (f i) (v i) (s .coords) (s .corners)) w)
 
 -- ---- the lines that a `match` leaves to its last arm, by their places in the enum
-
--- neither a put nor any call after it
-abbrev noCall : List ℕ
-noCall = 0 ∷ 1 ∷ 2 ∷ 3 ∷ []
-
-pub no-call : (fs : List Float) (ws : List ℕ) (l : Line) → OneOf noCall (tagOf the-type l) → callOf fs ws l ≡ looked fs ws badText
-unfolding callOf
-no-call fs ws Bad h = refl
-no-call fs ws (Open radius verts faces) h = refl
-no-call fs ws (Vert x y z) h = refl
-no-call fs ws (Face a b c) h = refl
-no-call fs ws (Put place x y z sigma w alpha) h = absurd (miss noCall 4 tt h)
-no-call fs ws (Clear place) h = absurd (miss noCall 5 tt h)
-no-call fs ws (Reweigh place w) h = absurd (miss noCall 6 tt h)
-no-call fs ws (Advance n) h = absurd (miss noCall 7 tt h)
-no-call fs ws (Density v x y z) h = absurd (miss noCall 8 tt h)
-no-call fs ws (Report v) h = absurd (miss noCall 9 tt h)
 
 -- neither a vert nor a face line
 abbrev noMesh : List ℕ

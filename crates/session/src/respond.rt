@@ -8,16 +8,17 @@ ghost use lib.ListN.{length};
 ghost use lib.Seq.{sets};
 ghost use Rattle.text.specs.Print.{Wrote};
 ghost use Rattle.forms.specs.declared.line.Line.the-variants.{Vert, Face, Open};
-ghost use Rattle.session.specs.Session.{Small, vertsDue, due, idle, vertRead, faceRead, session, badText, callOf, settled, inOpening, outside, respond};
-use crate::answer::answer_no;
-use crate::answer::answer_open;
-use crate::calls::call;
+ghost use Rattle.calls.specs.Calls.{badText, callOf};
+ghost use Rattle.session.specs.Session.{Small, vertsDue, due, idle, vertRead, faceRead, session, settled, inOpening, outside, respond};
 use crate::opening::Opening;
 use crate::opening::begun;
 use crate::opening::due;
 use crate::opening::idle;
 use crate::opening::verts_due;
 use base::refusal::Refusal;
+use calls::answer::answer_no;
+use calls::answer::answer_open;
+use calls::call::call;
 use forms::line::Line;
 
 // The opening under way after a line, and the length of what was written.
