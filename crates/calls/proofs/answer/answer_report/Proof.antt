@@ -1,26 +1,22 @@
 -- The answer's line, or the refusal's. Assumes nothing.
-use mathlib.Core.Path.{refl}
 use Rattle.text.specs.WriteLaws.{then}
 use Rattle.calls.specs.Texts.{reportText}
-use Rattle.base.specs.RefusalLaws.{never-zero}
-use Rattle.calls.proofs.Answers.{reading}
+use Rattle.calls.proofs.Answers.{reading, report-done, report-refused}
 use borrow.Author.Needs.{needs}
 use Rattle.calls.proofs.answer.answer_report.Statement.{statement}
 use Rattle.calls.proofs.answer.answer_report.Tie as tie
 
 returns : tie.Need-returns
-unfolding reportText
 returns c =
     let c5 = c .before .before .before .before .before in
     let c7 = c5 .before .before in
-    (c .end-line .ensures .0, reading reportText (c7 .report .ensures) (then (c .before .before .write-report .ensures .1) (c .end-line .ensures .1)) (rw (c5 .mass .given .1) refl))
+    (c .end-line .ensures .0, reading reportText (report-done (c5 .mass .given .1)) (c7 .report .ensures) (then (c .before .before .write-report .ensures .1) (c .end-line .ensures .1)))
 
 returns-2 : tie.Need-returns-2
-unfolding reportText
 returns-2 c =
     let c3 = c .before .before .before in
     let c5 = c3 .before .before in
-    (c .answer-no .ensures .0, reading reportText (c5 .report .ensures) (c .answer-no .ensures .1) (rw (c3 .r .given .1, never-zero (c3 .r .given .0 .0)) refl))
+    (c .answer-no .ensures .0, reading reportText (report-refused (c3 .r .given .1)) (c5 .report .ensures) (c .answer-no .ensures .1))
 
 pub answer-report-spec : {M : Type 1} → statement M
 answer-report-spec =

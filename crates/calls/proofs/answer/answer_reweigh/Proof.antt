@@ -1,28 +1,26 @@
 -- The answer's line, or the refusal's. Assumes nothing.
-use mathlib.Core.Path.{refl}
 use Rattle.text.specs.WriteLaws.{then}
 use Rattle.calls.specs.Texts.{reweighText}
-use Rattle.base.specs.RefusalLaws.{never-zero}
-use Rattle.calls.proofs.Answers.{answering}
+use Rattle.calls.proofs.Answers.{answering, reweigh-done, reweigh-refused}
 use borrow.Author.Needs.{needs}
 use Rattle.calls.proofs.answer.answer_reweigh.Statement.{statement}
 use Rattle.calls.proofs.answer.answer_reweigh.Tie as tie
 
 returns : tie.Need-returns
-unfolding reweighText
 returns c =
     let c4 = c .before .before .before .before in
     let c10 = c4 .before .before .before .before .before .before in
     let c15 = c10 .before .before .before .before .before in
-    (c .end-line .ensures .0, answering (reweighText (c15 .args .place)) (c10 .reweigh .ensures) (then (c .before .before .write-reweigh .ensures .1) (c .end-line .ensures .1)) (rw (c4 .enum-told .given .1) refl))
+    let place = c15 .args .place in
+    (c .end-line .ensures .0, answering (reweighText place) (reweigh-done place (c4 .enum-told .given .1)) (c10 .reweigh .ensures) (then (c .before .before .write-reweigh .ensures .1) (c .end-line .ensures .1)))
 
 returns-2 : tie.Need-returns-2
-unfolding reweighText
 returns-2 c =
     let c3 = c .before .before .before in
     let c9 = c3 .before .before .before .before .before .before in
     let c14 = c9 .before .before .before .before .before in
-    (c .answer-no .ensures .0, answering (reweighText (c14 .args .place)) (c9 .reweigh .ensures) (c .answer-no .ensures .1) (rw (c3 .r .given .1, never-zero (c3 .r .given .0 .0)) refl))
+    let place = c14 .args .place in
+    (c .answer-no .ensures .0, answering (reweighText place) (reweigh-refused place (c3 .r .given .1)) (c9 .reweigh .ensures) (c .answer-no .ensures .1))
 
 pub answer-reweigh-spec : {M : Type 1} → statement M
 answer-reweigh-spec =

@@ -1,56 +1,53 @@
 -- Each line's call, case by case. Assumes nothing.
-use mathlib.Core.Path.{refl}
-use Rattle.calls.specs.Calls.{callOf}
-use Rattle.calls.proofs.NoCall.{no-call}
+use Rattle.calls.proofs.Lines.{calling, looking, put-line, clear-line, reweigh-line, advance-line, density-line, report-line, no-call}
 use borrow.Author.Needs.{needs}
 use Rattle.calls.proofs.call.call.Statement.{statement}
 use Rattle.calls.proofs.call.call.Tie as tie
 
 returns : tie.Need-returns
-unfolding callOf
 returns c =
     let c4 = c .before .before .before .before in
     let c9 = c4 .before .before .before .before .before in
-    rw (c9 .l .given .1) (c4 .answer-put .ensures)
+    let a = c9 .before .before .before .before .args in
+    calling (put-line (a .f .now) (a .w .now) (c9 .l .given .1)) (c4 .answer-put .ensures)
 
 returns-2 : tie.Need-returns-2
-unfolding callOf
 returns-2 c =
     let c4 = c .before .before .before .before in
     let c9 = c4 .before .before .before .before .before in
-    rw (c9 .l2 .given .1) (c4 .answer-clear .ensures)
+    let a = c9 .before .before .before .before .args in
+    calling (clear-line (a .f .now) (a .w .now) (c9 .l2 .given .1)) (c4 .answer-clear .ensures)
 
 returns-3 : tie.Need-returns-3
-unfolding callOf
 returns-3 c =
     let c4 = c .before .before .before .before in
     let c9 = c4 .before .before .before .before .before in
-    rw (c9 .l3 .given .1) (c4 .answer-reweigh .ensures)
+    let a = c9 .before .before .before .before .args in
+    calling (reweigh-line (a .f .now) (a .w .now) (c9 .l3 .given .1)) (c4 .answer-reweigh .ensures)
 
 returns-4 : tie.Need-returns-4
-unfolding callOf
 returns-4 c =
     let c4 = c .before .before .before .before in
     let c9 = c4 .before .before .before .before .before in
-    rw (c9 .l4 .given .1) (c4 .answer-advance .ensures)
+    let a = c9 .before .before .before .before .args in
+    calling (advance-line (a .f .now) (a .w .now) (c9 .l4 .given .1)) (c4 .answer-advance .ensures)
 
 returns-5 : tie.Need-returns-5
-unfolding callOf
 returns-5 c =
     let c5 = c .before .before .before .before .before in
-    rw (c5 .l5 .given .1) (c .answer-density .ensures .0, (refl, (refl, c .answer-density .ensures .1)))
+    let a = c5 .before .before .before .before .args in
+    looking (density-line (a .f .now) (a .w .now) (c5 .l5 .given .1)) (c .answer-density .ensures)
 
 returns-6 : tie.Need-returns-6
-unfolding callOf
 returns-6 c =
     let c5 = c .before .before .before .before .before in
-    rw (c5 .l6 .given .1) (c .answer-report .ensures .0, (refl, (refl, c .answer-report .ensures .1)))
+    let a = c5 .before .before .before .before .args in
+    looking (report-line (a .f .now) (a .w .now) (c5 .l6 .given .1)) (c .answer-report .ensures)
 
 returns-7 : tie.Need-returns-7
 returns-7 c =
-    let c5 = c .before .before .before .before .before in
-    let a = c5 .args in
-    rw (no-call (a .f .now) (a .w .now) (a .l) (c .before .before .match .keys7)) (c .answer-no .ensures .0, (refl, (refl, c .answer-no .ensures .1)))
+    let a = c .before .before .before .before .before .args in
+    looking (no-call (a .f .now) (a .w .now) (a .l) (c .before .before .match .keys7)) (c .answer-no .ensures)
 
 pub call-spec : {M : Type 1} → statement M
 call-spec =
