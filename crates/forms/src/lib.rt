@@ -1,4 +1,3 @@
-// The bench program's lines: each form read as a token of a line, a whole line's meaning, and each answer written.
-pub mod answer;
+// The bench program's lines: each form read as a token of a line, and a whole line's meaning.
 pub mod line;
 pub mod read;

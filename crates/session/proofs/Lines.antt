@@ -16,9 +16,12 @@ use Rattle.text.specs.Print.{Wrote}
 use Rattle.forms.specs.declared.line.Line.{Line}
 use Rattle.forms.specs.declared.line.Line.the-variants.{Bad, Open, Vert, Face, Put, Clear, Reweigh, Advance, Density, Report}
 use Rattle.session.specs.declared.opening.Opening.{Opening}
-use Rattle.session.specs.Texts.{openText}
-use Rattle.session.specs.Session.{Session, Said, looked, Small, vertLimit, faceLimit, vertsDue, due, idle, begun, vertRead, faceRead, session, said, badText, givenUp, callOf, calls, opens, settled, inOpening, outside}
-use Rattle.session.proofs.Answers.{wrote-as}
+use Rattle.calls.specs.Texts.{openText}
+use Rattle.calls.specs.Calls.{badText, callOf}
+use Rattle.session.specs.Session.{Session, Said, Small, vertLimit, faceLimit, vertsDue, due, idle, begun, vertRead, faceRead, session, said, givenUp, calls, opens, settled, inOpening, outside, respond}
+use Rattle.session.specs.declared.respond.Act.{Act}
+use Rattle.session.specs.declared.respond.Next.{Next}
+use Rattle.session.specs.Next.{doneBy, stopped, done}
 
 -- three stores in a row
 pub stored3 : {A : Type 0} (l : List A) (k : ℕ) (a b c : A) → set (set (set l k a) (k + 1) b) (k + 2) c ≡ sets l k (a ∷ b ∷ c ∷ [])
@@ -38,7 +41,7 @@ face-room o (s, (h, d)) =
 
 -- what is held and written, where another thing is said that is the same
 pub saying : {s : Session} {x y : Said} {o o′ : List ℕ} {r : ℕ} → x ≡ y → s ≡ y .next → Wrote o 0 (y .text) r o′ → (s ≡ x .next) × Wrote o 0 (x .text) r o′
-saying e a w = (a ∙ (λ i. sym e i .next), wrote-as (λ i. sym e i .text) w)
+saying {o} {o′ = o′} {r} e a w = (a ∙ (λ i. sym e i .next), subst (λ (t : List ℕ). Wrote o 0 t r o′) (λ i. sym e i .text) w)
 
 -- ---- an opening so far
 pub settled-due : (s : Session) → due (s .opening) ≡ true → settled s ≡ said s []
@@ -72,11 +75,11 @@ unfolding inOpening
 face-early s a b c h = rw (h) refl
 
 -- a line that gives it up
-pub gives-up : (s : Session) (l : Line) {p : Opening} {o o′ : List ℕ} {r : ℕ} →
-    inOpening s l ≡ givenUp s → (p ≡ idle) × (r ≤ 256) → Wrote o 0 badText r o′ →
-    (Small p × (r ≤ 256)) × ((session p (s .floats) (s .words) (s .coords) (s .corners) ≡ inOpening s l .next) × Wrote o 0 (inOpening s l .text) r o′)
-gives-up s l e (u, b) w =
-    ((subst (λ (q : Opening). Small q) (sym u) (omega arith, omega arith), b), saying e (λ i. session (u i) (s .floats) (s .words) (s .coords) (s .corners)) w)
+pub gives-up : (s : Session) (l : Line) {n : Next} → inOpening s l ≡ givenUp s → n ≡ stopped → inOpening s l ≡ done n l (s .floats) (s .words) (s .coords) (s .corners)
+gives-up s l e u = e ∙ (λ i. done (sym u i) l (s .floats) (s .words) (s .coords) (s .corners))
+
+pub small-stopped : {n : Next} → n ≡ stopped → Small (n .opening)
+small-stopped u = subst (λ (m : Next). Small (m .opening)) (sym u) (omega arith, omega arith)
 
 -- ---- any other line
 pub opening-begun : (s : Session) (radius : Float) (verts faces : ℕ) {o : Opening} → leb verts vertLimit && leb faces faceLimit ≡ true → o ≡ begun radius verts faces →
@@ -88,32 +91,23 @@ pub opening-over : (s : Session) (radius : Float) (verts faces : ℕ) → leb ve
 unfolding outside
 opening-over s radius verts faces h = rw (h) refl
 
--- a line that is a call or none
-pub makes-call : (s : Session) (l : Line) {p : Opening} {fs : List Float} {ws o o′ : List ℕ} {r : ℕ} →
-    outside s l ≡ calls s l → Small (s .opening) → (p ≡ s .opening) × (r ≤ 256) →
-    (fs ≡ callOf (s .floats) (s .words) l .floats) × (ws ≡ callOf (s .floats) (s .words) l .words) → Wrote o 0 (callOf (s .floats) (s .words) l .text) r o′ →
-    (Small p × (r ≤ 256)) × ((session p fs ws (s .coords) (s .corners) ≡ outside s l .next) × Wrote o 0 (outside s l .text) r o′)
-makes-call s l e m (u, b) (f, v) w =
-    ((subst (λ (q : Opening). Small q) (sym u) m, b), saying e (λ i. session (u i) (f i) (v i) (s .coords) (s .corners)) w)
+pub responds-due : (s : Session) (l : Line) → due (s .opening) ≡ true → respond s l ≡ inOpening s l
+unfolding respond
+responds-due s l h = rw (h) refl
+
+pub responds-else : (s : Session) (l : Line) → due (s .opening) ≡ false → respond s l ≡ outside s l
+unfolding respond
+responds-else s l h = rw (h) refl
+
+-- what is left to do, by the case
+pub done-as : (n : Next) (l : Line) (fs : List Float) (ws : List ℕ) (xs : List Float) (ks : List ℕ) {a : Act} → n .act ≡ a →
+    done n l fs ws xs ks ≡ doneBy a (session (n .opening) fs ws xs ks) l
+done-as n l fs ws xs ks e = λ i. doneBy (e i) (session (n .opening) fs ws xs ks) l
+
+pub small-as : {o p : Opening} → p ≡ o → Small o → Small p
+small-as u s = subst (λ (q : Opening). Small q) (sym u) s
 
 -- ---- the lines that a `match` leaves to its last arm, by their places in the enum
-
--- neither a put nor any call after it
-abbrev noCall : List ℕ
-noCall = 0 ∷ 1 ∷ 2 ∷ 3 ∷ []
-
-pub no-call : (fs : List Float) (ws : List ℕ) (l : Line) → OneOf noCall (tagOf the-type l) → callOf fs ws l ≡ looked fs ws badText
-unfolding callOf
-no-call fs ws Bad h = refl
-no-call fs ws (Open radius verts faces) h = refl
-no-call fs ws (Vert x y z) h = refl
-no-call fs ws (Face a b c) h = refl
-no-call fs ws (Put place x y z sigma w alpha) h = absurd (miss noCall 4 tt h)
-no-call fs ws (Clear place) h = absurd (miss noCall 5 tt h)
-no-call fs ws (Reweigh place w) h = absurd (miss noCall 6 tt h)
-no-call fs ws (Advance n) h = absurd (miss noCall 7 tt h)
-no-call fs ws (Density v x y z) h = absurd (miss noCall 8 tt h)
-no-call fs ws (Report v) h = absurd (miss noCall 9 tt h)
 
 -- neither a vert nor a face line
 abbrev noMesh : List ℕ

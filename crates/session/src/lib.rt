@@ -1,5 +1,3 @@
-// The program's answer to a line: the calls on its store, and the lines of an opening.
-pub mod answer;
-pub mod calls;
+// What the program does with a line: one of an opening under way, or a call on its store.
 pub mod opening;
 pub mod respond;

@@ -1,29 +1,45 @@
 // What the program does with a line. These functions are internal: they are asked an opening of no more vertices and faces than the
 // program takes, and answer such a one.
 ghost use mathlib.Core.Path.{_≡_};
-ghost use mathlib.Core.List.{[], _∷_};
+ghost use mathlib.Core.List.{List, [], _∷_};
 ghost use mathlib.Core.Bool.{true, false};
-ghost use Prim.Native.Nat.{_*_, _≤_};
+ghost use Prim.Native.Nat.{ℕ, _*_, _≤_};
 ghost use lib.ListN.{length};
 ghost use lib.Seq.{sets};
+ghost use lib.Ieee.{Float};
 ghost use Rattle.text.specs.Print.{Wrote};
 ghost use Rattle.forms.specs.declared.line.Line.the-variants.{Vert, Face, Open};
-ghost use Rattle.session.specs.Session.{Small, vertsDue, due, idle, vertRead, faceRead, session, badText, callOf, settled, inOpening, outside, respond};
-use crate::answer::answer_no;
-use crate::answer::answer_open;
-use crate::calls::call;
+ghost use Rattle.calls.specs.Calls.{badText, callOf};
+ghost use Rattle.session.specs.Session.{Small, vertsDue, due, vertRead, faceRead, session, settled, inOpening, outside, respond};
+ghost use Rattle.session.specs.Next.{stopped, done};
 use crate::opening::Opening;
 use crate::opening::begun;
 use crate::opening::due;
 use crate::opening::idle;
 use crate::opening::verts_due;
 use base::refusal::Refusal;
+use calls::answer::answer_no;
+use calls::answer::answer_open;
+use calls::call::call;
 use forms::line::Line;
 
 // The opening under way after a line, and the length of what was written.
 pub struct Said {
     pub opening: Opening,
     pub wrote: usize,
+}
+
+// What a line leaves to do: the opening is settled, the line is answered (no 13), or it is a call.
+pub enum Act {
+    Settle,
+    Refuse,
+    Call,
+}
+
+// The opening under way after a line, and what is left to do.
+pub struct Next {
+    pub opening: Opening,
+    pub act: Act,
 }
 
 // Keeps the next vertex.
@@ -62,6 +78,109 @@ fn add_face(o: Opening, a: u32, b: u32, c: u32, corners: &mut [u32; 3000]) -> Op
     }
 }
 
+// Gives up an opening.
+fn give_up() -> Next
+    ensures { λ r. ⌜ r ≡ stopped ⌝ }
+{
+    Next {
+        opening: idle(),
+        act: Act::Refuse,
+    }
+}
+
+// A vert line where a line of the opening is due.
+fn vert_line(o: Opening, x: f64, y: f64, z: f64, coords: &mut [f64; 1500]) -> Next
+    requires { ⌜ Small o ⌝ }
+    ensures { λ r. ⌜ Small (r .opening) ⌝ }
+    ensures { λ r. ⌜ ((fs : List Float) (ws ks : List ℕ) → inOpening (session o fs ws (now (coords .entry)) ks) (Vert x y z) ≡ done r (Vert x y z) fs ws (now (coords .exit)) ks) ⌝ }
+{
+    if verts_due(o) {
+        return Next {
+            opening: add_vert(o, x, y, z, coords),
+            act: Act::Settle,
+        };
+    }
+    give_up()
+}
+
+// A face line where a line of the opening is due.
+fn face_line(o: Opening, a: u32, b: u32, c: u32, corners: &mut [u32; 3000]) -> Next
+    requires { ⌜ Small o ⌝ ∗ ⌜ due o ≡ true ⌝ }
+    ensures { λ r. ⌜ Small (r .opening) ⌝ }
+    ensures { λ r. ⌜ ((fs : List Float) (ws : List ℕ) (xs : List Float) → inOpening (session o fs ws xs (now (corners .entry))) (Face a b c) ≡ done r (Face a b c) fs ws xs (now (corners .exit))) ⌝ }
+{
+    if verts_due(o) {
+        return give_up();
+    }
+    Next {
+        opening: add_face(o, a, b, c, corners),
+        act: Act::Settle,
+    }
+}
+
+// Any line where a line of the opening is due.
+fn in_opening(o: Opening, l: Line, coords: &mut [f64; 1500], corners: &mut [u32; 3000]) -> Next
+    requires { ⌜ Small o ⌝ ∗ ⌜ due o ≡ true ⌝ }
+    ensures { λ r. ⌜ Small (r .opening) ⌝ }
+    ensures { λ r. ⌜ ((fs : List Float) (ws : List ℕ) → inOpening (session o fs ws (now (coords .entry)) (now (corners .entry))) l ≡ done r l fs ws (now (coords .exit)) (now (corners .exit))) ⌝ }
+{
+    match l {
+        Line::Vert(x, y, z) => vert_line(o, x, y, z, coords),
+        Line::Face(a, b, c) => face_line(o, a, b, c, corners),
+        _ => give_up(),
+    }
+}
+
+// An open line where none is due.
+fn open_line(o: Opening, radius: f64, verts: u32, faces: u32) -> Next
+    requires { ⌜ Small o ⌝ }
+    ensures { λ r. ⌜ Small (r .opening) ⌝ }
+    ensures { λ r. ⌜ ((fs : List Float) (ws : List ℕ) (xs : List Float) (ks : List ℕ) → outside (session o fs ws xs ks) (Open radius verts faces) ≡ done r (Open radius verts faces) fs ws xs ks) ⌝ }
+{
+    let taken = (verts <= 500) & (faces <= 1000);
+    if taken {
+        return Next {
+            opening: begun(radius, verts, faces),
+            act: Act::Settle,
+        };
+    }
+    Next {
+        opening: o,
+        act: Act::Refuse,
+    }
+}
+
+// Any line where none is due.
+fn outside(o: Opening, l: Line) -> Next
+    requires { ⌜ Small o ⌝ }
+    ensures { λ r. ⌜ Small (r .opening) ⌝ }
+    ensures { λ r. ⌜ ((fs : List Float) (ws : List ℕ) (xs : List Float) (ks : List ℕ) → outside (session o fs ws xs ks) l ≡ done r l fs ws xs ks) ⌝ }
+{
+    match l {
+        Line::Open {
+            radius,
+            verts,
+            faces,
+        } => open_line(o, radius, verts, faces),
+        _ => Next {
+            opening: o,
+            act: Act::Call,
+        },
+    }
+}
+
+// Any line: what it does to the opening and its mesh.
+fn take_in(o: Opening, l: Line, coords: &mut [f64; 1500], corners: &mut [u32; 3000]) -> Next
+    requires { ⌜ Small o ⌝ }
+    ensures { λ r. ⌜ Small (r .opening) ⌝ }
+    ensures { λ r. ⌜ ((fs : List Float) (ws : List ℕ) → respond (session o fs ws (now (coords .entry)) (now (corners .entry))) l ≡ done r l fs ws (now (coords .exit)) (now (corners .exit))) ⌝ }
+{
+    if due(o) {
+        return in_opening(o, l, coords, corners);
+    }
+    outside(o, l)
+}
+
 // Opens the store, once no line of the opening is due.
 fn settle(
     o: Opening,
@@ -88,109 +207,11 @@ fn settle(
     Said { opening: o, wrote }
 }
 
-// Gives up an opening.
-fn give_up(out: &mut [u8; 512]) -> Said
-    ensures { λ r. ⌜ (r .opening ≡ idle) × (r .wrote ≤ 256) ⌝ }
+// A line that is answered (no 13).
+fn refuse(o: Opening, out: &mut [u8; 512]) -> Said
+    ensures { λ r. ⌜ (r .opening ≡ o) × (r .wrote ≤ 256) ⌝ }
     ensures { λ r. ⌜ Wrote (now (out .entry)) 0 badText (r .wrote) (now (out .exit)) ⌝ }
 {
-    let wrote = answer_no(out, Refusal::BadLine);
-    Said {
-        opening: idle(),
-        wrote,
-    }
-}
-
-// A vert line where a line of the opening is due.
-fn vert_line(
-    o: Opening,
-    x: f64,
-    y: f64,
-    z: f64,
-    f: &mut [f64],
-    w: &mut [u32],
-    coords: &mut [f64; 1500],
-    corners: &mut [u32; 3000],
-    out: &mut [u8; 512],
-) -> Said
-    requires { ⌜ Small o ⌝ }
-    ensures { λ r. ⌜ Small (r .opening) × (r .wrote ≤ 256) ⌝ }
-    ensures { λ r. ⌜ session (r .opening) (now (f .exit)) (now (w .exit)) (now (coords .exit)) (now (corners .exit)) ≡ inOpening (session o (now (f .entry)) (now (w .entry)) (now (coords .entry)) (now (corners .entry))) (Vert x y z) .next ⌝ }
-    ensures { λ r. ⌜ Wrote (now (out .entry)) 0 (inOpening (session o (now (f .entry)) (now (w .entry)) (now (coords .entry)) (now (corners .entry))) (Vert x y z) .text) (r .wrote) (now (out .exit)) ⌝ }
-{
-    if verts_due(o) {
-        let p = add_vert(o, x, y, z, coords);
-        return settle(p, f, w, coords, corners, out);
-    }
-    give_up(out)
-}
-
-// A face line where a line of the opening is due.
-fn face_line(
-    o: Opening,
-    a: u32,
-    b: u32,
-    c: u32,
-    f: &mut [f64],
-    w: &mut [u32],
-    coords: &mut [f64; 1500],
-    corners: &mut [u32; 3000],
-    out: &mut [u8; 512],
-) -> Said
-    requires { ⌜ Small o ⌝ ∗ ⌜ due o ≡ true ⌝ }
-    ensures { λ r. ⌜ Small (r .opening) × (r .wrote ≤ 256) ⌝ }
-    ensures { λ r. ⌜ session (r .opening) (now (f .exit)) (now (w .exit)) (now (coords .exit)) (now (corners .exit)) ≡ inOpening (session o (now (f .entry)) (now (w .entry)) (now (coords .entry)) (now (corners .entry))) (Face a b c) .next ⌝ }
-    ensures { λ r. ⌜ Wrote (now (out .entry)) 0 (inOpening (session o (now (f .entry)) (now (w .entry)) (now (coords .entry)) (now (corners .entry))) (Face a b c) .text) (r .wrote) (now (out .exit)) ⌝ }
-{
-    if verts_due(o) {
-        return give_up(out);
-    }
-    let p = add_face(o, a, b, c, corners);
-    settle(p, f, w, coords, corners, out)
-}
-
-// Any line where a line of the opening is due.
-fn in_opening(
-    o: Opening,
-    l: Line,
-    f: &mut [f64],
-    w: &mut [u32],
-    coords: &mut [f64; 1500],
-    corners: &mut [u32; 3000],
-    out: &mut [u8; 512],
-) -> Said
-    requires { ⌜ Small o ⌝ ∗ ⌜ due o ≡ true ⌝ }
-    ensures { λ r. ⌜ Small (r .opening) × (r .wrote ≤ 256) ⌝ }
-    ensures { λ r. ⌜ session (r .opening) (now (f .exit)) (now (w .exit)) (now (coords .exit)) (now (corners .exit)) ≡ inOpening (session o (now (f .entry)) (now (w .entry)) (now (coords .entry)) (now (corners .entry))) l .next ⌝ }
-    ensures { λ r. ⌜ Wrote (now (out .entry)) 0 (inOpening (session o (now (f .entry)) (now (w .entry)) (now (coords .entry)) (now (corners .entry))) l .text) (r .wrote) (now (out .exit)) ⌝ }
-{
-    match l {
-        Line::Vert(x, y, z) => vert_line(o, x, y, z, f, w, coords, corners, out),
-        Line::Face(a, b, c) => face_line(o, a, b, c, f, w, coords, corners, out),
-        _ => give_up(out),
-    }
-}
-
-// An open line where none is due.
-fn open_line(
-    o: Opening,
-    radius: f64,
-    verts: u32,
-    faces: u32,
-    f: &mut [f64],
-    w: &mut [u32],
-    coords: &mut [f64; 1500],
-    corners: &mut [u32; 3000],
-    out: &mut [u8; 512],
-) -> Said
-    requires { ⌜ Small o ⌝ }
-    ensures { λ r. ⌜ Small (r .opening) × (r .wrote ≤ 256) ⌝ }
-    ensures { λ r. ⌜ session (r .opening) (now (f .exit)) (now (w .exit)) (now (coords .exit)) (now (corners .exit)) ≡ outside (session o (now (f .entry)) (now (w .entry)) (now (coords .entry)) (now (corners .entry))) (Open radius verts faces) .next ⌝ }
-    ensures { λ r. ⌜ Wrote (now (out .entry)) 0 (outside (session o (now (f .entry)) (now (w .entry)) (now (coords .entry)) (now (corners .entry))) (Open radius verts faces) .text) (r .wrote) (now (out .exit)) ⌝ }
-{
-    let taken = (verts <= 500) & (faces <= 1000);
-    if taken {
-        return settle(begun(radius, verts, faces), f, w, coords, corners, out);
-    }
     Said {
         opening: o,
         wrote: answer_no(out, Refusal::BadLine),
@@ -209,28 +230,26 @@ fn call_line(o: Opening, l: Line, f: &mut [f64], w: &mut [u32], out: &mut [u8; 5
     }
 }
 
-// Any line where none is due.
-fn outside(
-    o: Opening,
+// What is left to do.
+fn perform(
+    n: Next,
     l: Line,
     f: &mut [f64],
     w: &mut [u32],
-    coords: &mut [f64; 1500],
-    corners: &mut [u32; 3000],
+    coords: &[f64],
+    corners: &[u32],
     out: &mut [u8; 512],
 ) -> Said
-    requires { ⌜ Small o ⌝ }
+    requires { ⌜ Small (n .opening) ⌝ ∗ ⌜ (1500 ≤ length (now coords)) × (3000 ≤ length (now corners)) ⌝ }
     ensures { λ r. ⌜ Small (r .opening) × (r .wrote ≤ 256) ⌝ }
-    ensures { λ r. ⌜ session (r .opening) (now (f .exit)) (now (w .exit)) (now (coords .exit)) (now (corners .exit)) ≡ outside (session o (now (f .entry)) (now (w .entry)) (now (coords .entry)) (now (corners .entry))) l .next ⌝ }
-    ensures { λ r. ⌜ Wrote (now (out .entry)) 0 (outside (session o (now (f .entry)) (now (w .entry)) (now (coords .entry)) (now (corners .entry))) l .text) (r .wrote) (now (out .exit)) ⌝ }
+    ensures { λ r. ⌜ session (r .opening) (now (f .exit)) (now (w .exit)) (now (coords .entry)) (now (corners .entry)) ≡ done n l (now (f .entry)) (now (w .entry)) (now (coords .entry)) (now (corners .entry)) .next ⌝ }
+    ensures { λ r. ⌜ Wrote (now (out .entry)) 0 (done n l (now (f .entry)) (now (w .entry)) (now (coords .entry)) (now (corners .entry)) .text) (r .wrote) (now (out .exit)) ⌝ }
 {
-    match l {
-        Line::Open {
-            radius,
-            verts,
-            faces,
-        } => open_line(o, radius, verts, faces, f, w, coords, corners, out),
-        _ => call_line(o, l, f, w, out),
+    let act = n.act;
+    match act {
+        Act::Settle => settle(n.opening, f, w, coords, corners, out),
+        Act::Refuse => refuse(n.opening, out),
+        Act::Call => call_line(n.opening, l, f, w, out),
     }
 }
 
@@ -249,8 +268,6 @@ pub fn respond(
     ensures { λ r. ⌜ session (r .opening) (now (f .exit)) (now (w .exit)) (now (coords .exit)) (now (corners .exit)) ≡ respond (session o (now (f .entry)) (now (w .entry)) (now (coords .entry)) (now (corners .entry))) l .next ⌝ }
     ensures { λ r. ⌜ Wrote (now (out .entry)) 0 (respond (session o (now (f .entry)) (now (w .entry)) (now (coords .entry)) (now (corners .entry))) l .text) (r .wrote) (now (out .exit)) ⌝ }
 {
-    if due(o) {
-        return in_opening(o, l, f, w, coords, corners, out);
-    }
-    outside(o, l, f, w, coords, corners, out)
+    let n = take_in(o, l, coords, corners);
+    perform(n, l, f, w, coords, corners, out)
 }

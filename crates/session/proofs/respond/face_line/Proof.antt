@@ -2,42 +2,32 @@
 use mathlib.Core.Path.{sym, _∙_}
 use Rattle.forms.specs.declared.line.Line.the-variants.{Face}
 use Rattle.session.specs.Session.{session}
-use Rattle.session.proofs.Lines.{saying, face-kept, face-early, gives-up}
+use Rattle.session.proofs.Lines.{face-kept, face-early, gives-up, small-stopped}
 use borrow.Author.Needs.{needs}
 use Rattle.session.proofs.respond.face_line.Statement.{statement}
 use Rattle.session.proofs.respond.face_line.Tie as tie
 
 returns : tie.Need-returns
 returns c =
-    let c3 = c .before .before .before in
-    let c6 = c3 .before .before .before in
-    let a = c6 .args in
-    let s = session (a .o) (a .f .now) (a .w .now) (a .coords .now) (a .corners .now) in
-    gives-up s (Face (a .a) (a .b) (a .c)) (face-early s (a .a) (a .b) (a .c) (sym (c3 .verts-due .ensures) ∙ c .before .before .if1 .taken)) (c .give-up .ensures .0) (c .give-up .ensures .1)
+    let c2 = c .before .before in
+    let a = c2 .before .args in
+    let h = sym (c2 .verts-due .ensures) ∙ c .before .if1 .taken in
+    let u = c .give-up .ensures in
+    (small-stopped u, λ fs ws xs. let s = session (a .o) fs ws xs (a .corners .now) in gives-up s (Face (a .a) (a .b) (a .c)) (face-early s (a .a) (a .b) (a .c) h) u)
 
 add-face-requires : tie.Need-add-face-requires
 add-face-requires c κs =
-    let c5 = c .before .before .before .before .before in
-    (c5 .pre .0, (sym (c .before .before .verts-due .ensures) ∙ c .before .if1 .left, c5 .pre .1))
-
-settle-requires : tie.Need-settle-requires
-settle-requires c κs =
-    let c7 = c .before .before .before .before .before .before .before in
-    let c13 = c7 .before .before .before .before .before .before in
-    (rw (c7 .add-face .ensures .0) (c13 .pre .0), (search needs, search needs))
+    let c2 = c .before .before in
+    (c2 .before .pre .0, (sym (c2 .verts-due .ensures) ∙ c .before .if1 .left, c2 .before .pre .1))
 
 returns-2 : tie.Need-returns-2
 returns-2 c =
-    let c4 = c .before .before .before .before in
-    let c12 = c4 .before .before .before .before .before .before .before .before in
-    let c14 = c12 .before .before in
-    let c15 = c14 .before in
-    let c18 = c15 .before .before .before in
-    let a = c18 .args in
-    let s = session (a .o) (a .f .now) (a .w .now) (a .coords .now) (a .corners .now) in
-    let e = c4 .settle .ensures in
-    let v = c12 .add-face .ensures in
-    (e .0, saying (face-kept s (a .a) (a .b) (a .c) (sym (c15 .verts-due .ensures) ∙ c14 .if1 .left) (v .0) (v .1)) (e .1 .0) (e .1 .1))
+    let c2 = c .before .before in
+    let c4 = c2 .before .before in
+    let a = c4 .args in
+    let v = c .add-face .ensures in
+    let h = sym (c2 .before .verts-due .ensures) ∙ c2 .if1 .left in
+    (rw (v .0) (c4 .pre .0), λ fs ws xs. face-kept (session (a .o) fs ws xs (a .corners .now)) (a .a) (a .b) (a .c) h (v .0) (v .1))
 
 pub face-line-spec : {M : Type 1} → statement M
 face-line-spec =
@@ -47,7 +37,4 @@ face-line-spec =
     (λ c κs. search needs)
     returns
     add-face-requires
-    settle-requires
-    (λ c. search needs)
-    (λ c. search needs)
     returns-2)

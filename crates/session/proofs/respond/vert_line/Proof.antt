@@ -2,42 +2,32 @@
 use mathlib.Core.Path.{sym, _∙_}
 use Rattle.forms.specs.declared.line.Line.the-variants.{Vert}
 use Rattle.session.specs.Session.{session}
-use Rattle.session.proofs.Lines.{saying, vert-kept, vert-late, gives-up}
+use Rattle.session.proofs.Lines.{vert-kept, vert-late, gives-up, small-stopped}
 use borrow.Author.Needs.{needs}
 use Rattle.session.proofs.respond.vert_line.Statement.{statement}
 use Rattle.session.proofs.respond.vert_line.Tie as tie
 
 add-vert-requires : tie.Need-add-vert-requires
 add-vert-requires c κs =
-    let c5 = c .before .before .before .before .before in
-    (c5 .pre, sym (c .before .before .verts-due .ensures) ∙ c .before .if1 .taken)
-
-settle-requires : tie.Need-settle-requires
-settle-requires c κs =
-    let c7 = c .before .before .before .before .before .before .before in
-    let c13 = c7 .before .before .before .before .before .before in
-    (rw (c7 .add-vert .ensures .0) (c13 .pre), (search needs, search needs))
+    let c2 = c .before .before in
+    (c2 .before .pre, sym (c2 .verts-due .ensures) ∙ c .before .if1 .taken)
 
 returns : tie.Need-returns
 returns c =
-    let c4 = c .before .before .before .before in
-    let c12 = c4 .before .before .before .before .before .before .before .before in
-    let c14 = c12 .before .before in
-    let c15 = c14 .before in
-    let c18 = c15 .before .before .before in
-    let a = c18 .args in
-    let s = session (a .o) (a .f .now) (a .w .now) (a .coords .now) (a .corners .now) in
-    let e = c4 .settle .ensures in
-    let v = c12 .add-vert .ensures in
-    (e .0, saying (vert-kept s (a .x) (a .y) (a .z) (sym (c15 .verts-due .ensures) ∙ c14 .if1 .taken) (v .0) (v .1)) (e .1 .0) (e .1 .1))
+    let c2 = c .before .before in
+    let c4 = c2 .before .before in
+    let a = c4 .args in
+    let v = c .add-vert .ensures in
+    let h = sym (c2 .before .verts-due .ensures) ∙ c2 .if1 .taken in
+    (rw (v .0) (c4 .pre), λ fs ws ks. vert-kept (session (a .o) fs ws (a .coords .now) ks) (a .x) (a .y) (a .z) h (v .0) (v .1))
 
 returns-2 : tie.Need-returns-2
 returns-2 c =
-    let c3 = c .before .before .before in
-    let c6 = c3 .before .before .before in
-    let a = c6 .args in
-    let s = session (a .o) (a .f .now) (a .w .now) (a .coords .now) (a .corners .now) in
-    gives-up s (Vert (a .x) (a .y) (a .z)) (vert-late s (a .x) (a .y) (a .z) (sym (c3 .verts-due .ensures) ∙ c .before .before .if1 .left)) (c .give-up .ensures .0) (c .give-up .ensures .1)
+    let c2 = c .before .before in
+    let a = c2 .before .args in
+    let h = sym (c2 .verts-due .ensures) ∙ c .before .if1 .left in
+    let u = c .give-up .ensures in
+    (small-stopped u, λ fs ws ks. let s = session (a .o) fs ws (a .coords .now) ks in gives-up s (Vert (a .x) (a .y) (a .z)) (vert-late s (a .x) (a .y) (a .z) h) u)
 
 pub vert-line-spec : {M : Type 1} → statement M
 vert-line-spec =
@@ -45,9 +35,6 @@ vert-line-spec =
     (tie.spec
     (λ c κs. search needs)
     add-vert-requires
-    settle-requires
-    (λ c. search needs)
-    (λ c. search needs)
     returns
     (λ c κs. search needs)
     returns-2)

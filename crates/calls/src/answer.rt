@@ -1,0 +1,189 @@
+// A call on the store, and its answer written as a line from the start of a run of 512 bytes; each answers the line's length.
+ghost use mathlib.Core.Path.{_≡_};
+ghost use mathlib.Core.List.{[], _∷_};
+ghost use Prim.Native.Nat.{_≤_};
+ghost use Rattle.base.specs.Refusals.{number};
+ghost use Rattle.text.specs.Print.{Wrote};
+ghost use Rattle.layout.specs.Layout.{width};
+ghost use Rattle.store.specs.Calls.{openStep, clearStep, reweighStep};
+ghost use Rattle.put.specs.Puts.{putStep};
+ghost use Rattle.advance.specs.Steps.{advanceStep};
+ghost use Rattle.readings.specs.Readings.{readStep};
+ghost use Rattle.readings.specs.Readings;
+ghost use Rattle.calls.specs.Texts.{noText, openText, putText, densityText, advanceText, clearText, reweighText, reportText};
+use advance::advance::Advanced;
+use advance::advance::advance;
+use answers::write_advance;
+use answers::write_clear;
+use answers::write_density;
+use answers::write_no;
+use answers::write_open;
+use answers::write_put;
+use answers::write_report;
+use answers::write_reweigh;
+use base::refusal::Measured;
+use base::refusal::Refusal;
+use base::refusal::refusal_number;
+use density::convention::Convention;
+use kernel::kernel::Kernel;
+use put::Placed;
+use put::put;
+use readings::at_point::density;
+use readings::reports::Reported;
+use readings::reports::report;
+use store::edit::Edited;
+use store::edit::clear;
+use store::edit::reweigh;
+use store::open::Opened;
+use store::open::open;
+use text::write::write_bytes;
+
+// The newline after a text that ends at `at`.
+fn end_line(out: &mut [u8; 512], at: usize) -> usize
+    requires { ⌜ at ≤ 255 ⌝ }
+    ensures { λ r. ⌜ r ≤ 256 ⌝ }
+    ensures { λ r. ⌜ Wrote (now (out .entry)) at (10 ∷ []) r (now (out .exit)) ⌝ }
+{
+    write_bytes(out, at, b"\n")
+}
+
+// (no N)
+pub fn answer_no(out: &mut [u8; 512], refusal: Refusal) -> usize
+    ensures { λ r. ⌜ r ≤ 256 ⌝ }
+    ensures { λ r. ⌜ Wrote (now (out .entry)) 0 (noText (number refusal)) r (now (out .exit)) ⌝ }
+{
+    let at = write_no(out, 0, refusal_number(refusal));
+    end_line(out, at)
+}
+
+// Opens the store.
+pub fn answer_open(
+    f: &mut [f64],
+    w: &mut [u32],
+    radius: f64,
+    xyz: &[f64],
+    corners: &[u32],
+    out: &mut [u8; 512],
+) -> usize
+    ensures { λ r. ⌜ r ≤ 256 ⌝ }
+    ensures { λ _. ⌜ now (f .exit) ≡ openStep width (now (f .entry)) (now (w .entry)) radius (now (xyz .entry)) (now (corners .entry)) .floats ⌝ }
+    ensures { λ _. ⌜ now (w .exit) ≡ openStep width (now (f .entry)) (now (w .entry)) radius (now (xyz .entry)) (now (corners .entry)) .words ⌝ }
+    ensures { λ r. ⌜ Wrote (now (out .entry)) 0 (openText (openStep width (now (f .entry)) (now (w .entry)) radius (now (xyz .entry)) (now (corners .entry)) .reply)) r (now (out .exit)) ⌝ }
+{
+    match open(f, w, radius, xyz, corners) {
+        Opened::Mesh(verts, faces) => {
+            let at = write_open(out, 0, verts, faces);
+            end_line(out, at)
+        }
+        Opened::Refused(r) => answer_no(out, r),
+    }
+}
+
+// Puts a kernel.
+pub fn answer_put(f: &mut [f64], w: &mut [u32], place: u32, k: Kernel, out: &mut [u8; 512]) -> usize
+    ensures { λ r. ⌜ r ≤ 256 ⌝ }
+    ensures { λ _. ⌜ now (f .exit) ≡ putStep width (now (f .entry)) (now (w .entry)) place k .floats ⌝ }
+    ensures { λ _. ⌜ now (w .exit) ≡ putStep width (now (f .entry)) (now (w .entry)) place k .words ⌝ }
+    ensures { λ r. ⌜ Wrote (now (out .entry)) 0 (putText place (putStep width (now (f .entry)) (now (w .entry)) place k .reply)) r (now (out .exit)) ⌝ }
+{
+    match put(f, w, place, k) {
+        Placed::Needs(pieces, need) => {
+            let at = write_put(out, 0, place, pieces, need);
+            end_line(out, at)
+        }
+        Placed::Refused(r) => answer_no(out, r),
+    }
+}
+
+// Clears a place.
+pub fn answer_clear(f: &mut [f64], w: &mut [u32], place: u32, out: &mut [u8; 512]) -> usize
+    ensures { λ r. ⌜ r ≤ 256 ⌝ }
+    ensures { λ _. ⌜ now (f .exit) ≡ clearStep width (now (f .entry)) (now (w .entry)) place .floats ⌝ }
+    ensures { λ _. ⌜ now (w .exit) ≡ clearStep width (now (f .entry)) (now (w .entry)) place .words ⌝ }
+    ensures { λ r. ⌜ Wrote (now (out .entry)) 0 (clearText place (clearStep width (now (f .entry)) (now (w .entry)) place .reply)) r (now (out .exit)) ⌝ }
+{
+    match clear(f, w, place) {
+        Edited::Done => {
+            let at = write_clear(out, 0, place);
+            end_line(out, at)
+        }
+        Edited::Refused(r) => answer_no(out, r),
+    }
+}
+
+// Reweighs the kernel of a place.
+pub fn answer_reweigh(
+    f: &mut [f64],
+    w: &mut [u32],
+    place: u32,
+    weight: f64,
+    out: &mut [u8; 512],
+) -> usize
+    ensures { λ r. ⌜ r ≤ 256 ⌝ }
+    ensures { λ _. ⌜ now (f .exit) ≡ reweighStep width (now (f .entry)) (now (w .entry)) place weight .floats ⌝ }
+    ensures { λ _. ⌜ now (w .exit) ≡ reweighStep width (now (f .entry)) (now (w .entry)) place weight .words ⌝ }
+    ensures { λ r. ⌜ Wrote (now (out .entry)) 0 (reweighText place (reweighStep width (now (f .entry)) (now (w .entry)) place weight .reply)) r (now (out .exit)) ⌝ }
+{
+    match reweigh(f, w, place, weight) {
+        Edited::Done => {
+            let at = write_reweigh(out, 0, place);
+            end_line(out, at)
+        }
+        Edited::Refused(r) => answer_no(out, r),
+    }
+}
+
+// Does work.
+pub fn answer_advance(f: &mut [f64], w: &mut [u32], budget: u64, out: &mut [u8; 512]) -> usize
+    ensures { λ r. ⌜ r ≤ 256 ⌝ }
+    ensures { λ _. ⌜ now (f .exit) ≡ advanceStep width (now (f .entry)) (now (w .entry)) budget .floats ⌝ }
+    ensures { λ _. ⌜ now (w .exit) ≡ advanceStep width (now (f .entry)) (now (w .entry)) budget .words ⌝ }
+    ensures { λ r. ⌜ Wrote (now (out .entry)) 0 (advanceText (advanceStep width (now (f .entry)) (now (w .entry)) budget .reply)) r (now (out .exit)) ⌝ }
+{
+    match advance(f, w, budget) {
+        Advanced::Steps { done, left } => {
+            let at = write_advance(out, 0, done, left);
+            end_line(out, at)
+        }
+        Advanced::Refused(r) => answer_no(out, r),
+    }
+}
+
+// Reads the density.
+pub fn answer_density(
+    f: &[f64],
+    w: &[u32],
+    v: Convention,
+    point: [f64; 3],
+    out: &mut [u8; 512],
+) -> usize
+    ensures { λ r. ⌜ r ≤ 256 ⌝ }
+    ensures { λ r. ⌜ Wrote (now (out .entry)) 0 (densityText (readStep width (now (f .entry)) (now (w .entry)) (Readings.density v point) .reply)) r (now (out .exit)) ⌝ }
+{
+    match density(f, w, v, point) {
+        Measured::Value(x) => {
+            let at = write_density(out, 0, x);
+            end_line(out, at)
+        }
+        Measured::Refused(r) => answer_no(out, r),
+    }
+}
+
+// Reports the masses.
+pub fn answer_report(f: &[f64], w: &[u32], v: Convention, out: &mut [u8; 512]) -> usize
+    ensures { λ r. ⌜ r ≤ 256 ⌝ }
+    ensures { λ r. ⌜ Wrote (now (out .entry)) 0 (reportText (readStep width (now (f .entry)) (now (w .entry)) (Readings.report v) .reply)) r (now (out .exit)) ⌝ }
+{
+    match report(f, w, v) {
+        Reported::Report {
+            mass,
+            filled,
+            pieces,
+            error,
+        } => {
+            let at = write_report(out, 0, mass, filled, pieces, error);
+            end_line(out, at)
+        }
+        Reported::Refused(r) => answer_no(out, r),
+    }
+}
