@@ -1,60 +1,79 @@
--- The number and values that C gets are those of the definitions. Assumes nothing.
+-- An answer can be read off what C gets: the number is 0 just where nothing is refused, and no value is lost. Assumes nothing.
 use Prim.Native.Nat.{ℕ}
 use mathlib.Core.Path.{_≡_, refl}
-use mathlib.Core.Bool.{false}
-use mathlib.Core.List.{List}
+use mathlib.Core.Bool.{cond}
+use mathlib.Core.List.{List, [], _∷_}
 use lib.Dec.{eqb}
 use lib.Ieee.{Float}
-use Rattle.base.specs.Answers.{Outcome}
-use Rattle.base.specs.Refusals.{number}
-use Rattle.base.specs.declared.refusal.Refusal.{Refusal}
-use Rattle.base.specs.declared.refusal.Refusal.the-variants.{Ragged, Oversize, LooseCorner, ShortStore, Unsound, NoPlace, Vacant, Unfinished, ShortList, BadMatrix, FlatPivot, Exponent, BadLine}
+use Rattle.base.specs.Answers.{Answer, measuredAs}
+use Rattle.base.specs.declared.refusal.Measured.{Measured}
+use Rattle.base.specs.declared.refusal.Measured.the-variants as measured
+use Rattle.base.specs.RefusalLaws.{never-zero}
 use Rattle.solve.specs.declared.Solve.{Solve}
 use Rattle.solve.specs.declared.Solve.the-variants as solving
 use Rattle.solve.specs.Solve.{solvedAs}
 use Rattle.pieces.specs.declared.kernels.Decomposed.{Decomposed}
 use Rattle.pieces.specs.declared.kernels.Decomposed.the-variants as decomposing
-use Rattle.pieces.specs.declared.lists.DecomposedList.{DecomposedList}
-use Rattle.pieces.specs.declared.lists.DecomposedList.the-variants as listing
 use Rattle.pieces.specs.Kernels.{decomposedAs}
+use Rattle.pieces.specs.declared.lists.DecomposedList.{DecomposedList}
+use Rattle.pieces.specs.declared.lists.DecomposedList.the-variants as spreading
 use Rattle.pieces.specs.Lists.{listedAs}
-use Rattle.weights.specs.declared.normalize.Weighed.{Weighed}
-use Rattle.weights.specs.declared.normalize.Weighed.the-variants as writing
-use Rattle.weights.specs.Weights.{weighedAs}
-use Rattle.cauchy.specs.Sources.{kernelsOf, told, landed}
-use Rattle.cauchy.specs.Crossing.{solveNumber, solutionOf, piecesOf, decompositionOf, listPiecesOf, listDecompositionOf}
+use Rattle.store.specs.declared.open.Opened.{Opened}
+use Rattle.store.specs.declared.open.Opened.the-variants as opening
+use Rattle.store.specs.OpenAnswer.{opened}
+use Rattle.put.specs.declared.Placed.{Placed}
+use Rattle.put.specs.declared.Placed.the-variants as placing
+use Rattle.put.specs.PutAnswer.{placed}
+use Rattle.advance.specs.declared.advance.Advanced.{Advanced}
+use Rattle.advance.specs.declared.advance.Advanced.the-variants as advancing
+use Rattle.advance.specs.AdvanceAnswer.{advanced}
+use Rattle.readings.specs.Readings.{reported}
+use Rattle.readings.specs.declared.reports.Reported.{Reported}
+use Rattle.readings.specs.declared.reports.Reported.the-variants as reporting
+use Rattle.readings.specs.ReportAnswer.{reportRead}
+use Rattle.readings.specs.declared.listing.ListRead.{ListRead}
+use Rattle.readings.specs.declared.listing.ListRead.the-variants as listing
+use Rattle.readings.specs.ListAnswer.{listRead}
+use Rattle.cauchy.specs.Crossing.{numberFrom, piecesFrom, listPiecesFrom}
+use Rattle.cauchy.specs.Volumes.{valueFrom}
+use Rattle.cauchy.specs.StoreCrossing.{openedFrom, placedFrom, stepsFrom, reportFrom, listedFrom}
 
-pub solves : (s : Solve) (xs : List Float) → solutionOf (solveNumber s) xs ≡ solvedAs s xs
-solves solving.Solved xs = refl
-solves (solving.Refused r) xs = refl
+-- the reply of a number and values, which count where the number is 0
+abbrev pub told : ℕ → List ℕ → List Float → Answer
+told n ns xs = cond (eqb n 0) (record { refusal = 0; counts = ns; floats = xs }) (record { refusal = n; counts = []; floats = [] })
 
-pub decomposes : (d : Decomposed) (xs : List Float) → decompositionOf (piecesOf d) xs ≡ decomposedAs d xs
-decomposes (decomposing.Written n e) xs = refl
-decomposes (decomposing.Refused r) xs = refl
+pub solves : (s : Solve) → told (numberFrom (solvedAs s)) [] [] ≡ solvedAs s
+solves solving.Solved = refl
+solves (solving.Refused r) = rw (never-zero r) refl
 
-pub list-decomposes : (d : DecomposedList) (xs : List Float) → listDecompositionOf (listPiecesOf d) xs ≡ listedAs d xs
-list-decomposes (listing.Written n m e) xs = refl
-list-decomposes (listing.Refused r) xs = refl
+pub decomposes : (d : Decomposed) → let c = piecesFrom (decomposedAs d) in told (c .no) (c .pieces ∷ []) (c .error ∷ []) ≡ decomposedAs d
+decomposes (decomposing.Written n e) = refl
+decomposes (decomposing.Refused r) = rw (never-zero r) refl
 
--- no refusal has the number 0
-numbered : (r : Refusal) → eqb (number r) 0 ≡ false
-numbered Ragged = refl
-numbered Oversize = refl
-numbered LooseCorner = refl
-numbered ShortStore = refl
-numbered Unsound = refl
-numbered NoPlace = refl
-numbered Vacant = refl
-numbered Unfinished = refl
-numbered ShortList = refl
-numbered BadMatrix = refl
-numbered FlatPivot = refl
-numbered Exponent = refl
-numbered BadLine = refl
+pub list-decomposes : (d : DecomposedList) → let c = listPiecesFrom (listedAs d) in told (c .no) (c .kernels ∷ c .pieces ∷ []) (c .error ∷ []) ≡ listedAs d
+list-decomposes (spreading.Written n m e) = refl
+list-decomposes (spreading.Refused r) = rw (never-zero r) refl
 
-pub lands : (o : Weighed) (n : ℕ) {xs : List Float} {a : Outcome} → weighedAs o xs ≡ a → told (kernelsOf o n) xs ≡ landed n a
-lands o n {xs} {a} h = rw (← h) (case o)
-  where
-    case : (o : Weighed) → told (kernelsOf o n) xs ≡ landed n (weighedAs o xs)
-    case writing.Written = refl
-    case (writing.Refused r) = rw (numbered r) refl
+pub opens : (o : Opened) → let c = openedFrom (opened o) in told (c .no) (c .verts ∷ c .faces ∷ []) [] ≡ opened o
+opens (opening.Mesh verts faces) = refl
+opens (opening.Refused r) = rw (never-zero r) refl
+
+pub places : (p : Placed) → let c = placedFrom (placed p) in told (c .no) (c .pieces ∷ c .need ∷ []) [] ≡ placed p
+places (placing.Needs pieces need) = refl
+places (placing.Refused r) = rw (never-zero r) refl
+
+pub advances : (a : Advanced) → let c = stepsFrom (advanced a) in told (c .no) (c .done ∷ c .left ∷ []) [] ≡ advanced a
+advances (advancing.Steps done left) = refl
+advances (advancing.Refused r) = rw (never-zero r) refl
+
+pub values : (d : Measured) → let c = valueFrom (measuredAs d) in told (c .no) [] (c .value ∷ []) ≡ measuredAs d
+values (measured.Value x) = refl
+values (measured.Refused r) = rw (never-zero r) refl
+
+pub reports : (d : Reported) → let c = reportFrom (reportRead d) in let s = reported (c .report) (c .kernels) (c .pieces) (c .error) in told (c .no) (s .counts) (s .floats) ≡ reportRead d
+reports (reporting.Report mass filled pieces error) = refl
+reports (reporting.Refused r) = rw (never-zero r) refl
+
+pub lists : (d : ListRead) → let c = listedFrom (listRead d) in told (c .no) (c .pieces ∷ []) [] ≡ listRead d
+lists (listing.Pieces n) = refl
+lists (listing.Refused r) = rw (never-zero r) refl

@@ -5,7 +5,7 @@ use mathlib.Core.List.{List}
 use lib.Dec.{eqb}
 use lib.ListN.{getD}
 use lib.Ieee.{Float}
-use Rattle.base.specs.Answers.{Answer, Outcome}
+use Rattle.base.specs.Answers.{Answer}
 use Rattle.base.specs.Floats.{+0}
 use Rattle.density.specs.declared.convention.Convention.{Convention}
 use Rattle.density.specs.declared.convention.Convention.the-variants.{Raw, Rho0, Mass}
@@ -44,10 +44,6 @@ placedFrom a = record { no = a .refusal; pieces = getD (a .counts) 0 0; need = g
 abbrev pub stepsFrom : Answer → CauchySteps
 stepsFrom a = record { no = a .refusal; done = getD (a .counts) 0 0; left = getD (a .counts) 1 0 }
 
--- clear and reweigh, which answer no value
-abbrev pub numberFrom : Answer → ℕ
-numberFrom a = a .refusal
-
 -- report: "the first seven in `MassReport` order", then "filled count, pieces, greatest error"
 abbrev pub reportFrom : Answer → CauchyStoreReport
 reportFrom a =
@@ -70,17 +66,6 @@ reportFrom a =
 -- list: "the piece count"
 abbrev pub listedFrom : Answer → CauchyListed
 listedFrom a = record { no = a .refusal; pieces = getD (a .counts) 0 0 }
-
--- and the run that it writes, as it is then
-pub record Wrote : Type 0 where
-  pub answer : CauchyListed
-  pub out : List Float
-
-abbrev pub wrote : CauchyListed → List Float → Wrote
-wrote r out = record { answer = r; out = out }
-
-abbrev pub wroteFrom : Outcome → Wrote
-wroteFrom o = wrote (listedFrom (o .reply)) (o .out)
 
 -- ---- "raw, rho0 with a bulk density, or mass with target and bulk", by a kind: 0, 1, any other
 abbrev pub conventionOf : CauchyConvention → Convention

@@ -1,10 +1,10 @@
 // The solver, one file kernel, and the pieces of a kernel or of a list for C callers. A run crosses as a
 // pointer and a count of words.
 ghost use mathlib.Core.Path.{_≡_};
-ghost use Rattle.solve.specs.Solve.{solution};
-ghost use Rattle.pieces.specs.Kernels.{decomposition};
-ghost use Rattle.pieces.specs.Lists.{listDecomposition};
-ghost use Rattle.cauchy.specs.Crossing.{solveNumber, solutionOf, exponentOf, crossedKernel, piecesOf, decompositionOf, listPiecesOf, listDecompositionOf};
+ghost use Rattle.solve.specs.Solve.{solution, solvedAs};
+ghost use Rattle.pieces.specs.Kernels.{decomposition, decomposedAs};
+ghost use Rattle.pieces.specs.Lists.{listDecomposition, listedAs};
+ghost use Rattle.cauchy.specs.Crossing.{lent, lentFrom, numberFrom, exponentOf, crossedKernel, piecesFrom, listPiecesFrom};
 use base::refusal::refusal_number;
 use kernel::file::Exponent;
 use kernel::file::Kilometres;
@@ -47,7 +47,7 @@ pub struct CauchyListPieces {
 }
 
 fn solve_number(s: Solve) -> u32
-    ensures { λ r. ⌜ r ≡ solveNumber s ⌝ }
+    ensures { λ r. ⌜ r ≡ numberFrom (solvedAs s) ⌝ }
 {
     match s {
         Solve::Solved => 0,
@@ -58,7 +58,7 @@ fn solve_number(s: Solve) -> u32
 // Solves n rows of n + 1 floats; answers 0, 10 or 11.
 #[no_mangle]
 pub extern "C" fn cauchy_solve(n: usize, cells: &[f64], answer: &mut [f64]) -> u32
-    ensures { λ r. ⌜ solutionOf r (now (answer .exit)) ≡ solution n (now (cells .entry)) (now (answer .entry)) ⌝ }
+    ensures { λ r. ⌜ lent r (now (answer .exit)) ≡ lentFrom numberFrom (solution n (now (cells .entry)) (now (answer .entry))) ⌝ }
 {
     solve_number(solve_linear_system(n, cells, answer))
 }
@@ -87,7 +87,7 @@ pub extern "C" fn cauchy_kernel_from_file(k: CauchyFileKernel, default: f64) -> 
 }
 
 fn pieces_of(d: Decomposed) -> CauchyPieces
-    ensures { λ r. ⌜ r ≡ piecesOf d ⌝ }
+    ensures { λ r. ⌜ r ≡ piecesFrom (decomposedAs d) ⌝ }
 {
     match d {
         Decomposed::Written(n, e) => CauchyPieces {
@@ -107,13 +107,13 @@ fn pieces_of(d: Decomposed) -> CauchyPieces
 // is too short for them.
 #[no_mangle]
 pub extern "C" fn cauchy_decompose(k: Kernel, radius: f64, out: &mut [f64]) -> CauchyPieces
-    ensures { λ r. ⌜ decompositionOf r (now (out .exit)) ≡ decomposition k radius (now (out .entry)) ⌝ }
+    ensures { λ r. ⌜ lent r (now (out .exit)) ≡ lentFrom piecesFrom (decomposition k radius (now (out .entry))) ⌝ }
 {
     pieces_of(decompose_into(k, radius, out))
 }
 
 fn list_pieces_of(d: DecomposedList) -> CauchyListPieces
-    ensures { λ r. ⌜ r ≡ listPiecesOf d ⌝ }
+    ensures { λ r. ⌜ r ≡ listPiecesFrom (listedAs d) ⌝ }
 {
     match d {
         DecomposedList::Written {
@@ -143,7 +143,7 @@ pub extern "C" fn cauchy_decompose_list(
     radius: f64,
     out: &mut [f64],
 ) -> CauchyListPieces
-    ensures { λ r. ⌜ listDecompositionOf r (now (out .exit)) ≡ listDecomposition (now (kernels .entry)) radius (now (out .entry)) ⌝ }
+    ensures { λ r. ⌜ lent r (now (out .exit)) ≡ lentFrom listPiecesFrom (listDecomposition (now (kernels .entry)) radius (now (out .entry))) ⌝ }
 {
     list_pieces_of(decompose_list(kernels, radius, out))
 }

@@ -5,10 +5,11 @@ ghost use Prim.Native.Nat.{_/_};
 ghost use lib.ListN.{length};
 ghost use Rattle.source.specs.Density.{densityAt};
 ghost use Rattle.source.specs.Volumes.{volumeAnswer, enclosedAnswer};
-ghost use Rattle.weights.specs.Weights.{normalized};
+ghost use Rattle.weights.specs.Weights.{normalized, weighedAs};
 ghost use Rattle.weights.specs.Calibration.{calibrated};
 ghost use Rattle.cauchy.specs.Volumes.{valueFrom};
-ghost use Rattle.cauchy.specs.Sources.{kernelsOf, meanOf, told, landed};
+ghost use Rattle.cauchy.specs.Crossing.{lent, lentFrom};
+ghost use Rattle.cauchy.specs.Sources.{kernelsFrom, meanOf};
 use crate::volumes::CauchyValue;
 use crate::volumes::value_of;
 use base::refusal::refusal_number;
@@ -58,7 +59,7 @@ pub extern "C" fn cauchy_source_enclosed_volume(xyz: &[f64], faces: &[u32]) -> C
 }
 
 fn kernels_of(o: Weighed, n: usize) -> CauchyKernels
-    ensures { λ r. ⌜ r ≡ kernelsOf o n ⌝ }
+    ensures { λ r. ⌜ r ≡ kernelsFrom n (weighedAs o) ⌝ }
 {
     match o {
         Weighed::Written => CauchyKernels {
@@ -81,7 +82,7 @@ pub extern "C" fn cauchy_source_normalize(
     target: f64,
     out: &mut [f64],
 ) -> CauchyKernels
-    ensures { λ r. ⌜ told r (now (out .exit)) ≡ landed (length (now (kernels .entry)) / 6) (normalized (now (xyz .entry)) (now (faces .entry)) (now (kernels .entry)) target (now (out .entry))) ⌝ }
+    ensures { λ r. ⌜ lent r (now (out .exit)) ≡ lentFrom (kernelsFrom (length (now (kernels .entry)) / 6)) (normalized (now (xyz .entry)) (now (faces .entry)) (now (kernels .entry)) target (now (out .entry))) ⌝ }
 {
     let outcome = normalize_kernels(xyz, faces, kernels, target, out);
     kernels_of(outcome, kernels.len() / 6)
@@ -108,7 +109,7 @@ pub extern "C" fn cauchy_source_calibrate(
     given: u32,
     out: &mut [f64],
 ) -> CauchyKernels
-    ensures { λ r. ⌜ told r (now (out .exit)) ≡ landed (length (now (kernels .entry)) / 6) (calibrated (now (xyz .entry)) (now (faces .entry)) (now (kernels .entry)) (meanOf given mean) total (now (out .entry))) ⌝ }
+    ensures { λ r. ⌜ lent r (now (out .exit)) ≡ lentFrom (kernelsFrom (length (now (kernels .entry)) / 6)) (calibrated (now (xyz .entry)) (now (faces .entry)) (now (kernels .entry)) (meanOf given mean) total (now (out .entry))) ⌝ }
 {
     let outcome = calibrate_kernels(xyz, faces, kernels, mean_of(given, mean), total, out);
     kernels_of(outcome, kernels.len() / 6)

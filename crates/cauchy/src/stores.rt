@@ -20,7 +20,8 @@ ghost use Rattle.readings.specs.Readings;
 ghost use Rattle.readings.specs.ListAnswer.{listRead};
 ghost use Rattle.readings.specs.ReportAnswer.{reportRead};
 ghost use Rattle.cauchy.specs.Volumes.{valueFrom};
-ghost use Rattle.cauchy.specs.StoreCrossing.{crossed, across, openedFrom, placedFrom, stepsFrom, numberFrom, conventionOf, reportFrom, wrote, wroteFrom, listedFrom};
+ghost use Rattle.cauchy.specs.Crossing.{lent, lentFrom, numberFrom};
+ghost use Rattle.cauchy.specs.StoreCrossing.{crossed, across, openedFrom, placedFrom, stepsFrom, conventionOf, reportFrom, listedFrom};
 use crate::volumes::CauchyValue;
 use crate::volumes::value_of;
 use advance::advance::Advanced;
@@ -308,7 +309,7 @@ pub extern "C" fn cauchy_store_list(
     convention: CauchyConvention,
     out: &mut [f64],
 ) -> CauchyListed
-    ensures { λ r. ⌜ wrote r (now (out .exit)) ≡ wroteFrom (readStep width (now (floats .entry)) (now (words .entry)) (Readings.list (conventionOf convention) (now (out .entry)))) ⌝ }
+    ensures { λ r. ⌜ lent r (now (out .exit)) ≡ lentFrom listedFrom (readStep width (now (floats .entry)) (now (words .entry)) (Readings.list (conventionOf convention) (now (out .entry)))) ⌝ }
 {
     listed_of(list(floats, words, convention_of(convention), out))
 }

@@ -19,11 +19,12 @@ use Rattle.base.specs.declared.refusal.Checked.the-variants.{Passed, Failed}
 use Rattle.kernel.specs.declared.kernel.Kernel.{Kernel}
 use Rattle.kernel.specs.Kernels.{kernelAt, listCheck}
 use Rattle.kernel.specs.KernelLaws.{kernel-set-length}
+use Rattle.base.specs.Answers.{refused, outcome}
 use Rattle.pieces.specs.declared.pieces.Pieces.{Pieces}
 use Rattle.pieces.specs.Pieces.{decomposed}
 use Rattle.pieces.specs.PieceLaws.{at-most-16}
 use Rattle.pieces.specs.Kernels.{layAt, laid}
-use Rattle.pieces.specs.Lists.{pieceCount, greatestError, spread, written, refused, listDecomposition}
+use Rattle.pieces.specs.Lists.{pieceCount, greatestError, spread, fittedAll, listDecomposition}
 
 -- pieces that are written leave the run as long as it was
 pub laid-length : (n : ℕ) (k : Kernel) (p : Pieces) (xs : List Float) → length (laid n k p xs) ≡ length xs
@@ -96,7 +97,7 @@ module _ (ks : List Float) (radius : Float) where
       }
 
   pub spread-all : {xs ys : List Float} {i n m : ℕ} {e : Float} → Spread xs i m e ys → i ≡ n
-      → written n m e ys ≡ written n (pieceCount ks radius n) (greatestError ks radius n) (spread ks radius n xs)
+      → outcome (fittedAll n m e) ys ≡ outcome (fittedAll n (pieceCount ks radius n) (greatestError ks radius n)) (spread ks radius n xs)
   spread-all s h = rw (← h, s .count, s .error, s .words) refl
 
   -- ---- what `decompose_list` answers, with a check and a test as they came out
@@ -104,17 +105,17 @@ module _ (ks : List Float) (radius : Float) where
   room-of n size h t = omega (arith, leb-true (pieceCount ks radius n) (size / 6) (sym h ∙ t))
 
   module _ (xs : List Float) {checked : Checked} (found : checked ≡ listCheck ks) where
-    pub not-sixes : {r : Refusal} → checked ≡ Failed r → refused r xs ≡ listDecomposition ks radius xs
+    pub not-sixes : {r : Refusal} → checked ≡ Failed r → outcome (refused r) xs ≡ listDecomposition ks radius xs
     unfolding listDecomposition
     not-sixes e = rw (← found, e) refl
 
     module _ (sixes : checked ≡ Passed) {b : Bool} (room : b ≡ leb (pieceCount ks radius (length ks / 6)) (length xs / 6)) where
-      pub too-short : b ≡ false → refused ShortList xs ≡ listDecomposition ks radius xs
+      pub too-short : b ≡ false → outcome (refused ShortList) xs ≡ listDecomposition ks radius xs
       unfolding listDecomposition
       too-short t =
           let m = pieceCount ks radius (length ks / 6) in
           rw (← found, sixes, lt-leb (6 * m) (length xs) (omega (arith, leb-false m (length xs / 6) (sym room ∙ t)))) refl
 
-      pub writes-all : b ≡ true → written (length ks / 6) (pieceCount ks radius (length ks / 6)) (greatestError ks radius (length ks / 6)) (spread ks radius (length ks / 6) xs) ≡ listDecomposition ks radius xs
+      pub writes-all : b ≡ true → outcome (fittedAll (length ks / 6) (pieceCount ks radius (length ks / 6)) (greatestError ks radius (length ks / 6))) (spread ks radius (length ks / 6) xs) ≡ listDecomposition ks radius xs
       unfolding listDecomposition
       writes-all t = rw (← found, sixes, le-leb (6 * pieceCount ks radius (length ks / 6)) (length xs) (room-of (length ks / 6) (length xs) room t)) refl

@@ -7,19 +7,20 @@ use lib.ListN.{length}
 use lib.Ieee.{Float}
 use Rattle.base.specs.declared.refusal.Refusal.the-variants.{ShortList}
 use Rattle.kernel.specs.declared.kernel.Kernel.{Kernel}
+use Rattle.base.specs.Answers.{refused, outcome}
 use Rattle.pieces.specs.declared.pieces.Pieces.{Pieces}
 use Rattle.pieces.specs.Pieces.{decomposed}
 use Rattle.pieces.specs.PieceLaws.{at-most-16}
-use Rattle.pieces.specs.Kernels.{laid, written, refused, decomposition}
+use Rattle.pieces.specs.Kernels.{laid, fitted, decomposition}
 
 module _ (k : Kernel) (radius : Float) (p : Pieces) (e : p ≡ decomposed k radius) where
   pub few : p .count ≤ 16
   few = rw e (at-most-16 k radius)
 
-  pub refuses : (xs : List Float) → length xs < 6 * p .count → refused ShortList xs ≡ decomposition k radius xs
+  pub refuses : (xs : List Float) → length xs < 6 * p .count → outcome (refused ShortList) xs ≡ decomposition k radius xs
   unfolding decomposition
   refuses xs h = rw (← e, lt-ltb (length xs) (6 * p .count) h) refl
 
-  pub writes : (xs ys : List Float) → 6 * p .count ≤ length xs → ys ≡ laid 0 k p xs → written (p .count) (p .error) ys ≡ decomposition k radius xs
+  pub writes : (xs ys : List Float) → 6 * p .count ≤ length xs → ys ≡ laid 0 k p xs → outcome (fitted (p .count) (p .error)) ys ≡ decomposition k radius xs
   unfolding decomposition
-  writes xs ys h l = rw (← e, le-ltb (length xs) (6 * p .count) h) (ap (written (p .count) (p .error)) l)
+  writes xs ys h l = rw (← e, le-ltb (length xs) (6 * p .count) h) (ap (outcome (fitted (p .count) (p .error))) l)

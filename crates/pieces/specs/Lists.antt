@@ -1,17 +1,10 @@
 -- 01, "Pieces (`adaptive_cauchy_decompose`)": the pieces of a list of kernels, "six floats each". Definitions only.
 use Prim.Native.Nat.{ℕ, zero, suc, _+_, _*_, _/_}
-use mathlib.Core.Bool.{cond}
-use mathlib.Core.List.{List}
-use lib.Dec.{leb}
+use mathlib.Core.List.{List, [], _∷_}
 use lib.ListN.{length}
 use lib.Ieee.{Float}
 use Rattle.base.specs.Floats.{+0, greater}
-use Rattle.base.specs.Answers.{andThen}
-use Rattle.base.specs.Refusals.{number}
-use Rattle.base.specs.declared.refusal.Refusal.{Refusal}
-use Rattle.base.specs.declared.refusal.Refusal.the-variants.{ShortList}
-use Rattle.base.specs.declared.refusal.Checked.{Checked}
-use Rattle.base.specs.declared.refusal.Checked.the-variants.{Passed, Failed}
+use Rattle.base.specs.Answers.{Answer, refused, andThen, Outcome, outcome, guardedRun, roomCheck}
 use Rattle.kernel.specs.Kernels.{kernelAt, listCheck}
 use Rattle.pieces.specs.declared.pieces.Pieces.{Pieces}
 use Rattle.pieces.specs.declared.lists.DecomposedList.{DecomposedList}
@@ -42,37 +35,18 @@ spread ks radius (suc n) xs = laid (pieceCount ks radius n) (kernelAt ks n) (pie
 
 -- ---- the answer
 
--- 0 or the refusal's number in 01's table, the counts of kernels and pieces and the greatest error, and the words of the run afterwards
-pub record ListDecomposition : Type 0 where
-  pub refusal : ℕ
-  pub kernels : ℕ
-  pub pieces : ℕ
-  pub error : Float
-  pub words : List Float
-
-abbrev pub written : ℕ → ℕ → Float → List Float → ListDecomposition
-written n m e xs = record { refusal = 0; kernels = n; pieces = m; error = e; words = xs }
-
-abbrev pub refused : Refusal → List Float → ListDecomposition
-refused r xs = record { refusal = number r; kernels = 0; pieces = 0; error = +0; words = xs }
-
--- row 9: "run to be written under 6 floats per piece"
-abbrev pub roomCheck : ℕ → ℕ → Checked
-roomCheck pieces room = cond (leb (6 * pieces) room) Passed (Failed ShortList)
-
-abbrev pub guarded : Checked → ListDecomposition → List Float → ListDecomposition
-guarded Passed d xs = d
-guarded (Failed r) d xs = refused r xs
+-- the counts of kernels and pieces, and the greatest error
+abbrev pub fittedAll : ℕ → ℕ → Float → Answer
+fittedAll n m e = record { refusal = 0; counts = n ∷ m ∷ []; floats = e ∷ [] }
 
 -- of a list that is of sixes and a run that has room
-unfoldable pub listDecomposition : List Float → Float → List Float → ListDecomposition
+unfoldable pub listDecomposition : List Float → Float → List Float → Outcome
 listDecomposition ks radius xs =
     let n = length ks / 6 in
-    guarded (andThen (listCheck ks) (roomCheck (pieceCount ks radius n) (length xs)))
-    (written n (pieceCount ks radius n) (greatestError ks radius n) (spread ks radius n xs))
-    xs
+    guardedRun (andThen (listCheck ks) (roomCheck (6 * pieceCount ks radius n) (length xs))) xs
+    (outcome (fittedAll n (pieceCount ks radius n) (greatestError ks radius n)) (spread ks radius n xs))
 
--- 01's number and values for each case of the code's answer, with the words beside it
-abbrev pub listedAs : DecomposedList → List Float → ListDecomposition
-listedAs (Written n m e) xs = written n m e xs
-listedAs (Refused r) xs = refused r xs
+-- 01's number and values for each case of the code's answer
+abbrev pub listedAs : DecomposedList → Answer
+listedAs (Written n m e) = fittedAll n m e
+listedAs (Refused r) = refused r

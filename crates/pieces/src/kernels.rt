@@ -3,6 +3,7 @@
 ghost use mathlib.Core.Path.{_≡_};
 ghost use Prim.Native.Nat.{_+_, _*_, _<_, _≤_};
 ghost use lib.ListN.{length};
+ghost use Rattle.base.specs.Answers.{outcome};
 ghost use Rattle.pieces.specs.Kernels.{pieceAt, laid, decomposedAs, decomposition};
 use crate::pieces::Pieces;
 use crate::pieces::decompose;
@@ -47,7 +48,7 @@ pub fn lay_pieces(out: &mut [f64], at: usize, k: Kernel, p: Pieces)
 // Decomposes a kernel on a body of this radius and writes its pieces to the start of the run. Words
 // past them, and the whole run at a refusal, stay as they were.
 pub fn decompose_into(k: Kernel, radius: f64, out: &mut [f64]) -> Decomposed
-    ensures { λ r. ⌜ decomposedAs r (now (out .exit)) ≡ decomposition k radius (now (out .entry)) ⌝ }
+    ensures { λ r. ⌜ outcome (decomposedAs r) (now (out .exit)) ≡ decomposition k radius (now (out .entry)) ⌝ }
 {
     let p = decompose(k, radius);
     if out.len() < 6 * p.count {

@@ -8,8 +8,9 @@ use borrow.Author.Tests.{eq-eqb, le-ltb}
 use lib.ListN.{length}
 use lib.Ieee.{Float}
 use Rattle.base.specs.declared.refusal.Refusal.the-variants.{FlatPivot}
+use Rattle.base.specs.Answers.{done, refused, outcome}
 use Rattle.solve.specs.Elimination.{Matrix, eliminated, endedAs}
-use Rattle.solve.specs.Solve.{loaded, answers, blank, solved, refused, concluded, solution}
+use Rattle.solve.specs.Solve.{loaded, answers, blank, concluded, solution}
 use Rattle.solve.specs.declared.eliminate.Elimination.{Elimination}
 use Rattle.solve.specs.declared.eliminate.Elimination.the-variants.{Reduced, Flat}
 
@@ -24,15 +25,15 @@ pub square-within : (n : ℕ) → n ≤ 16 → n * (n + 1) ≤ 272
 square-within n h = le-trans (mul-le-mul-right (n + 1) h) (omega arith)
 
 module _ (n : ℕ) (cells xs : List Float) (m₁ m₂ : Matrix) (r : Elimination) (small : n ≤ 16) (whole : length cells ≡ n * (n + 1)) (room : n ≤ length xs)
-    (read : m₁ ≡ loaded n cells blank) (done : endedAs r m₂ ≡ eliminated n m₁) where
+    (read : m₁ ≡ loaded n cells blank) (ended : endedAs r m₂ ≡ eliminated n m₁) where
   concludes : solution n cells xs ≡ concluded n xs (endedAs r m₂)
   unfolding solution
-  concludes = simp (le-ltb 16 n small, eq-eqb (length cells) (n * (n + 1)) whole, le-ltb (length xs) n room, done, read)
+  concludes = simp (le-ltb 16 n small, eq-eqb (length cells) (n * (n + 1)) whole, le-ltb (length xs) n room, ended, read)
 
-  pub solves : {ys : List Float} → r ≡ Reduced → ys ≡ answers n m₂ xs → solved ys ≡ solution n cells xs
+  pub solves : {ys : List Float} → r ≡ Reduced → ys ≡ answers n m₂ xs → outcome done ys ≡ solution n cells xs
   unfolding concluded
   solves e h = simp (h, concludes, e)
 
-  pub refuses : {k : ℕ} → r ≡ Flat k → refused FlatPivot xs ≡ solution n cells xs
+  pub refuses : {k : ℕ} → r ≡ Flat k → outcome (refused FlatPivot) xs ≡ solution n cells xs
   unfolding concluded
   refuses e = simp (concludes, e)

@@ -8,6 +8,7 @@ use mathlib.Core.List.{List, [], _∷_}
 use lib.ListN.{length, getD}
 use lib.Seq.{getD-set-other}
 use lib.Ieee.{Float, nan, ofBits, lt, le, eq, sub, mul, div}
+use Rattle.base.specs.Answers.{done, refused, Outcome, outcome}
 use Rattle.base.specs.Floats.{+0, bits, abs}
 use Rattle.base.specs.Constants.{one, two, three, four, flatLimit}
 use Rattle.base.specs.Loops.{times}
@@ -16,7 +17,7 @@ use Rattle.base.specs.OrderLaws.{lt-nan, eq-not-lt}
 use Rattle.base.specs.declared.refusal.Refusal.the-variants.{FlatPivot}
 use Rattle.solve.specs.declared.eliminate.Pivot.{Pivot}
 use Rattle.solve.specs.Elimination.{Matrix, cell, Ended, reduced, flat, better, pivotOf, over, less, cleared, swept, columnAt, eliminated}
-use Rattle.solve.specs.Solve.{Solution, badMatrix, answerAt, rowOf, loaded, answers, solved, refused, concluded, solution}
+use Rattle.solve.specs.Solve.{badMatrix, answerAt, rowOf, loaded, answers, concluded, solution}
 
 -- opens every definition on the way of a computed row
 unfoldable rows : ℕ
@@ -29,22 +30,22 @@ five = bits 0x4014_0000_0000_0000
 -- ---- 01's rows
 
 -- "[2|4] solves to 2"
-pub one-row : solution 1 (two ∷ four ∷ []) (+0 ∷ []) ≡ solved (two ∷ [])
+pub one-row : solution 1 (two ∷ four ∷ []) (+0 ∷ []) ≡ outcome done (two ∷ [])
 unfolding rows
 one-row = refl
 
 -- "[1e-18|1] is 11"
-pub flat-row : solution 1 (flatLimit ∷ one ∷ []) (+0 ∷ []) ≡ refused FlatPivot (+0 ∷ [])
+pub flat-row : solution 1 (flatLimit ∷ one ∷ []) (+0 ∷ []) ≡ outcome (refused FlatPivot) (+0 ∷ [])
 unfolding rows
 flat-row = refl
 
 -- "[1 1|3],[1 2|5] gives 1, 2"; a word past them stays
-pub two-rows : solution 2 (one ∷ one ∷ three ∷ one ∷ two ∷ five ∷ []) (+0 ∷ +0 ∷ four ∷ []) ≡ solved (one ∷ two ∷ four ∷ [])
+pub two-rows : solution 2 (one ∷ one ∷ three ∷ one ∷ two ∷ five ∷ []) (+0 ∷ +0 ∷ four ∷ []) ≡ outcome done (one ∷ two ∷ four ∷ [])
 unfolding rows
 two-rows = refl
 
 -- "n = 0 succeeds, writing nothing"
-pub no-rows : (xs : List Float) → solution 0 [] xs ≡ solved xs
+pub no-rows : (xs : List Float) → solution 0 [] xs ≡ outcome done xs
 unfolding rows
 no-rows xs = simp (le-ltb (length xs) 0 zero-le)
 
@@ -55,15 +56,15 @@ unfolding times
 answers-past n m zero row xs i h = refl
 answers-past n m (suc k) row xs i h = answers-past n m k (suc row) (answerAt n m row xs) i (omega arith) ∙ getD-set-other xs row i (cell m row n) nan (λ e. omega arith)
 
-concluded-past : (n : ℕ) (xs : List Float) (e : Ended) (i : ℕ) → n ≤ i → getD (concluded n xs e .words) i nan ≡ getD xs i nan
+concluded-past : (n : ℕ) (xs : List Float) (e : Ended) (i : ℕ) → n ≤ i → getD (concluded n xs e .out) i nan ≡ getD xs i nan
 unfolding concluded answers
 concluded-past n xs (reduced m) i h = answers-past n m n 0 xs i (omega arith)
 concluded-past n xs (flat c) i h = refl
 
 -- "Words of the answer past n are untouched"
-pub words-past : (n : ℕ) (cells xs : List Float) (i : ℕ) → n ≤ i → getD (solution n cells xs .words) i nan ≡ getD xs i nan
+pub words-past : (n : ℕ) (cells xs : List Float) (i : ℕ) → n ≤ i → getD (solution n cells xs .out) i nan ≡ getD xs i nan
 unfolding solution
-words-past n cells xs i h = cond-of (λ (s : Solution). getD (s .words) i nan ≡ getD xs i nan) (badMatrix n cells xs) refl (concluded-past n xs _ i h)
+words-past n cells xs i h = cond-of (λ (s : Outcome). getD (s .out) i nan ≡ getD xs i nan) (badMatrix n cells xs) refl (concluded-past n xs _ i h)
 
 -- ---- the later row
 

@@ -7,8 +7,7 @@ use lib.ListN.{getD, set, length, replicate}
 use lib.Ieee.{Float, nan}
 use Rattle.base.specs.Floats.{+0}
 use Rattle.base.specs.Loops.{times}
-use Rattle.base.specs.Refusals.{number}
-use Rattle.base.specs.declared.refusal.Refusal.{Refusal}
+use Rattle.base.specs.Answers.{Answer, done, refused, Outcome, outcome}
 use Rattle.base.specs.declared.refusal.Refusal.the-variants.{BadMatrix, FlatPivot}
 use Rattle.solve.specs.Elimination.{Matrix, cell, Ended, reduced, flat, eliminated}
 use Rattle.solve.specs.declared.Solve.{Solve}
@@ -43,31 +42,20 @@ answers n m xs = times (answerAt n m) n 0 xs
 
 -- ---- the answer
 
--- 0, or the refusal's number in 01's table, and the words of the answer afterwards
-pub record Solution : Type 0 where
-  pub refusal : ℕ
-  pub words : List Float
-
-abbrev pub solved : List Float → Solution
-solved xs = record { refusal = 0; words = xs }
-
-abbrev pub refused : Refusal → List Float → Solution
-refused r xs = record { refusal = number r; words = xs }
-
 -- row 10: "n > 16, length not n(n+1), or answer shorter than n"
 abbrev pub badMatrix : ℕ → List Float → List Float → Bool
 badMatrix n cells xs = ltb 16 n || not (eqb (length cells) (n * (n + 1))) || ltb (length xs) n
 
 -- row 11: "solve fails"
-unfoldable pub concluded : ℕ → List Float → Ended → Solution
-concluded n xs (reduced m) = solved (answers n m xs)
-concluded n xs (flat c) = refused FlatPivot xs
+unfoldable pub concluded : ℕ → List Float → Ended → Outcome
+concluded n xs (reduced m) = outcome done (answers n m xs)
+concluded n xs (flat c) = outcome (refused FlatPivot) xs
 
 -- n rows in a run, and the words of the answer before
-unfoldable pub solution : ℕ → List Float → List Float → Solution
-solution n cells xs = cond (badMatrix n cells xs) (refused BadMatrix xs) (concluded n xs (eliminated n (loaded n cells blank)))
+unfoldable pub solution : ℕ → List Float → List Float → Outcome
+solution n cells xs = cond (badMatrix n cells xs) (outcome (refused BadMatrix) xs) (concluded n xs (eliminated n (loaded n cells blank)))
 
--- 01's number for each case of the code's answer, with the words beside it
-abbrev pub solvedAs : Solve → List Float → Solution
-solvedAs Solved xs = solved xs
-solvedAs (Refused r) xs = refused r xs
+-- 01's number for each case of the code's answer
+abbrev pub solvedAs : Solve → Answer
+solvedAs Solved = done
+solvedAs (Refused r) = refused r

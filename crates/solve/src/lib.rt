@@ -5,6 +5,7 @@ pub mod matrix;
 pub mod runs;
 
 ghost use mathlib.Core.Path.{_≡_};
+ghost use Rattle.base.specs.Answers.{outcome};
 ghost use Rattle.solve.specs.Solve.{solvedAs, solution};
 use crate::eliminate::Elimination;
 use crate::eliminate::eliminate;
@@ -21,7 +22,7 @@ pub enum Solve {
 // Solves n rows of n + 1 floats, given row after row, and writes the n unknowns to the answer.
 // Words past n, and the whole answer at a refusal, stay as they were.
 pub fn solve_linear_system(n: usize, cells: &[f64], answer: &mut [f64]) -> Solve
-    ensures { λ r. ⌜ solvedAs r (now (answer .exit)) ≡ solution n (now (cells .entry)) (now (answer .entry)) ⌝ }
+    ensures { λ r. ⌜ outcome (solvedAs r) (now (answer .exit)) ≡ solution n (now (cells .entry)) (now (answer .entry)) ⌝ }
 {
     if n > 16 {
         return Solve::Refused(Refusal::BadMatrix);

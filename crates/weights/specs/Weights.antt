@@ -8,7 +8,7 @@ use lib.Ieee.{Float, nan, lt}
 use Rattle.base.specs.Floats.{_⊕_, _⊖_, _⊗_, _⊘_, +0, abs}
 use Rattle.base.specs.Constants.{one, stayLimit, scaleLimit}
 use Rattle.base.specs.Loops.{times}
-use Rattle.base.specs.Answers.{done, refused, andThen, Outcome, outcome, guardedRun, roomCheck}
+use Rattle.base.specs.Answers.{Answer, done, refused, andThen, Outcome, outcome, guardedRun, roomCheck}
 use Rattle.base.specs.declared.refusal.Refusal.the-variants.{Exponent}
 use Rattle.base.specs.declared.refusal.Checked.{Checked}
 use Rattle.kernel.specs.declared.kernel.Kernel.{Kernel}
@@ -83,10 +83,10 @@ normalized xyz faces ks target run =
     guardedRun (callCheck (length xyz) faces ks (length run)) run
     (normalizedRun (triangleAt xyz faces) (faceCount faces) (kernelAt ks) (length ks / 6) target run)
 
--- 01's number for each case of the code's answer, with the run beside it
-abbrev pub weighedAs : Weighed → List Float → Outcome
-weighedAs Written run = outcome done run
-weighedAs (Refused r) run = outcome (refused r) run
+-- 01's number for each case of the code's answer
+abbrev pub weighedAs : Weighed → Answer
+weighedAs Written = done
+weighedAs (Refused r) = refused r
 
 -- ---- for `calibrate_kernels`, which stretches its kernels first
 

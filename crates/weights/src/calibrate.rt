@@ -3,6 +3,7 @@ ghost use mathlib.Core.Path.{_≡_};
 ghost use Prim.Native.Nat.{_≤_};
 ghost use lib.ListN.{length};
 ghost use Rattle.mesh.specs.Triangles.{triangleAt, faceCount, Sound};
+ghost use Rattle.base.specs.Answers.{outcome};
 ghost use Rattle.weights.specs.Weights.{weighedAs};
 ghost use Rattle.weights.specs.Calibration.{farther, fartherFace, reachOf, geometryScale, targetMass, calibratedRun, calibrated};
 use crate::normalize::Stretch;
@@ -84,7 +85,7 @@ fn calibrate(
     run: &mut [f64],
 ) -> Weighed
     requires { ⌜ Sound (length (now xyz)) (now faces) ⌝ ∗ ⌜ length (now kernels) ≤ length (now run) ⌝ }
-    ensures { λ r. ⌜ weighedAs r (now (run .exit)) ≡ calibratedRun (triangleAt (now (xyz .entry)) (now (faces .entry))) (faceCount (now (faces .entry))) (now (kernels .entry)) mean total (now (run .entry)) ⌝ }
+    ensures { λ r. ⌜ outcome (weighedAs r) (now (run .exit)) ≡ calibratedRun (triangleAt (now (xyz .entry)) (now (faces .entry))) (faceCount (now (faces .entry))) (now (kernels .entry)) mean total (now (run .entry)) ⌝ }
 {
     let by = Stretch::By(geometry_scale(reach_of(xyz, faces)));
     let target = target_mass(mean, total, abs(signed_volume(xyz, faces)));
@@ -105,7 +106,7 @@ pub fn calibrate_kernels(
     total: f64,
     run: &mut [f64],
 ) -> Weighed
-    ensures { λ r. ⌜ weighedAs r (now (run .exit)) ≡ calibrated (now (xyz .entry)) (now (faces .entry)) (now (kernels .entry)) mean total (now (run .entry)) ⌝ }
+    ensures { λ r. ⌜ outcome (weighedAs r) (now (run .exit)) ≡ calibrated (now (xyz .entry)) (now (faces .entry)) (now (kernels .entry)) mean total (now (run .entry)) ⌝ }
 {
     let checked = check_call(xyz, faces, kernels, run.len());
     match checked {

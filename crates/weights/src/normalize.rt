@@ -4,6 +4,7 @@ ghost use mathlib.Core.Path.{_≡_};
 ghost use Prim.Native.Nat.{_+_, _*_, _/_, _≤_};
 ghost use lib.ListN.{length};
 ghost use Rattle.mesh.specs.Triangles.{triangleAt, faceCount, Sound};
+ghost use Rattle.base.specs.Answers.{outcome};
 ghost use Rattle.weights.specs.Weights.{stretched, kernelsOf, offUnit, someOff, kernelMass, rawMass, scaleOf, weighed, rescaled, writtenOf, callCheck, normalizedRun, normalized, weighedAs};
 use base::floats::abs;
 use base::refusal::Checked;
@@ -167,7 +168,7 @@ pub fn normalize(
     run: &mut [f64],
 ) -> Weighed
     requires { ⌜ Sound (length (now xyz)) (now faces) ⌝ ∗ ⌜ length (now kernels) ≤ length (now run) ⌝ }
-    ensures { λ r. ⌜ weighedAs r (now (run .exit)) ≡ normalizedRun (triangleAt (now (xyz .entry)) (now (faces .entry))) (faceCount (now (faces .entry))) (kernelsOf by (now (kernels .entry))) (length (now (kernels .entry)) / 6) target (now (run .entry)) ⌝ }
+    ensures { λ r. ⌜ outcome (weighedAs r) (now (run .exit)) ≡ normalizedRun (triangleAt (now (xyz .entry)) (now (faces .entry))) (faceCount (now (faces .entry))) (kernelsOf by (now (kernels .entry))) (length (now (kernels .entry)) / 6) target (now (run .entry)) ⌝ }
 {
     let n = kernels.len() / 6;
     if some_off(kernels, by, n) {
@@ -187,7 +188,7 @@ pub fn normalize_kernels(
     target: f64,
     run: &mut [f64],
 ) -> Weighed
-    ensures { λ r. ⌜ weighedAs r (now (run .exit)) ≡ normalized (now (xyz .entry)) (now (faces .entry)) (now (kernels .entry)) target (now (run .entry)) ⌝ }
+    ensures { λ r. ⌜ outcome (weighedAs r) (now (run .exit)) ≡ normalized (now (xyz .entry)) (now (faces .entry)) (now (kernels .entry)) target (now (run .entry)) ⌝ }
 {
     let checked = check_call(xyz, faces, kernels, run.len());
     match checked {

@@ -1,14 +1,12 @@
 -- `cauchy::kernels::cauchy_decompose_list` meets its contract. Assumes nothing.
 use borrow.Author.Needs.{needs}
-use mathlib.Core.Path.{_∙_}
-use Rattle.cauchy.proofs.Crossings.{list-decomposes}
+use mathlib.Core.Path.{ap}
+use Rattle.cauchy.specs.Crossing.{lentFrom, listPiecesFrom}
 use Rattle.cauchy.proofs.kernels.cauchy_decompose_list.Statement.{statement}
 use Rattle.cauchy.proofs.kernels.cauchy_decompose_list.Tie as tie
 
 returns : tie.Need-returns
-returns c =
-    let d = c .before .before .before .decompose-list in
-    rw (c .list-pieces-of .ensures) (list-decomposes (d .result) _ ∙ d .ensures)
+returns c = rw (c .list-pieces-of .ensures) (ap (lentFrom listPiecesFrom) (c .before .before .before .decompose-list .ensures))
 
 pub cauchy-decompose-list-spec : {M : Type 1} → statement M
 cauchy-decompose-list-spec =

@@ -1,6 +1,8 @@
 -- `cauchy::sources::cauchy_source_calibrate` meets its contract. Assumes nothing.
 use borrow.Author.Needs.{needs}
-use Rattle.cauchy.proofs.Crossings.{lands}
+use mathlib.Core.Path.{ap}
+use Rattle.cauchy.specs.Crossing.{lentFrom}
+use Rattle.cauchy.specs.Sources.{kernelsFrom}
 use Rattle.cauchy.proofs.sources.cauchy_source_calibrate.Statement.{statement}
 use Rattle.cauchy.proofs.sources.cauchy_source_calibrate.Tie as tie
 
@@ -8,7 +10,7 @@ returns : tie.Need-returns
 returns c =
     let s = c .before .before .before in
     rw (c .kernels-of .ensures, ← s .before .before .mean-of .ensures)
-    (lands (s .calibrate-kernels .result) _ (s .calibrate-kernels .ensures))
+    (ap (lentFrom (kernelsFrom _)) (s .calibrate-kernels .ensures))
 
 pub cauchy-source-calibrate-spec : {M : Type 1} → statement M
 cauchy-source-calibrate-spec =

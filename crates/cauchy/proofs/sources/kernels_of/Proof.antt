@@ -1,6 +1,7 @@
 -- `cauchy::sources::kernels_of` meets its contract, case by case. Assumes nothing.
 use borrow.Author.Needs.{needs}
 use mathlib.Core.Path.{refl}
+use Rattle.base.specs.RefusalLaws.{never-zero}
 use Rattle.cauchy.proofs.sources.kernels_of.Statement.{statement}
 use Rattle.cauchy.proofs.sources.kernels_of.Tie as tie
 
@@ -12,4 +13,4 @@ kernels-of-spec =
     (λ c. search needs)
     (λ c κs. search needs)
     (λ c. rw (c .enum-told .given .1) refl)
-    (λ c. rw (c .before .before .o .given .1, c .refusal-number .ensures) refl))
+    (λ c. rw (c .before .before .o .given .1, c .refusal-number .ensures, never-zero) refl))

@@ -1,12 +1,13 @@
 -- `cauchy::stores::cauchy_store_list` meets its contract. Assumes nothing.
 use borrow.Author.Needs.{needs}
 use mathlib.Core.Path.{ap}
-use Rattle.cauchy.specs.StoreCrossing.{wroteFrom}
+use Rattle.cauchy.specs.Crossing.{lentFrom}
+use Rattle.cauchy.specs.StoreCrossing.{listedFrom}
 use Rattle.cauchy.proofs.stores.cauchy_store_list.Statement.{statement}
 use Rattle.cauchy.proofs.stores.cauchy_store_list.Tie as tie
 
 returns : tie.Need-returns
-returns c = rw (c .listed-of .ensures, ← c .before .before .before .before .before .convention-of .ensures) (ap wroteFrom (c .before .before .before .list .ensures))
+returns c = rw (c .listed-of .ensures, ← c .before .before .before .before .before .convention-of .ensures) (ap (lentFrom listedFrom) (c .before .before .before .list .ensures))
 
 pub cauchy-store-list-spec : {M : Type 1} → statement M
 cauchy-store-list-spec =
