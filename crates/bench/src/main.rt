@@ -75,13 +75,15 @@ fn finish(
     say(out, last.wrote);
 }
 
-fn main() {
-    let mut f = [0.0f64; 3261];
-    let mut w = [0u32; 3098];
-    let mut coords = [0.0f64; 1500];
-    let mut corners = [0u32; 3000];
-    let mut line = [0u8; 256];
-    let mut out = [0u8; 512];
+// Reads the input to its end and answers its lines. After an answer that was not written nothing is read.
+fn serve(
+    line: &mut [u8; 256],
+    f: &mut [f64; 3261],
+    w: &mut [u32; 3098],
+    coords: &mut [f64; 1500],
+    corners: &mut [u32; 3000],
+    out: &mut [u8; 512],
+) {
     let mut chunk = io::buffer();
     let mut st = program::start();
     let mut turns = u64::MAX;
@@ -92,25 +94,24 @@ fn main() {
             break;
         }
         let n = io::count(got, &chunk);
-        let fed = feed_chunk(
-            st,
-            &chunk,
-            n,
-            &mut line,
-            &mut f,
-            &mut w,
-            &mut coords,
-            &mut corners,
-            &mut out,
-        );
+        let fed = feed_chunk(st, &chunk, n, line, f, w, coords, corners, out);
         if !fed.said {
             return;
         }
         st = fed.state;
     }
-    finish(
-        st,
-        &line,
+    finish(st, line, f, w, coords, corners, out);
+}
+
+fn main() {
+    let mut line = [0u8; 256];
+    let mut f = [0.0f64; 3261];
+    let mut w = [0u32; 3098];
+    let mut coords = [0.0f64; 1500];
+    let mut corners = [0u32; 3000];
+    let mut out = [0u8; 512];
+    serve(
+        &mut line,
         &mut f,
         &mut w,
         &mut coords,

@@ -1,20 +1,20 @@
--- `bench::main` is safe and ends: the chunk keeps its length, an opening its counts. Assumes nothing.
+-- `bench::serve` is safe and ends: the chunk keeps its length, an opening its counts. Assumes nothing.
 use mathlib.Core.Path.{_≡_, sym}
 use native.Mathlib.Omega.{arith}
 use lib.ListN.{length}
 use borrow.Author.Needs.{needs}
 use Rattle.session.specs.Session.{Small}
-use Rattle.bench.proofs.main.Statement.{statement}
-use Rattle.bench.proofs.main.Tie as tie
+use Rattle.bench.proofs.serve.Statement.{statement}
+use Rattle.bench.proofs.serve.Tie as tie
 
 abbrev Inv-loop : tie.InvT-loop
-Inv-loop f₀ w₀ coords₀ corners₀ line₀ out₀ chunk₀ st₀ turns₀ f w coords corners line out chunk st turns = (length chunk ≡ 4096) × Small (st .opening)
+Inv-loop line₀ f₀ w₀ coords₀ corners₀ out₀ chunk₀ st₀ turns₀ line f w coords corners out chunk st turns = (length chunk ≡ 4096) × Small (st .opening)
 
 abbrev μ-loop : tie.MeasureT-loop
-μ-loop f₀ w₀ coords₀ corners₀ line₀ out₀ chunk₀ st₀ turns₀ f w coords corners line out chunk st turns = turns
+μ-loop line₀ f₀ w₀ coords₀ corners₀ out₀ chunk₀ st₀ turns₀ line f w coords corners out chunk st turns = turns
 
-pub main-spec : {M : Type 1} → statement M
-main-spec =
+pub serve-spec : {M : Type 1} → statement M
+serve-spec =
     tie.close
     (tie.spec
     Inv-loop
