@@ -2,11 +2,11 @@
 use lib.Dec.{leb}
 use borrow.Author.Tests.{leb-true}
 use Rattle.layout.specs.SoundLaws.{both}
-use Rattle.session.specs.Session.{vertLimit, faceLimit, session}
-use Rattle.session.proofs.Lines.{opening-begun, opening-over}
+use Rattle.lines.specs.Session.{vertLimit, faceLimit, session}
+use Rattle.lines.proofs.Lines.{opening-begun, opening-over}
 use borrow.Author.Needs.{needs}
-use Rattle.session.proofs.respond.open_line.Statement.{statement}
-use Rattle.session.proofs.respond.open_line.Tie as tie
+use Rattle.lines.proofs.take.open_line.Statement.{statement}
+use Rattle.lines.proofs.take.open_line.Tie as tie
 
 returns : tie.Need-returns
 returns c =

@@ -13,7 +13,7 @@ use Rattle.forms.specs.declared.line.Line.{Line}
 use Rattle.forms.specs.declared.line.Line.the-variants.{Bad, Open, Vert, Face, Put, Clear, Reweigh, Advance, Density, Report}
 use Rattle.calls.specs.Texts.{openText}
 use Rattle.calls.specs.Calls.{badText, callOf}
-use Rattle.session.specs.declared.opening.Opening.{Opening}
+use Rattle.lines.specs.declared.opening.Opening.{Opening}
 
 -- "V ≤ 500, F ≤ 1,000"
 abbrev pub vertLimit : ℕ
