@@ -3,18 +3,16 @@ use mathlib.Core.Path.{_≡_, refl, sym, ap, subst, _∙_}
 use mathlib.Core.Bool.{Bool, true, false, _&&_, cond}
 use mathlib.Core.List.{List}
 use Prim.Native.Nat.{ℕ, zero, suc, _+_, _*_, _-_, _≤_, _<_}
-use native.Mathlib.Nat.{mul-le-mul, suc-mul, zero-mul, zero-sub}
 use native.Mathlib.Numerals.{add-one}
 use native.Mathlib.Omega.{arith}
-use lib.Dec.{ltb, eqb}
+use lib.Dec.{ltb}
 use lib.Ieee.{Float}
-use lib.ListN.{length, getD, set, take, drop, length-set}
+use lib.ListN.{length, getD, set, drop, length-set}
 use lib.Seq.{getD-set-other, drop-set-lt, getD-drop}
 use borrow.Author.Tests.{ltb-true}
 use Rattle.base.specs.Loops.{iterate}
 use Rattle.mesh.specs.declared.vectors.V3.{V3}
 use Rattle.mesh.specs.declared.triangles.Triangle.{Triangle}
-use Rattle.mesh.specs.Checks.{faceLimit}
 use Rattle.layout.specs.Layout.{width, coordsFrom, cornersFrom, statusOf, finishedOf, doneOf}
 use Rattle.layout.specs.SoundLaws.{Meshed, Ready, Worded}
 use Rattle.layout.specs.Left.{held}

@@ -3,22 +3,20 @@ use mathlib.Core.Path.{_≡_, refl, sym, ap, subst, _∙_}
 use mathlib.Core.Bool.{Bool, true, false, _&&_}
 use mathlib.Core.List.{List}
 use Prim.Native.Nat.{ℕ, zero, suc, _+_, _*_, _-_, _≤_, _<_}
-use native.Mathlib.Nat.{add-zero, sub-zero, add-suc}
+use native.Mathlib.Nat.{add-zero, sub-zero}
 use native.Mathlib.Omega.{arith}
 use lib.Dec.{ltb, eqb}
 use lib.Ieee.{Float, nan}
-use lib.ListN.{length, getD, set, take, drop, length-set, length-take, length-drop}
-use lib.Seq.{getD-set-same, getD-set-other, set-set, set-getD, getD-take, getD-drop, drop-set-lt}
+use lib.ListN.{length, getD, set, drop, length-set}
+use lib.Seq.{getD-set-same, getD-set-other, set-set, set-getD, drop-set-lt}
 use borrow.Author.Tests.{lt-ltb, le-ltb, ltb-true, ltb-false, eq-eqb, ne-eqb}
 use Rattle.base.specs.Loops.{times, iterate}
 use Rattle.base.specs.LoopLaws.{times-suc, iterate-add}
-use Rattle.runs.specs.RunLaws.{length-part}
 use Rattle.mesh.specs.declared.vectors.V3.{V3}
 use Rattle.mesh.specs.declared.triangles.Triangle.{Triangle}
-use Rattle.mesh.specs.Triangles.{Sound}
 use Rattle.volume.specs.Volume.{faceStep, volumeFrom}
-use Rattle.layout.specs.Layout.{centreAt, width, coordsFrom, cornersFrom}
-use Rattle.layout.specs.SoundLaws.{Meshed, Ready}
+use Rattle.layout.specs.Layout.{centreAt, width, coordsFrom}
+use Rattle.layout.specs.SoundLaws.{Meshed}
 use Rattle.layout.specs.Left.{held}
 use Rattle.advance.specs.Steps.{Work, work, oneFace}
 

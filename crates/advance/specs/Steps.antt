@@ -3,14 +3,14 @@ use mathlib.Core.Bool.{_&&_, cond}
 use mathlib.Core.List.{List, [], _∷_}
 use Prim.Native.Nat.{ℕ, zero, suc, _+_, _*_, _-_}
 use lib.Dec.{ltb, eqb}
-use lib.ListN.{getD, set, take, drop}
+use lib.ListN.{getD, set}
 use lib.Ieee.{Float, nan}
 use Rattle.base.specs.Answers.{counted}
 use Rattle.base.specs.Loops.{iterate}
 use Rattle.mesh.specs.declared.vectors.V3.{V3}
 use Rattle.mesh.specs.declared.triangles.Triangle.{Triangle}
 use Rattle.volume.specs.Volume.{faceSum}
-use Rattle.layout.specs.Layout.{slotLimit, centreAt, piecesFrom, coordsFrom, cornersFrom, vertsOf, facesOf, statusOf, finishedAt, finishedOf, doneAt, doneOf}
+use Rattle.layout.specs.Layout.{slotLimit, centreAt, piecesFrom, vertsOf, facesOf, statusOf, finishedAt, finishedOf, doneAt, doneOf}
 use Rattle.layout.specs.Soundness.{storeCheck}
 use Rattle.layout.specs.Left.{held, leftOf}
 use Rattle.store.specs.Calls.{After, after, guarded}

@@ -2,12 +2,11 @@
 // Internal: a function with a `requires` is called by proved code alone.
 ghost use mathlib.Core.Path.{_≡_};
 ghost use Prim.Native.Nat.{_+_, _-_, _*_, _≤_, _<_};
-ghost use lib.ListN.{take, drop, getD, set};
+ghost use lib.ListN.{getD, set};
 ghost use lib.Ieee.{nan};
-ghost use Rattle.base.specs.Loops.{times, iterate};
-ghost use Rattle.mesh.specs.Triangles.{triangleAt};
+ghost use Rattle.base.specs.Loops.{iterate};
 ghost use Rattle.volume.specs.Volume.{volumeFrom};
-ghost use Rattle.layout.specs.Layout.{centreAt, width, slotLimit, piecesFrom, coordsFrom, cornersFrom, statusOf, finishedOf, doneOf};
+ghost use Rattle.layout.specs.Layout.{centreAt, width, slotLimit, piecesFrom, coordsFrom, statusOf, finishedOf, doneOf};
 ghost use Rattle.layout.specs.SoundLaws.{Ready, Meshed, Worded};
 ghost use Rattle.layout.specs.Left.{held};
 ghost use Rattle.advance.specs.Steps.{work, oneFace, whole, slotWork, stored, slotsRun};

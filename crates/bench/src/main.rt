@@ -2,7 +2,7 @@
 ghost use mathlib.Core.Path.{_≡_};
 ghost use mathlib.Core.Bool.{true};
 ghost use Prim.Native.Nat.{_≤_};
-ghost use Rattle.session.specs.Session.{Small, session};
+ghost use Rattle.lines.specs.Session.{Small, session};
 ghost use Rattle.program.specs.Bytes.{held, heldAfter};
 use libc::EINTR;
 use libc::STDIN_FILENO;

@@ -1,7 +1,7 @@
 -- What was written for a call's answer is that answer's line. Assumes nothing.
 use Prim.Native.Nat.{ℕ}
 use mathlib.Core.Path.{_≡_, refl, sym, subst, _∙_}
-use mathlib.Core.List.{List, [], _∷_, _++_}
+use mathlib.Core.List.{List, []}
 use lib.Ieee.{Float}
 use Rattle.base.specs.Refusals.{number}
 use Rattle.base.specs.RefusalLaws.{never-zero}
@@ -11,7 +11,6 @@ use Rattle.base.specs.declared.refusal.Measured.{Measured}
 use Rattle.base.specs.declared.refusal.Measured.the-variants.{Value, Refused as Unmeasured}
 use Rattle.text.specs.Form.{print, _&_}
 use Rattle.text.specs.Print.{Wrote}
-use Rattle.text.specs.WriteLaws.{then}
 use Rattle.density.specs.declared.report.MassReport.{MassReport}
 use Rattle.store.specs.Calls.{After, after}
 use Rattle.store.specs.OpenAnswer.{opened}

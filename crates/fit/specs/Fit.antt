@@ -4,7 +4,7 @@ use mathlib.Core.Bool.{cond}
 use mathlib.Core.List.{List, []}
 use lib.Dec.{eqb}
 use lib.ListN.{getD, set, replicate}
-use lib.Ieee.{Float, nan, neg, lt}
+use lib.Ieee.{Float, nan, neg}
 use Rattle.base.specs.Floats.{_⊕_, _⊖_, _⊗_, _⊘_, whole, +0, abs, greater}
 use Rattle.base.specs.Constants.{one, two, four, ridge}
 use Rattle.base.specs.Loops.{times}

@@ -1,13 +1,13 @@
 -- The first of two tokens at a position, and the end of a line. Assumes nothing.
-use mathlib.Core.Path.{_≡_, refl, sym, ap, _∙_}
-use mathlib.Core.List.{List, [], _∷_, _++_, append-assoc}
+use mathlib.Core.Path.{_≡_, refl, sym, _∙_}
+use mathlib.Core.List.{List}
 use mathlib.Core.Bool.{Bool, true, false}
 use Prim.Native.Nat.{ℕ, _<_, _≤_}
 use native.Mathlib.Omega.{arith}
 use lib.ListN.{length}
 use lib.Dec.{ltb}
 use borrow.Author.Tests.{ltb-true, ltb-false}
-use Rattle.text.specs.Text.{Text, lost, left, Got, rest, got}
+use Rattle.text.specs.Text.{Got, rest, got}
 use Rattle.text.specs.Form.{orAt, or}
 use Rattle.text.specs.TextLaws.{rest-in, rest-out, rest-whole, rest-cons}
 use Rattle.forms.specs.Forms.{ifEnded}

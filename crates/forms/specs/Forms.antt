@@ -2,8 +2,7 @@
 use Prim.Native.Nat.{ℕ}
 use mathlib.Core.List.{List, [], _∷_}
 use mathlib.Core.Logic.{_⊎_, inl, inr}
-use lib.Ieee.{Float}
-use Rattle.text.specs.Text.{Text, lost, left, Got}
+use Rattle.text.specs.Text.{Text, lost, left}
 use Rattle.text.specs.Form.{Form, end, real, either, Vals, map, choose, read, print, say, u32, u64, three, _&_}
 use Rattle.density.specs.declared.convention.Convention.{Convention}
 use Rattle.density.specs.declared.convention.Convention.the-variants.{Raw, Rho0, Mass}

@@ -1,16 +1,15 @@
 -- One point: where its radius is small the series is the factor, where it is large the quotient is, and what the tests of both tell. Assumes nothing.
-use mathlib.Core.Path.{_≡_, refl, sym, ap, _∙_}
-use mathlib.Core.Bool.{Bool, true, false, _&&_, _||_, cond, false≢true}
+use mathlib.Core.Path.{_≡_, refl}
+use mathlib.Core.Bool.{Bool, true, false, _&&_, _||_, false≢true}
 use Prim.Native.Nat.{ℕ, _*_, _^_, _<_, _≤_}
 use native.Mathlib.Nat.{le-of-lt, le-of-eq, mul-pos}
 use native.Mathlib.Omega.{arith}
 use borrow.Author.Tests.{ltb-true, eqb-true, le-ltb}
 use lib.Dec.{ltb, eqb, lit<}
-use lib.IntN.{ℤ}
-use lib.Ieee.{Float, nan, inf, fin, binary64, lt, le, eq, neg, ofBits, up, down}
+use lib.Ieee.{Float, nan, inf, fin, lt, le, eq, neg, ofBits, up, down}
 use lib.Ieee.Fits.{down-pos}
-use Rattle.base.specs.Floats.{_⊖_, _⊗_, _⊘_, sign, signed, abs}
-use Rattle.base.specs.Constants.{one, halfPi, tenth}
+use Rattle.base.specs.Floats.{sign, signed, abs}
+use Rattle.base.specs.Constants.{one, tenth}
 use Rattle.powers.specs.Arc.{halved, arcCore, arcAbs, arc}
 use Rattle.radial.specs.Radial.{radialGSeries, radialG}
 use Rattle.lanes.specs.Stages.{Large, Small, inverted, turned, quotient}

@@ -6,7 +6,7 @@ use lib.Dec.{eqb}
 use lib.ListN.{replicate}
 use Rattle.base.specs.Floats.{+0}
 use Rattle.forms.specs.Forms.{parseLine}
-use Rattle.session.specs.Session.{Session, session, idle, respond}
+use Rattle.lines.specs.Session.{Session, session, idle, respond}
 
 -- a line ends with a newline or with the input, where it has a byte
 abbrev pub lastLine : List ℕ → List (List ℕ)

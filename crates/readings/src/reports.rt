@@ -1,8 +1,6 @@
 // The report of a store.
 ghost use mathlib.Core.Path.{_≡_};
 ghost use mathlib.Core.List.{[], map};
-ghost use Prim.Native.Nat.{_≤_};
-ghost use lib.ListN.{length};
 ghost use Rattle.volume.specs.Volume.{bodyVolume};
 ghost use Rattle.density.specs.Reports.{reportOf};
 ghost use Rattle.layout.specs.Layout.{width, slotLimit};

@@ -2,7 +2,7 @@
 // proved about, and a proved check in whole numbers; where the check fails, digit by digit.
 ghost use mathlib.Core.Path.{_≡_};
 ghost use mathlib.Core.Logic.{_⊎_};
-ghost use Prim.Native.Nat.{ℕ, _+_, _*_, _^_, _≤_, _<_};
+ghost use Prim.Native.Nat.{_+_, _*_, _^_, _≤_, _<_};
 ghost use lib.Ieee.{binary64};
 ghost use Rattle.base.specs.Split.{Scaled, unitsAt};
 ghost use Rattle.root.specs.Root.{squareRoot, Floor, Rounded};

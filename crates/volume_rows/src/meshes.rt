@@ -1,5 +1,5 @@
 // The meshes of the tables, each with every place, value and list.
-ghost use Prim.Native.Nat.{_≤_, _<_};
+ghost use Prim.Native.Nat.{_<_};
 use crate::lines::put_call;
 use crate::lines::put_located;
 use crate::lines::put_measured;

@@ -1,5 +1,4 @@
 -- `history::next` is safe, ends, and answers a position of the text that is not before the given one. Assumes nothing.
-use mathlib.Core.Path.{_≡_}
 use Prim.Native.Nat.{_≤_, _-_}
 use lib.ListN.{length}
 use borrow.Author.Needs.{needs}

@@ -1,6 +1,5 @@
 -- `history::play` is safe and ends: each turn starts past the line of the turn before. Assumes nothing.
-use mathlib.Core.Path.{_≡_}
-use Prim.Native.Nat.{_≤_, _-_}
+use Prim.Native.Nat.{_-_}
 use lib.ListN.{length}
 use borrow.Author.Needs.{needs}
 use Rattle.history.proofs.play.Statement.{statement}

@@ -1,6 +1,6 @@
 -- `cauchy::kernels::pieces_of` meets its contract, case by case. Assumes nothing.
 use borrow.Author.Needs.{needs}
-use mathlib.Core.Path.{refl, ap}
+use mathlib.Core.Path.{refl}
 use Rattle.cauchy.proofs.kernels.pieces_of.Statement.{statement}
 use Rattle.cauchy.proofs.kernels.pieces_of.Tie as tie
 

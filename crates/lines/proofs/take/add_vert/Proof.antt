@@ -4,9 +4,9 @@ use native.Mathlib.Omega.{arith}
 use mir.Syntax.{w32}
 use borrow.Author.Needs.{needs, fits-under}
 use Prim.Native.Nat.{_*_}
-use Rattle.session.proofs.Lines.{stored3, vert-room}
-use Rattle.session.proofs.respond.add_vert.Statement.{statement}
-use Rattle.session.proofs.respond.add_vert.Tie as tie
+use Rattle.lines.proofs.Lines.{stored3, vert-room}
+use Rattle.lines.proofs.take.add_vert.Statement.{statement}
+use Rattle.lines.proofs.take.add_vert.Tie as tie
 
 returns : tie.Need-returns
 returns c =

@@ -1,8 +1,8 @@
 -- No opening, and a line that is refused. Assumes nothing.
 use mathlib.Core.Path.{refl}
 use borrow.Author.Needs.{needs}
-use Rattle.session.proofs.respond.give_up.Statement.{statement}
-use Rattle.session.proofs.respond.give_up.Tie as tie
+use Rattle.lines.proofs.take.give_up.Statement.{statement}
+use Rattle.lines.proofs.take.give_up.Tie as tie
 
 returns : tie.Need-returns
 returns c = rw (c .idle .ensures) refl

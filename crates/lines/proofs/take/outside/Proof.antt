@@ -1,9 +1,9 @@
 -- An open line; any other is a call. Assumes nothing.
-use Rattle.session.specs.Session.{session}
-use Rattle.session.proofs.Lines.{no-open}
+use Rattle.lines.specs.Session.{session}
+use Rattle.lines.proofs.Lines.{no-open}
 use borrow.Author.Needs.{needs}
-use Rattle.session.proofs.respond.outside.Statement.{statement}
-use Rattle.session.proofs.respond.outside.Tie as tie
+use Rattle.lines.proofs.take.outside.Statement.{statement}
+use Rattle.lines.proofs.take.outside.Tie as tie
 
 returns : tie.Need-returns
 returns c = rw (c .before .before .l .given .1) (c .open-line .ensures)

@@ -1,11 +1,11 @@
 -- A face is kept where no vertex is due; else the opening is given up. Assumes nothing.
 use mathlib.Core.Path.{sym, _∙_}
 use Rattle.forms.specs.declared.line.Line.the-variants.{Face}
-use Rattle.session.specs.Session.{session}
-use Rattle.session.proofs.Lines.{face-kept, face-early, gives-up, small-stopped}
+use Rattle.lines.specs.Session.{session}
+use Rattle.lines.proofs.Lines.{face-kept, face-early, gives-up, small-stopped}
 use borrow.Author.Needs.{needs}
-use Rattle.session.proofs.respond.face_line.Statement.{statement}
-use Rattle.session.proofs.respond.face_line.Tie as tie
+use Rattle.lines.proofs.take.face_line.Statement.{statement}
+use Rattle.lines.proofs.take.face_line.Tie as tie
 
 returns : tie.Need-returns
 returns c =

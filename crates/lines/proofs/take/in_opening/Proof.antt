@@ -1,9 +1,9 @@
 -- A vert or a face line; any other gives up the opening. Assumes nothing.
-use Rattle.session.specs.Session.{session}
-use Rattle.session.proofs.Lines.{gives-up, small-stopped, no-mesh}
+use Rattle.lines.specs.Session.{session}
+use Rattle.lines.proofs.Lines.{gives-up, small-stopped, no-mesh}
 use borrow.Author.Needs.{needs}
-use Rattle.session.proofs.respond.in_opening.Statement.{statement}
-use Rattle.session.proofs.respond.in_opening.Tie as tie
+use Rattle.lines.proofs.take.in_opening.Statement.{statement}
+use Rattle.lines.proofs.take.in_opening.Tie as tie
 
 returns : tie.Need-returns
 returns c =

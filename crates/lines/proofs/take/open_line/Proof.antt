@@ -2,19 +2,19 @@
 use lib.Dec.{leb}
 use borrow.Author.Tests.{leb-true}
 use Rattle.layout.specs.SoundLaws.{both}
-use Rattle.session.specs.Session.{vertLimit, faceLimit, session}
-use Rattle.session.proofs.Lines.{opening-begun, opening-over}
+use Rattle.lines.specs.Session.{vertBound, faceBound, session}
+use Rattle.lines.proofs.Lines.{opening-begun, opening-over}
 use borrow.Author.Needs.{needs}
-use Rattle.session.proofs.respond.open_line.Statement.{statement}
-use Rattle.session.proofs.respond.open_line.Tie as tie
+use Rattle.lines.proofs.take.open_line.Statement.{statement}
+use Rattle.lines.proofs.take.open_line.Tie as tie
 
 returns : tie.Need-returns
 returns c =
     let a = c .before .before .args in
     let h = c .before .if1 .taken in
-    let b = both (leb (a .verts) vertLimit) (leb (a .faces) faceLimit) h in
+    let b = both (leb (a .verts) vertBound) (leb (a .faces) faceBound) h in
     let e = c .begun .ensures in
-    (rw (e) (leb-true (a .verts) vertLimit (b .0), leb-true (a .faces) faceLimit (b .1)), λ fs ws xs ks. opening-begun (session (a .o) fs ws xs ks) (a .radius) (a .verts) (a .faces) h e)
+    (rw (e) (leb-true (a .verts) vertBound (b .0), leb-true (a .faces) faceBound (b .1)), λ fs ws xs ks. opening-begun (session (a .o) fs ws xs ks) (a .radius) (a .verts) (a .faces) h e)
 
 returns-2 : tie.Need-returns-2
 returns-2 c =

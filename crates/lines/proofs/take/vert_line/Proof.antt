@@ -1,11 +1,11 @@
 -- A vertex is kept where one is due; else the opening is given up. Assumes nothing.
 use mathlib.Core.Path.{sym, _∙_}
 use Rattle.forms.specs.declared.line.Line.the-variants.{Vert}
-use Rattle.session.specs.Session.{session}
-use Rattle.session.proofs.Lines.{vert-kept, vert-late, gives-up, small-stopped}
+use Rattle.lines.specs.Session.{session}
+use Rattle.lines.proofs.Lines.{vert-kept, vert-late, gives-up, small-stopped}
 use borrow.Author.Needs.{needs}
-use Rattle.session.proofs.respond.vert_line.Statement.{statement}
-use Rattle.session.proofs.respond.vert_line.Tie as tie
+use Rattle.lines.proofs.take.vert_line.Statement.{statement}
+use Rattle.lines.proofs.take.vert_line.Tie as tie
 
 add-vert-requires : tie.Need-add-vert-requires
 add-vert-requires c κs =

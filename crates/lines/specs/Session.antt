@@ -13,14 +13,14 @@ use Rattle.forms.specs.declared.line.Line.{Line}
 use Rattle.forms.specs.declared.line.Line.the-variants.{Bad, Open, Vert, Face, Put, Clear, Reweigh, Advance, Density, Report}
 use Rattle.calls.specs.Texts.{openText}
 use Rattle.calls.specs.Calls.{badText, callOf}
-use Rattle.session.specs.declared.opening.Opening.{Opening}
+use Rattle.lines.specs.declared.opening.Opening.{Opening}
 
 -- "V ≤ 500, F ≤ 1,000"
-abbrev pub vertLimit : ℕ
-vertLimit = 500
+abbrev pub vertBound : ℕ
+vertBound = 500
 
-abbrev pub faceLimit : ℕ
-faceLimit = 1000
+abbrev pub faceBound : ℕ
+faceBound = 1000
 
 -- ---- an opening under way: its radius and counts, and how many of its vert and face lines were read
 
@@ -46,7 +46,7 @@ faceRead o = record { radius = o .radius; verts = o .verts; faces = o .faces; «
 
 -- its counts are the program's
 abbrev pub Small : Opening → Type 0
-Small o = (o .verts ≤ vertLimit) × (o .faces ≤ faceLimit)
+Small o = (o .verts ≤ vertBound) × (o .faces ≤ faceBound)
 
 -- ---- what the program holds between two lines: an opening under way, the store's runs, and the mesh that is read
 pub record Session : Type 0 where
@@ -115,7 +115,7 @@ calls s l =
 unfoldable pub outside : Session → Line → Said
 outside s Bad = calls s Bad
 outside s (Open radius verts faces) =
-    cond (leb verts vertLimit && leb faces faceLimit)
+    cond (leb verts vertBound && leb faces faceBound)
     (settled (session (begun radius verts faces) (s .floats) (s .words) (s .coords) (s .corners)))
     (said s badText)
 outside s (Vert x y z) = calls s (Vert x y z)

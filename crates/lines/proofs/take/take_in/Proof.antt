@@ -1,10 +1,10 @@
 -- A line where one of the opening is due, or any other. Assumes nothing.
 use mathlib.Core.Path.{sym, _∙_}
-use Rattle.session.specs.Session.{session}
-use Rattle.session.proofs.Lines.{responds-due, responds-else}
+use Rattle.lines.specs.Session.{session}
+use Rattle.lines.proofs.Lines.{responds-due, responds-else}
 use borrow.Author.Needs.{needs}
-use Rattle.session.proofs.respond.take_in.Statement.{statement}
-use Rattle.session.proofs.respond.take_in.Tie as tie
+use Rattle.lines.proofs.take.take_in.Statement.{statement}
+use Rattle.lines.proofs.take.take_in.Tie as tie
 
 in-opening-requires : tie.Need-in-opening-requires
 in-opening-requires c κs =

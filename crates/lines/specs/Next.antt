@@ -4,10 +4,10 @@ use mathlib.Core.List.{List}
 use lib.Ieee.{Float}
 use Rattle.forms.specs.declared.line.Line.{Line}
 use Rattle.calls.specs.Calls.{badText}
-use Rattle.session.specs.declared.respond.Act.{Act}
-use Rattle.session.specs.declared.respond.Act.the-variants.{Settle, Refuse, Call}
-use Rattle.session.specs.declared.respond.Next.{Next}
-use Rattle.session.specs.Session.{Session, Said, idle, session, said, calls, settled}
+use Rattle.lines.specs.declared.take.Act.{Act}
+use Rattle.lines.specs.declared.take.Act.the-variants.{Settle, Refuse, Call}
+use Rattle.lines.specs.declared.take.Next.{Next}
+use Rattle.lines.specs.Session.{Session, Said, idle, session, said, calls, settled}
 
 abbrev pub doneBy : Act → Session → Line → Said
 doneBy Settle s l = settled s

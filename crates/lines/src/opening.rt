@@ -1,6 +1,6 @@
 // The opening whose lines are being read. No function here has a `requires`.
 ghost use mathlib.Core.Path.{_≡_};
-ghost use Rattle.session.specs.Session.{vertsDue, due, idle, begun};
+ghost use Rattle.lines.specs.Session.{vertsDue, due, idle, begun};
 
 // Its radius and counts, and how many of its vert and face lines were read. Where none of them is due, there is no opening under way.
 pub struct Opening {

@@ -1,8 +1,8 @@
 -- Whether a line is due is two tests. Assumes nothing.
 use mathlib.Core.Path.{refl}
 use borrow.Author.Needs.{needs}
-use Rattle.session.proofs.opening.due.Statement.{statement}
-use Rattle.session.proofs.opening.due.Tie as tie
+use Rattle.lines.proofs.opening.due.Statement.{statement}
+use Rattle.lines.proofs.opening.due.Tie as tie
 
 pub due-spec : {M : Type 1} → statement M
 due-spec =
