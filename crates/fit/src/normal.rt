@@ -1,7 +1,7 @@
 // The normal equations of the fit, summed sample by sample in a 16 by 17 matrix, and their solution.
 // Internal: a function with a `requires` is called by proved code alone.
 ghost use mathlib.Core.Path.{_≡_};
-ghost use Prim.Native.Nat.{_<_, _≤_};
+ghost use Prim.Native.Nat.{_≤_};
 ghost use Rattle.solve.specs.Elimination.{eliminated};
 ghost use Rattle.fit.specs.Fit.{zeros, termOf, basisOf, crossed, targetAt, sampled, equations, ridged, coefficientsOf};
 ghost use Rattle.fit.specs.Samples.{Samples};
