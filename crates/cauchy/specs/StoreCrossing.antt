@@ -10,6 +10,7 @@ use Rattle.base.specs.Floats.{+0}
 use Rattle.density.specs.declared.convention.Convention.{Convention}
 use Rattle.density.specs.declared.convention.Convention.the-variants.{Raw, Rho0, Mass}
 use Rattle.store.specs.Calls.{After}
+use Rattle.cauchy.specs.Volumes.{massFrom}
 use Rattle.cauchy.specs.declared.stores.CauchyOpened.{CauchyOpened}
 use Rattle.cauchy.specs.declared.stores.CauchyPlaced.{CauchyPlaced}
 use Rattle.cauchy.specs.declared.stores.CauchySteps.{CauchySteps}
@@ -49,15 +50,7 @@ abbrev pub reportFrom : Answer → CauchyStoreReport
 reportFrom a =
     record {
       no = a .refusal;
-      report = record {
-        «raw_mass» = getD (a .floats) 0 +0;
-        «rho0_scale» = getD (a .floats) 1 +0;
-        «rho0_mass» = getD (a .floats) 2 +0;
-        «applied_scale» = getD (a .floats) 3 +0;
-        «applied_mass» = getD (a .floats) 4 +0;
-        «target_mass» = getD (a .floats) 5 +0;
-        volume = getD (a .floats) 6 +0;
-      };
+      report = massFrom a;
       kernels = getD (a .counts) 0 0;
       pieces = getD (a .counts) 1 0;
       error = getD (a .floats) 7 +0;

@@ -2,6 +2,7 @@
 use lib.ListN.{getD}
 use Rattle.base.specs.Floats.{+0}
 use Rattle.base.specs.Answers.{Answer}
+use Rattle.density.specs.declared.report.MassReport.{MassReport}
 use Rattle.cauchy.specs.declared.volumes.CauchyValue.{CauchyValue}
 use Rattle.cauchy.specs.declared.volumes.CauchyPoint.{CauchyPoint}
 use Rattle.cauchy.specs.declared.volumes.CauchyReport.{CauchyReport}
@@ -18,18 +19,18 @@ pointFrom a =
       at = record { x = getD (a .floats) 0 +0; y = getD (a .floats) 1 +0; z = getD (a .floats) 2 +0 };
     }
 
--- an answer of a report's seven
-abbrev pub reportFrom : Answer → CauchyReport
-reportFrom a =
+-- an answer of a report's seven, "in `MassReport` order"
+abbrev pub massFrom : Answer → MassReport
+massFrom a =
     record {
-      no = a .refusal;
-      report = record {
-        «raw_mass» = getD (a .floats) 0 +0;
-        «rho0_scale» = getD (a .floats) 1 +0;
-        «rho0_mass» = getD (a .floats) 2 +0;
-        «applied_scale» = getD (a .floats) 3 +0;
-        «applied_mass» = getD (a .floats) 4 +0;
-        «target_mass» = getD (a .floats) 5 +0;
-        volume = getD (a .floats) 6 +0;
-      };
+      «raw_mass» = getD (a .floats) 0 +0;
+      «rho0_scale» = getD (a .floats) 1 +0;
+      «rho0_mass» = getD (a .floats) 2 +0;
+      «applied_scale» = getD (a .floats) 3 +0;
+      «applied_mass» = getD (a .floats) 4 +0;
+      «target_mass» = getD (a .floats) 5 +0;
+      volume = getD (a .floats) 6 +0;
     }
+
+abbrev pub reportFrom : Answer → CauchyReport
+reportFrom a = record { no = a .refusal; report = massFrom a }

@@ -1,4 +1,5 @@
 -- 01, "Volume, mass, weights": the mass report; "Remainder": `homogeneous`. Native density.rs. Definitions only.
+use mathlib.Core.List.{List, [], _∷_}
 use lib.Ieee.{Float}
 use Rattle.base.specs.Floats.{_⊗_, +0}
 use Rattle.base.specs.Constants.{one}
@@ -20,6 +21,18 @@ reportOf v raw rho0 volume =
       «target_mass» = targetOf v;
       volume = volume;
     }
+
+-- its values: "the first seven in `MassReport` order"
+abbrev pub reportValues : MassReport → List Float
+reportValues m =
+    m .«raw_mass»
+    ∷ m .«rho0_scale»
+    ∷ m .«rho0_mass»
+    ∷ m .«applied_scale»
+    ∷ m .«applied_mass»
+    ∷ m .«target_mass»
+    ∷ m .volume
+    ∷ []
 
 -- `homogeneous`: the bulk density is taken as given
 unfoldable pub homogeneousOf : Float → Float → MassReport

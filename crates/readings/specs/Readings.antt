@@ -21,7 +21,7 @@ use Rattle.density.specs.declared.convention.Convention.the-variants.{Raw, Rho0
 use Rattle.density.specs.declared.report.MassReport.{MassReport}
 use Rattle.density.specs.Densitize.{densitizeOf}
 use Rattle.density.specs.Conventions.{bulkOf, rho0Scale, appliedScale}
-use Rattle.density.specs.Reports.{reportOf}
+use Rattle.density.specs.Reports.{reportValues, reportOf}
 use Rattle.layout.specs.Layout.{slotLimit, centreOf, weightOf, alphaOf, errorOf, pieceFrom, vertsOf, facesOf, statusOf}
 use Rattle.layout.specs.Soundness.{storeCheck}
 use Rattle.layout.specs.Left.{held, leftOf}
@@ -97,13 +97,13 @@ pub record Seen : Type 0 where
 abbrev pub seeing : List Part → Float → ℕ → Float → Seen
 seeing ps body filled worst = record { parts = ps; body = body; filled = filled; worst = worst }
 
--- "Report adds filled count, pieces, greatest error"; "the first seven in `MassReport` order"
+-- "Report adds filled count, pieces, greatest error"
 abbrev pub reported : MassReport → ℕ → ℕ → Float → Answer
 reported r filled pieces worst =
     record {
       refusal = 0;
       counts = filled ∷ pieces ∷ [];
-      floats = r .«raw_mass» ∷ r .«rho0_scale» ∷ r .«rho0_mass» ∷ r .«applied_scale» ∷ r .«applied_mass» ∷ r .«target_mass» ∷ r .volume ∷ worst ∷ [];
+      floats = reportValues r ++ (worst ∷ []);
     }
 
 -- "List writes c, sigma, rescaled w, alpha per piece"

@@ -1,28 +1,15 @@
 -- 01, "Remainder": `homogeneous` of native density.rs, on a mesh. Definitions only.
 use Prim.Native.Nat.{ℕ}
-use mathlib.Core.List.{List, [], _∷_}
+use mathlib.Core.List.{List}
 use lib.ListN.{length}
 use lib.Ieee.{Float}
 use Rattle.base.specs.Answers.{Answer, accepted, refused, answered}
 use Rattle.mesh.specs.Triangles.{triangleAt, faceCount}
 use Rattle.mesh.specs.Checks.{meshCheck}
 use Rattle.volume.specs.Volume.{bodyVolume}
-use Rattle.density.specs.declared.report.MassReport.{MassReport}
-use Rattle.density.specs.Reports.{homogeneousOf}
+use Rattle.density.specs.Reports.{reportValues, homogeneousOf}
 use Rattle.reports.specs.declared.Reported.{Reported}
 use Rattle.reports.specs.declared.Reported.the-variants.{Report, Refused}
-
--- a report's values, "in `MassReport` order"
-abbrev pub reportValues : MassReport → List Float
-reportValues m =
-    m .«raw_mass»
-    ∷ m .«rho0_scale»
-    ∷ m .«rho0_mass»
-    ∷ m .«applied_scale»
-    ∷ m .«applied_mass»
-    ∷ m .«target_mass»
-    ∷ m .volume
-    ∷ []
 
 -- number and values of each case
 abbrev pub reportedAs : Reported → Answer
