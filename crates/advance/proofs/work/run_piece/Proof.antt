@@ -5,7 +5,8 @@ use Prim.Native.Nat.{_+_, _-_, _*_, _<_}
 use native.Mathlib.Omega.{arith}
 use lib.Ieee.{Float}
 use Rattle.layout.specs.Layout.{width}
-use Rattle.advance.specs.Steps.{held, work}
+use Rattle.layout.specs.Left.{held}
+use Rattle.advance.specs.Steps.{work}
 use Rattle.advance.proofs.Steps.{piece-end, piece-more, left-chunk}
 use borrow.Author.Needs.{needs}
 use Rattle.advance.proofs.work.run_piece.Statement.{statement}
