@@ -6,7 +6,7 @@ const ROUNDS: usize = 25;
 /// How often a way runs in a round: the first time fetches into the caches what the others find there.
 const TIMES: usize = 3;
 /// A long way runs once, in one round of so many.
-const SELDOM: usize = 5;
+const SELDOM: usize = 2;
 
 pub fn how() -> String {
     format!("the least of {} times in {ROUNDS} rounds, of {} for the long ones (*)", TIMES * ROUNDS, ROUNDS.div_ceil(SELDOM))
