@@ -49,7 +49,7 @@ pub record Outcome : Type 0 where
 abbrev pub outcome : Answer → List Float → Outcome
 outcome r xs = record { reply = r; out = xs }
 
--- what follows where a check passes; else its refusal, the run as it was
+-- "a refused call changes nothing": what follows where a check passes; else its refusal, the run as it was
 abbrev pub guardedRun : Checked → List Float → Outcome → Outcome
 guardedRun Passed xs good = good
 guardedRun (Failed r) xs good = outcome (refused r) xs

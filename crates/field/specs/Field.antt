@@ -1,4 +1,4 @@
--- A mesh with a list of kernels: a kernel's centre, and what refuses the two. Definitions only.
+-- 01, "Volume, mass, weights", and rows 1 to 3 and 9 of the table: a mesh with a list of kernels. Definitions only.
 use Prim.Native.Nat.{ℕ}
 use mathlib.Core.List.{List}
 use lib.ListN.{getD}

@@ -1,4 +1,5 @@
-// One call on the store, and its answer.
+// One call on the store, and its answer. Internal: the program's own; that the store is changed as 01 says and what is printed is held
+// to the file stdout by the run.
 use crate::body::FACES;
 use crate::body::XYZ;
 use crate::digest::digest_floats;

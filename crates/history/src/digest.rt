@@ -1,4 +1,4 @@
-// A digest of every word of a run.
+// A digest of every word of a run. Internal: the program's own.
 use base::floats::to_pattern;
 use runs::word;
 

@@ -1,4 +1,4 @@
-// The words of an answer's line.
+// The words of an answer's line. Internal: the program's own.
 use crate::digest::digest_floats;
 use crate::digest::digest_words;
 use base::floats::to_pattern;

@@ -9,7 +9,7 @@ use lib.ListN.{length}
 use lib.Ieee.{Float}
 use borrow.Author.Tests.{lt-ltb, ltb-true}
 use Rattle.base.specs.Refusals.{number}
-use Rattle.base.specs.Answers.{andThen, Answer, refused, counted, Outcome, outcome}
+use Rattle.base.specs.Answers.{andThen, Answer, refused, counted, Outcome, outcome, guardedRun}
 use Rattle.base.specs.declared.refusal.Refusal.{Refusal}
 use Rattle.base.specs.declared.refusal.Refusal.the-variants.{Ragged, Oversize, LooseCorner, ShortStore, Unfinished, ShortList}
 use Rattle.base.specs.declared.refusal.Checked.the-variants.{Passed, Failed}
@@ -28,7 +28,7 @@ use Rattle.machine.proofs.Claim.{one-call, kept, books}
 use Rattle.machine.proofs.Opened.{opens, opened-valid}
 
 -- ---- what is answered is never 8
-listed-not : (b : Bool) (n : ℕ) (o out : List Float) → cond b (outcome (counted (n ∷ [])) o) (outcome (refused ShortList) out) .reply .refusal ≡ 8 → ⊥
+listed-not : (b : Bool) (n : ℕ) (o out : List Float) → guardedRun (cond b Passed (Failed ShortList)) out (outcome (counted (n ∷ [])) o) .reply .refusal ≡ 8 → ⊥
 listed-not true n o out e = omega arith
 listed-not false n o out e = omega arith
 

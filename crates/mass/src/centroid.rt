@@ -19,14 +19,8 @@ use mesh::triangles::normal_of;
 use mesh::triangles::triangle_at;
 use mesh::vectors::V3;
 use mesh::vectors::dot;
+use volume::faces::ORIGIN;
 use volume::faces::body_volume_of;
-
-// Zeros.
-const ORIGIN: V3 = V3 {
-    x: 0.0,
-    y: 0.0,
-    z: 0.0,
-};
 
 // The sums after the point at a node, for the normal n.
 fn moment(acc: V3, t: Triangle, n: V3, k: Node) -> V3

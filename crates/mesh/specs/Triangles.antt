@@ -21,7 +21,7 @@ triangleAt xyz corners f =
       c = vertex xyz (getD corners (3 * f + 2) 0);
     }
 
--- the raw normal: cross(p1 - p0, p2 - p1)
+-- the raw normal, of native mass.rs: cross(p1 - p0, p2 - p1)
 unfoldable pub normalOf : Triangle → V3
 normalOf t = cross (vsub (t .b) (t .a)) (vsub (t .c) (t .b))
 

@@ -2,7 +2,7 @@
 use mathlib.Core.Path.{_≡_, refl, ap}
 use mathlib.Core.List.{List}
 use Prim.Native.Nat.{_*_, _≤_, _<_}
-use borrow.Author.Tests.{lt-ltb, le-ltb}
+use borrow.Author.Tests.{lt-leb, le-leb}
 use lib.ListN.{length}
 use lib.Ieee.{Float}
 use Rattle.base.specs.declared.refusal.Refusal.the-variants.{ShortList}
@@ -19,8 +19,8 @@ module _ (k : Kernel) (radius : Float) (p : Pieces) (e : p ≡ decomposed k radi
 
   pub refuses : (xs : List Float) → length xs < 6 * p .count → outcome (refused ShortList) xs ≡ decomposition k radius xs
   unfolding decomposition
-  refuses xs h = rw (← e, lt-ltb (length xs) (6 * p .count) h) refl
+  refuses xs h = rw (← e, lt-leb (6 * p .count) (length xs) h) refl
 
   pub writes : (xs ys : List Float) → 6 * p .count ≤ length xs → ys ≡ laid 0 k p xs → outcome (fitted (p .count) (p .error)) ys ≡ decomposition k radius xs
   unfolding decomposition
-  writes xs ys h l = rw (← e, le-ltb (length xs) (6 * p .count) h) (ap (outcome (fitted (p .count) (p .error))) l)
+  writes xs ys h l = rw (← e, le-leb (6 * p .count) (length xs) h) (ap (outcome (fitted (p .count) (p .error))) l)

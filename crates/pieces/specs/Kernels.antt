@@ -1,14 +1,11 @@
 -- 01, "Pieces" and "The store": pieces written as kernels, "six floats each". Definitions only.
 use Prim.Native.Nat.{ℕ, _+_, _*_}
-use mathlib.Core.Bool.{cond}
 use mathlib.Core.List.{List, [], _∷_}
-use lib.Dec.{ltb}
 use lib.ListN.{getD, length}
 use lib.Ieee.{Float, nan}
 use Rattle.base.specs.Floats.{_⊗_}
 use Rattle.base.specs.Loops.{times}
-use Rattle.base.specs.Answers.{Answer, refused, Outcome, outcome}
-use Rattle.base.specs.declared.refusal.Refusal.the-variants.{ShortList}
+use Rattle.base.specs.Answers.{Answer, refused, Outcome, outcome, guardedRun, roomCheck}
 use Rattle.kernel.specs.declared.kernel.Kernel.{Kernel}
 use Rattle.kernel.specs.Kernels.{kernelSet}
 use Rattle.pieces.specs.declared.pieces.Pieces.{Pieces}
@@ -34,8 +31,7 @@ fitted n e = record { refusal = 0; counts = n ∷ []; floats = e ∷ [] }
 -- row 9: "run to be written under 6 floats per piece"
 unfoldable pub decomposition : Kernel → Float → List Float → Outcome
 decomposition k radius xs =
-    cond (ltb (length xs) (6 * decomposed k radius .count))
-    (outcome (refused ShortList) xs)
+    guardedRun (roomCheck (6 * decomposed k radius .count) (length xs)) xs
     (outcome (fitted (decomposed k radius .count) (decomposed k radius .error)) (laid 0 k (decomposed k radius) xs))
 
 -- 01's number and values for each case of the code's answer

@@ -2,14 +2,14 @@
 use mathlib.Core.Bool.{Bool, true, false, _&&_, cond}
 use mathlib.Core.List.{List, [], _∷_, _++_, map}
 use Prim.Native.Nat.{ℕ, zero, suc, _+_, _*_, _-_}
-use lib.Dec.{ltb, leb, eqb}
+use lib.Dec.{ltb, eqb}
 use lib.ListN.{length, getD}
 use lib.Ieee.{Float, nan, lt}
-use Rattle.base.specs.Answers.{Answer, accepted, refused, counted, Outcome, outcome}
+use Rattle.base.specs.Answers.{Answer, accepted, refused, counted, Outcome, outcome, guardedRun, roomCheck}
 use Rattle.base.specs.Floats.{_⊕_, _⊗_, +0, greater}
 use Rattle.base.specs.Loops.{times}
 use Rattle.base.specs.declared.refusal.Refusal.{Refusal}
-use Rattle.base.specs.declared.refusal.Refusal.the-variants.{Unfinished, ShortList}
+use Rattle.base.specs.declared.refusal.Refusal.the-variants.{Unfinished}
 use Rattle.base.specs.declared.refusal.Checked.{Checked}
 use Rattle.base.specs.declared.refusal.Checked.the-variants.{Passed, Failed}
 use Rattle.runs.specs.Runs.{write}
@@ -117,9 +117,8 @@ sixes (k ∷ ks) = six k ++ sixes ks
 -- "and answers the piece count; words past them are untouched"; row 9
 abbrev pub listing : Float → List Kernel → List Float → Outcome
 listing s ks out =
-    cond (leb (6 * length ks) (length out))
+    guardedRun (roomCheck (6 * length ks) (length out)) out
     (outcome (counted (length ks ∷ [])) (write out 0 (sixes (map (rescaled s) ks))))
-    (outcome (refused ShortList) out)
 
 abbrev pub answerOf : Reading → Seen → Outcome
 answerOf (density v x) s =

@@ -25,7 +25,7 @@ use mesh::vectors::sub;
 use radial::radial_g;
 
 // Zeros.
-const ORIGIN: V3 = V3 {
+pub const ORIGIN: V3 = V3 {
     x: 0.0,
     y: 0.0,
     z: 0.0,
