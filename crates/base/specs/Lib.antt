@@ -6,6 +6,8 @@ pub mod ChoiceLaws
 pub mod OrderLaws
 pub mod Constants
 pub mod Split
+pub mod Ranges
+pub mod RangeLaws
 pub mod UnitLaws
 pub mod Refusals
 pub mod RefusalLaws

@@ -1,15 +1,17 @@
 -- A loop that sets each of 28 elements: what is shown of an element that is set, and what is kept of one that is not. Assumes nothing.
-use mathlib.Core.Path.{_≡_, refl, _∙_, subst⁻¹}
+use mathlib.Core.Path.{_≡_, refl, _∙_, subst, subst⁻¹}
 use mathlib.Core.Logic.{inl, inr}
-use Prim.Native.Nat.{ℕ, _+_, _≤_, _<_}
-use native.Mathlib.Nat.{eq-or-lt-of-le, ne-of-lt, ne-of-gt, lt-of-lt-of-le}
+use Prim.Native.Nat.{ℕ, _+_, _/_, _^_, _≤_, _<_}
+use native.Mathlib.Nat.{eq-or-lt-of-le, ne-of-lt, ne-of-gt, lt-of-le-of-lt, lt-of-lt-of-le, one-mul, div-lt-iff-lt-mul}
 use native.Mathlib.Omega.{arith}
 use mathlib.Core.List.{List}
 use lib.ListN.{getD, set, length, length-set}
 use lib.Seq.{getD-set-same, getD-set-other}
+use lib.Dec.{lit<}
+use lib.Pow.{pow-pos}
 use lib.Bits.{bitOr}
 use lib.Ieee.{Float, nan}
-use Rattle.root.specs.Flags.{or-zero}
+use Rattle.root.specs.Flags.{or-most, or-zero}
 use Rattle.lanes.specs.Factors.{All}
 
 -- the elements below i are set, each as P says; the others are those of the list at first
@@ -50,16 +52,36 @@ fills-on {P} {Q} {first} {ys} {i} {y} f h on q =
 pub fills : {P : ℕ → Float → Type 0} {first ys : List Float} {i : ℕ} {y : Float} → Filled P first i ys → i < 28 → P i y → Filled P first (i + 1) (set ys i y)
 fills f h q = fills-on f h (λ j z p. p) q
 
--- ---- where the elements are as P says only if a flag is 0, to which each turn's own flag is or-ed
-abbrev pub If : ℕ → (ℕ → Float → Type 0) → ℕ → Float → Type 0
-If flag P j z = flag ≡ 0 → P j z
+-- ---- where the elements are as P says only if C holds, which says that some flags are clear. Each turn or-es its own to them, so that C then says more
+abbrev pub If : Type 0 → (ℕ → Float → Type 0) → ℕ → Float → Type 0
+If C P j z = C → P j z
 
-pub fills-if : {P : ℕ → Float → Type 0} {first ys : List Float} {i : ℕ} {y : Float} (a b : ℕ) → Filled (If a P) first i ys → i < 28 → (b ≡ 0 → P i y) → Filled (If (bitOr a b) P) first (i + 1) (set ys i y)
-fills-if a b f h q = fills-on f h (λ j z p e. p (or-zero a b e .0)) (λ e. q (or-zero a b e .1))
+pub fills-if : {C D : Type 0} {P : ℕ → Float → Type 0} {first ys : List Float} {i : ℕ} {y : Float} → Filled (If C P) first i ys → i < 28 → (D → C) → (D → P i y) → Filled (If D P) first (i + 1) (set ys i y)
+fills-if f h on q = fills-on f h (λ j z p d. p (on d)) q
 
-pub all-if : {P : ℕ → Float → Type 0} {first ys : List Float} {i : ℕ} {flag : ℕ} → Filled (If flag P) first i ys → 28 ≤ i → flag ≡ 0 → All P ys
+-- C: the flag is 0
+pub fills-or : {P : ℕ → Float → Type 0} {first ys : List Float} {i : ℕ} {y : Float} (a b : ℕ) → Filled (If (a ≡ 0) P) first i ys → i < 28 → (b ≡ 0 → P i y) → Filled (If (bitOr a b ≡ 0) P) first (i + 1) (set ys i y)
+fills-or a b f h q = fills-if f h (λ e. or-zero a b e .0) (λ e. q (or-zero a b e .1))
+
+pub all-if : {C : Type 0} {P : ℕ → Float → Type 0} {first ys : List Float} {i : ℕ} → Filled (If C P) first i ys → 28 ≤ i → C → All P ys
 all-if f h e = record { at = λ j l. f .done j (lt-of-lt-of-le l h) e }
 
 -- a flag that is set
-pub flagged : {P : Type 0} → _≡_ {A = ℕ} 1 0 → P
+pub flagged : {P : Type 0} → _≡_ {A = ℕ} 18446744073709551615 0 → P
 flagged e = absurd (omega arith)
+
+-- ---- two words, as a lane has them, both small
+abbrev pub Clear : ℕ → ℕ → ℕ → Type 0
+Clear k coarse far = (coarse < 2 ^ 36) × (far < 2 ^ k)
+
+pub clear-zero : (k a b : ℕ) → bitOr (a / 2 ^ 36) (b / 2 ^ k) ≡ 0 → Clear k a b
+clear-zero k a b e = let z = or-zero (a / 2 ^ 36) (b / 2 ^ k) e in (under 36 a (z .0), under k b (z .1))
+  where
+    under : (j n : ℕ) → n / 2 ^ j ≡ 0 → n < 2 ^ j
+    under j n h = subst (λ (m : ℕ). n < m) (one-mul (2 ^ j)) (div-lt-iff-lt-mul (pow-pos j) .0 (subst⁻¹ (λ (m : ℕ). m < 1) h (lit< tt)))
+
+pub clear-or : (k a b c d : ℕ) → Clear k (bitOr a b) (bitOr c d) → Clear k a c × Clear k b d
+clear-or k a b c d h =
+    let m = or-most a b in
+    let n = or-most c d in
+    ((lt-of-le-of-lt (m .0) (h .0), lt-of-le-of-lt (n .0) (h .1)), (lt-of-le-of-lt (m .1) (h .0), lt-of-le-of-lt (n .1) (h .1)))

@@ -1,16 +1,17 @@
 -- The steps together: what each did of its list makes the factors. Assumes nothing.
-use mathlib.Core.Path.{sym, ap, _∙_}
+use mathlib.Core.Path.{sym, ap, _∙_, subst⁻¹}
 use mathlib.Core.List.{List}
 use lib.ListN.{getD}
 use lib.Ieee.{Float, nan, binary64}
 use Rattle.base.specs.Floats.{_⊕_, _⊘_}
 use Rattle.base.specs.Constants.{one}
+use Rattle.base.specs.Ranges.{Within}
 use Rattle.root.specs.Root.{squareRoot}
 use Rattle.powers.specs.Arc.{halved}
 use Rattle.radial.specs.Radial.{radialG}
 use Rattle.lanes.specs.Factors.{factor, Each}
-use Rattle.lanes.specs.Stages.{radius, inverted, radicand, quotient, AllLarge, Halves, Quotients}
-use Rattle.lanes.proofs.Points.{large-is}
+use Rattle.lanes.specs.Stages.{radius, inverted, radicand, quotient, AllLarge, Tangents, Radicands, Halves, Quotients}
+use Rattle.lanes.proofs.Points.{large-is, tangent-of, radicand-of}
 
 pub halves-are : (vs : List Float) {fs ws : List Float} → Each radicand vs fs → Halves vs fs ws → Each halved vs ws
 unfolding halved
@@ -18,6 +19,15 @@ halves-are vs e h = record { at = λ i l. h .at i l ∙ ap (λ (f : Float). getD
 
 of-inverted : (ts : List Float) {vs fs : List Float} → Each inverted ts vs → Each (λ s. radicand (inverted s)) ts fs → Each radicand vs fs
 of-inverted ts e f = record { at = λ i l. f .at i l ∙ ap radicand (sym (e .at i l)) }
+
+pub tangents-of : (ts : List Float) {vs : List Float} → AllLarge ts → Each inverted ts vs → Tangents vs
+tangents-of ts h e = record { at = λ i l. subst⁻¹ (Within 0 1) (e .at i l) (tangent-of (getD ts i nan) (h .at i l)) }
+
+pub radicands-of : (vs : List Float) {fs : List Float} → Tangents vs → Each radicand vs fs → Radicands fs
+radicands-of vs h e = record { at = λ i l. subst⁻¹ (Within 1 2) (e .at i l) (radicand-of (getD vs i nan) (h .at i l)) }
+
+pub start-within : (ts : List Float) {vs fs : List Float} → AllLarge ts → Each inverted ts vs × Each (λ s. radicand (inverted s)) ts fs → Radicands fs × Tangents vs
+start-within ts {vs} h e = let t = tangents-of ts h (e .0) in (radicands-of vs t (of-inverted ts (e .0) (e .1)), t)
 
 pub by-arcs : {ts a d b c gs : List Float} → AllLarge ts → Each inverted ts a × Each (λ s. radicand (inverted s)) ts d → Halves a d b → Each halved b c → Quotients ts c gs → Each radialG ts gs
 by-arcs {ts} {a} l e f g q = let k = halves-are a (of-inverted ts (e .0) (e .1)) f in record { at = λ i h. q .at i h ∙ ap (quotient (getD ts i nan)) (g .at i h ∙ ap halved (k .at i h ∙ ap halved (e .0 .at i h))) ∙ large-is (getD ts i nan) (l .at i h) }

@@ -1,11 +1,12 @@
 -- What a step computes of one point and of 28, for the functions' contracts. Definitions only.
 use mathlib.Core.Path.{_≡_}
-use mathlib.Core.Bool.{true, cond}
+use mathlib.Core.Bool.{true, false, cond}
 use mathlib.Core.List.{List}
 use lib.ListN.{getD}
 use lib.Ieee.{Float, nan, binary64, lt, le}
 use Rattle.base.specs.Floats.{_⊕_, _⊖_, _⊗_, _⊘_, abs}
 use Rattle.base.specs.Constants.{one, halfPi, tenth}
+use Rattle.base.specs.Ranges.{Within}
 use Rattle.root.specs.Root.{squareRoot}
 use Rattle.powers.specs.Arc.{arcCore}
 use Rattle.lanes.specs.declared.radii.Found.{Found}
@@ -18,6 +19,10 @@ radius sigma x = sigma ⊗ squareRoot binary64 x
 -- t is at least 0.1, so the quotient is taken, and t is its own absolute value
 abbrev pub Large : Float → Type 0
 Large t = le tenth t ≡ true
+
+-- t is not above 1, so it is not inverted
+abbrev pub Low : Float → Type 0
+Low t = lt one t ≡ false
 
 -- the series is taken
 abbrev pub Small : Float → Type 0
@@ -43,9 +48,19 @@ quotient t v = (t ⊖ turned t (arcCore v)) ⊘ (t ⊗ t ⊗ t)
 abbrev pub AllLarge : List Float → Type 0
 AllLarge ts = All (λ i t. Large t) ts
 
+abbrev pub AllLow : List Float → Type 0
+AllLow ts = All (λ i t. Low t) ts
+
 -- what the flags tell of the radii
 abbrev pub Radii : Float → List Float → Found → List Float → Type 0
-Radii sigma xs r ts = (r .flag ≡ 0 → Each (radius sigma) xs ts) × (r .low ≡ 0 → AllLarge ts)
+Radii sigma xs r ts = (r .flag ≡ 0 → Each (radius sigma) xs ts) × (r .low ≡ 0 → AllLarge ts) × (r .high ≡ 0 → AllLow ts)
+
+-- tangents of angles up to 45 degrees, and what the roots are taken of
+abbrev pub Tangents : List Float → Type 0
+Tangents vs = All (λ i v. Within 0 1 v) vs
+
+abbrev pub Radicands : List Float → Type 0
+Radicands fs = All (λ i f. Within 1 2 f) fs
 
 -- ws are the vs halved, fs being the radicands
 abbrev pub Halves : List Float → List Float → List Float → Type 0

@@ -1,11 +1,12 @@
 // The radial factors of 28 radii of at least 0.1, by the arc tangent. The steps take runs of 28
-// floats, as each `requires` says.
+// floats, as each `requires` says. Where no radius is above 1 they are their own tangents' start, and the
+// arc is not turned: that path saves a division and two choices a point.
 ghost use mathlib.Core.Path.{_≡_};
 ghost use lib.ListN.{length};
 ghost use Rattle.powers.specs.Arc.{halved};
 ghost use Rattle.radial.specs.Radial.{radialG};
 ghost use Rattle.lanes.specs.Factors.{Each};
-ghost use Rattle.lanes.specs.Stages.{inverted, turned, radicand, quotient, AllLarge, Halves, Quotients};
+ghost use Rattle.lanes.specs.Stages.{Low, inverted, turned, radicand, quotient, AllLarge, AllLow, Radicands, Tangents, Halves, Quotients};
 use crate::radii::sharpen_all;
 use powers::arc::arc_core;
 use root::lanes::near_one;
@@ -35,8 +36,30 @@ fn quotient(t: f64, v: f64) -> f64
     (t - turned(t, arc_core(v))) / (t * t * t)
 }
 
+// The same where t is not above 1.
+fn low_quotient(t: f64, v: f64) -> f64
+    requires { ⌜ Low t ⌝ }
+    ensures { λ r. ⌜ r ≡ quotient t v ⌝ }
+{
+    (t - arc_core(v)) / (t * t * t)
+}
+
 // What the halvings start from, the radicands f of the first, and guesses for their roots, of which
-// nothing is promised. In a loop of its own the division is written out 28 times, with branches.
+// nothing is promised. Where no radius is above 1 nothing is divided.
+fn as_given(t: &[f64], v: &mut [f64], f: &mut [f64], y: &mut [f64])
+    requires { ⌜ (length (now t) ≡ 28) × (length (now v) ≡ 28) × (length (now f) ≡ 28) × (length (now y) ≡ 28) × AllLow (now t) ⌝ }
+    ensures { λ _. ⌜ Each inverted (now (t .entry)) (now (v .exit)) × Each (λ s. radicand (inverted s)) (now (t .entry)) (now (f .exit)) ⌝ }
+{
+    for i in 0..28usize {
+        let a = t[i];
+        let s = 1.0 + a * a;
+        v[i] = a;
+        f[i] = s;
+        y[i] = near_unit(s);
+    }
+}
+
+// The same of any radii. In a loop of its own the division is written out 28 times, with branches.
 fn invert(t: &[f64], v: &mut [f64], f: &mut [f64], y: &mut [f64])
     requires { ⌜ (length (now t) ≡ 28) × (length (now v) ≡ 28) × (length (now f) ≡ 28) × (length (now y) ≡ 28) ⌝ }
     ensures { λ _. ⌜ Each inverted (now (t .entry)) (now (v .exit)) × Each (λ s. radicand (inverted s)) (now (t .entry)) (now (f .exit)) ⌝ }
@@ -47,6 +70,18 @@ fn invert(t: &[f64], v: &mut [f64], f: &mut [f64], y: &mut [f64])
         v[i] = a;
         f[i] = s;
         y[i] = near_unit(s);
+    }
+}
+
+// The same, by what `high` says of the radii.
+fn start(t: &[f64], high: u64, v: &mut [f64], f: &mut [f64], y: &mut [f64])
+    requires { ⌜ (length (now t) ≡ 28) × (length (now v) ≡ 28) × (length (now f) ≡ 28) × (length (now y) ≡ 28) × (high ≡ 0 → AllLow (now t)) ⌝ }
+    ensures { λ _. ⌜ Each inverted (now (t .entry)) (now (v .exit)) × Each (λ s. radicand (inverted s)) (now (t .entry)) (now (f .exit)) ⌝ }
+{
+    if high == 0 {
+        as_given(t, v, f, y);
+    } else {
+        invert(t, v, f, y);
     }
 }
 
@@ -65,38 +100,50 @@ fn guess_second(v: &[f64], f: &mut [f64], y: &mut [f64])
 
 // The tangents of the half angles, from the radicands f and guesses y, if the flag is 0.
 fn halve(f: &[f64], y: &[f64], v: &mut [f64]) -> u64
-    requires { ⌜ (length (now f) ≡ 28) × (length (now y) ≡ 28) × (length (now v) ≡ 28) ⌝ }
-    ensures { λ r. ⌜ (r ≡ 0 → Halves (now (v .entry)) (now (f .entry)) (now (v .exit))) ⌝ }
+    requires { ⌜ (length (now f) ≡ 28) × (length (now y) ≡ 28) × (length (now v) ≡ 28) × Radicands (now f) × Tangents (now v) ⌝ }
+    ensures { λ r. ⌜ Tangents (now (v .exit)) × (r ≡ 0 → Halves (now (v .entry)) (now (f .entry)) (now (v .exit))) ⌝ }
 {
-    let mut flag = 0u64;
+    let mut coarse = 0u64;
+    let mut far = 0u64;
     for i in 0..28usize {
         let p = unit_lane(f[i], y[i]);
         v[i] = v[i] / (1.0 + p.root);
-        flag = flag | p.flag;
+        coarse = coarse | p.coarse;
+        far = far | p.far;
     }
-    flag
+    (coarse >> 36) | (far >> 54)
 }
 
 // A halving, by guesses that are made better first.
 fn halve_by(f: &[f64], y: &mut [f64], v: &mut [f64]) -> u64
-    requires { ⌜ (length (now f) ≡ 28) × (length (now y) ≡ 28) × (length (now v) ≡ 28) ⌝ }
-    ensures { λ r. ⌜ (r ≡ 0 → Halves (now (v .entry)) (now (f .entry)) (now (v .exit))) ⌝ }
+    requires { ⌜ (length (now f) ≡ 28) × (length (now y) ≡ 28) × (length (now v) ≡ 28) × Radicands (now f) × Tangents (now v) ⌝ }
+    ensures { λ r. ⌜ Tangents (now (v .exit)) × (r ≡ 0 → Halves (now (v .entry)) (now (f .entry)) (now (v .exit))) ⌝ }
 {
-    sharpen_all(f, y);
+    sharpen_all(f, y, 7.8e-17);
     halve(f, y, v)
 }
 
 // The second halving; f is for the radicands and y for guesses.
 fn halve_again(v: &mut [f64], f: &mut [f64], y: &mut [f64]) -> u64
-    requires { ⌜ (length (now v) ≡ 28) × (length (now f) ≡ 28) × (length (now y) ≡ 28) ⌝ }
+    requires { ⌜ (length (now v) ≡ 28) × (length (now f) ≡ 28) × (length (now y) ≡ 28) × Tangents (now v) ⌝ }
     ensures { λ r. ⌜ (r ≡ 0 → Each halved (now (v .entry)) (now (v .exit))) ⌝ }
 {
     guess_second(v, f, y);
     halve_by(f, y, v)
 }
 
-// The factors of the radii t, v being what the halvings leave.
-fn quotients(t: &[f64], v: &[f64], g: &mut [f64])
+// The factors of the radii t, none above 1, v being what the halvings leave.
+fn low_quotients(t: &[f64], v: &[f64], g: &mut [f64])
+    requires { ⌜ (length (now t) ≡ 28) × (length (now v) ≡ 28) × (length (now g) ≡ 28) × AllLow (now t) ⌝ }
+    ensures { λ _. ⌜ Quotients (now (t .entry)) (now (v .entry)) (now (g .exit)) ⌝ }
+{
+    for i in 0..28usize {
+        g[i] = low_quotient(t[i], v[i]);
+    }
+}
+
+// The factors of any radii t.
+fn any_quotients(t: &[f64], v: &[f64], g: &mut [f64])
     requires { ⌜ (length (now t) ≡ 28) × (length (now v) ≡ 28) × (length (now g) ≡ 28) ⌝ }
     ensures { λ _. ⌜ Quotients (now (t .entry)) (now (v .entry)) (now (g .exit)) ⌝ }
 {
@@ -105,15 +152,27 @@ fn quotients(t: &[f64], v: &[f64], g: &mut [f64])
     }
 }
 
-// The factors of the radii t, if the flag is 0; v is for the tangents, f for the radicands, and g for
-// guesses before it holds the factors.
-pub fn arcs(t: &[f64], v: &mut [f64], f: &mut [f64], g: &mut [f64]) -> u64
-    requires { ⌜ (length (now t) ≡ 28) × (length (now v) ≡ 28) × (length (now f) ≡ 28) × (length (now g) ≡ 28) ⌝ }
-    ensures { λ r. ⌜ (r ≡ 0 → AllLarge (now (t .entry)) → Each radialG (now (t .entry)) (now (g .exit))) ⌝ }
+// The factors, by what `high` says of the radii.
+fn quotients(t: &[f64], high: u64, v: &[f64], g: &mut [f64])
+    requires { ⌜ (length (now t) ≡ 28) × (length (now v) ≡ 28) × (length (now g) ≡ 28) × (high ≡ 0 → AllLow (now t)) ⌝ }
+    ensures { λ _. ⌜ Quotients (now (t .entry)) (now (v .entry)) (now (g .exit)) ⌝ }
 {
-    invert(t, v, f, g);
+    if high == 0 {
+        low_quotients(t, v, g);
+    } else {
+        any_quotients(t, v, g);
+    }
+}
+
+// The factors of radii t of at least 0.1, none above 1 if `high` is 0, if the flag is 0; v is for the
+// tangents, f for the radicands, and g for guesses before it holds the factors.
+pub fn arcs(t: &[f64], high: u64, v: &mut [f64], f: &mut [f64], g: &mut [f64]) -> u64
+    requires { ⌜ (length (now t) ≡ 28) × (length (now v) ≡ 28) × (length (now f) ≡ 28) × (length (now g) ≡ 28) × AllLarge (now t) × (high ≡ 0 → AllLow (now t)) ⌝ }
+    ensures { λ r. ⌜ (r ≡ 0 → Each radialG (now (t .entry)) (now (g .exit))) ⌝ }
+{
+    start(t, high, v, f, g);
     let first = halve_by(f, g, v);
     let second = halve_again(v, f, g);
-    quotients(t, v, g);
+    quotients(t, high, v, g);
     first | second
 }

@@ -32,7 +32,7 @@ fn staged(x: &[f64], sigma: f64, t: &mut [f64], v: &mut [f64], f: &mut [f64], g:
 {
     let found = radii_of(x, sigma, f, g, t);
     if found.low == 0 {
-        return found.flag | arcs(t, v, f, g);
+        return found.flag | arcs(t, found.high, v, f, g);
     }
     found.flag | all_series(t, g)
 }

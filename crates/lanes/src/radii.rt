@@ -2,15 +2,17 @@
 // runs of 28 floats, as each `requires` says.
 ghost use mathlib.Core.Path.{_≡_};
 ghost use lib.ListN.{length};
-ghost use Rattle.lanes.specs.Stages.{Large, Radii};
+ghost use Rattle.lanes.specs.Stages.{Large, Low, Radii};
 use root::lanes::any_lane;
 use root::lanes::near;
 use root::lanes::sharpen;
 
-// What was found of the radii: they hold if the flag is 0, and all are at least 0.1 if low is 0.
+// What was found of the radii: they hold if the flag is 0, all are at least 0.1 if low is 0, and none is
+// above 1 if high is 0.
 pub struct Found {
     pub flag: u64,
     pub low: u64,
+    pub high: u64,
 }
 
 // Guesses y for the roots of the significands f, of which nothing is promised.
@@ -24,20 +26,27 @@ fn guess(x: &[f64], f: &mut [f64], y: &mut [f64])
     }
 }
 
-// Better guesses.
-pub fn sharpen_all(f: &[f64], y: &mut [f64])
+// Better guesses; `less` is as `sharpen` takes it.
+pub fn sharpen_all(f: &[f64], y: &mut [f64], less: f64)
     requires { ⌜ (length (now f) ≡ 28) × (length (now y) ≡ 28) ⌝ }
 {
     for i in 0..28usize {
-        y[i] = sharpen(f[i], y[i]);
+        y[i] = sharpen(f[i], y[i], less);
     }
 }
 
-// 0 where t is at least 0.1.
+// 0 where t is at least 0.1, else all ones, as SSE2's comparisons answer.
 fn not_large(t: f64) -> u64
     ensures { λ r. ⌜ (r ≡ 0 → Large t) ⌝ }
 {
-    if t >= 0.1 { 0 } else { 1 }
+    if t >= 0.1 { 0 } else { u64::MAX }
+}
+
+// 0 where t is not above 1, else all ones.
+fn not_low(t: f64) -> u64
+    ensures { λ r. ⌜ (r ≡ 0 → Low t) ⌝ }
+{
+    if t > 1.0 { u64::MAX } else { 0 }
 }
 
 // The radii, by the guesses y.
@@ -45,16 +54,24 @@ fn radii(x: &[f64], y: &[f64], sigma: f64, t: &mut [f64]) -> Found
     requires { ⌜ (length (now x) ≡ 28) × (length (now y) ≡ 28) × (length (now t) ≡ 28) ⌝ }
     ensures { λ r. ⌜ Radii sigma (now (x .entry)) r (now (t .exit)) ⌝ }
 {
-    let mut flag = 0u64;
+    let mut coarse = 0u64;
+    let mut far = 0u64;
     let mut low = 0u64;
+    let mut high = 0u64;
     for i in 0..28usize {
         let p = any_lane(x[i], y[i]);
         let r = sigma * p.root;
         t[i] = r;
-        flag = flag | p.flag;
+        coarse = coarse | p.coarse;
+        far = far | p.far;
         low = low | not_large(r);
+        high = high | not_low(r);
     }
-    Found { flag, low }
+    Found {
+        flag: (coarse >> 36) | (far >> 62),
+        low,
+        high,
+    }
 }
 
 // The radii in t; f is for significands and y for guesses.
@@ -63,6 +80,6 @@ pub fn radii_of(x: &[f64], sigma: f64, f: &mut [f64], y: &mut [f64], t: &mut [f6
     ensures { λ r. ⌜ Radii sigma (now (x .entry)) r (now (t .exit)) ⌝ }
 {
     guess(x, f, y);
-    sharpen_all(f, y);
+    sharpen_all(f, y, 1.1102230246251565e-16);
     radii(x, y, sigma, t)
 }

@@ -7,14 +7,14 @@ ghost use Rattle.lanes.specs.Factors.{Each};
 ghost use Rattle.lanes.specs.Stages.{Small};
 use radial::radial_g_series;
 
-// 0 where the absolute value of t is below 0.1.
+// 0 where the absolute value of t is below 0.1, else all ones, as SSE2's comparisons answer.
 fn not_small(t: f64) -> u64
     ensures { λ r. ⌜ (r ≡ 0 → Small t) ⌝ }
 {
     if t < 0.1 {
-        if t > -0.1 { 0 } else { 1 }
+        if t > -0.1 { 0 } else { u64::MAX }
     } else {
-        1
+        u64::MAX
     }
 }
 

@@ -3,22 +3,25 @@
 //
 // Each of three loops does one step of all lanes, which is faster than one loop with the three steps:
 //   p = near(x[i]); f[i] = p.part; y[i] = p.near;      or y[i] = near_unit(f[i]), near_one
-//   y[i] = sharpen(f[i], y[i]);
-//   p = any_lane(x[i], y[i]);           or unit_lane of f[i]; p.root is used and p.flag or-ed into one word
-// If that word is 0 every p.root is the root, whatever the guesses were; else the lanes are to be done
-// anew by `root::root`. Nothing is promised of a guess, so nothing is owed of one.
+//   y[i] = sharpen(f[i], y[i], ..);
+//   p = any_lane(x[i], y[i]);           or unit_lane of f[i]; p.root is used, p.coarse and p.far are each or-ed into a word
+// If these words are small enough every p.root is the root, whatever the guesses were; else the lanes are
+// to be done anew by `root::root`. Nothing is promised of a guess, so nothing is owed of one.
 ghost use mathlib.Core.Path.{_≡_};
 ghost use mathlib.Core.Logic.{_⊎_};
 ghost use mathlib.Core.Bool.{true, not};
-ghost use Prim.Native.Nat.{_+_, _*_, _^_, _≤_, _<_};
+ghost use Prim.Native.Nat.{_+_, _-_, _*_, _%_, _^_, _≤_, _<_};
 ghost use lib.Dec.{T};
 ghost use lib.Ieee.{binary64, toBits, lt, isNan};
+ghost use Rattle.base.specs.Ranges.{Within};
 ghost use Rattle.root.specs.Root.{squareRoot, Rounded};
 
-// A root, which holds where the flag is 0.
+// A root, which holds where coarse is below 2^36 and far below 2^62, for `unit_lane` below 2^54. The words
+// of several lanes are or-ed and looked at once: a test of each lane's own would cost more.
 pub struct Lane {
     pub root: f64,
-    pub flag: u64,
+    pub coarse: u64,
+    pub far: u64,
 }
 
 // Where a root is sought from: a significand f from 1 up to 4, and a float near 1 / √f.
@@ -27,11 +30,13 @@ pub struct Guess {
     pub near: f64,
 }
 
-// The digits of a root, which hold where coarse is below 2^37 and far below 2^63.
+// The digits of a root, of the two that are next to g, and what they rest on: `rest` is d * 2^52 without
+// g * g and `short` is g without that, both modulo 2^64, and coarse is below 2^36 where nothing was lost.
 struct Checked {
     digits: u64,
     coarse: u64,
-    far: u64,
+    rest: u64,
+    short: u64,
 }
 
 // The greater of x and the least; the least for a NaN.
@@ -57,30 +62,32 @@ fn digits(s: f64) -> u64
 }
 
 // Whether g or g + 1 is the root of d * 2^52, rounded, by the sign of what is left of d * 2^52 without
-// g * g. That is worked out modulo 2^64: coarse tells if anything was lost, far if it is neither.
+// g * g. It is one of them where that is more than -g and at most 3 * g.
 fn check(d: u64, g: u64) -> Checked
     requires { ⌜ (2 ^ 52 ≤ g) × (g < 2 ^ 53) ⌝ }
-    ensures { λ r. ⌜ (2 ^ 52 ≤ r .digits) × (r .digits ≤ 2 ^ 53) × (r .coarse < 2 ^ 37 → r .far < 2 ^ 63 → Rounded d (r .digits)) ⌝ }
+    ensures { λ r. ⌜ (2 ^ 52 ≤ r .digits) × (r .digits ≤ 2 ^ 53) × (r .rest < 2 ^ 64) × (r .short < 2 ^ 64) × ((r .short + r .rest) % 2 ^ 64 ≡ g) ⌝ }
+    ensures { λ r. ⌜ (r .coarse < 2 ^ 36 → (r .rest + (g - 1)) % 2 ^ 64 < 2 ^ 63 → (r .short + 2 * g) % 2 ^ 64 < 2 ^ 63 → Rounded d (r .digits)) ⌝ }
 {
     let h = g >> 26;
     let l = g & 0x3FF_FFFF;
     let a = std::num::wrapping_sub_u64(d, h * h);
-    let b = std::num::wrapping_sub_u64(a << 26, 2 * (h * l));
-    let rest = std::num::wrapping_sub_u64(b << 26, l * l);
+    let b = std::num::wrapping_sub_u64(a << 25, h * l);
+    let rest = std::num::wrapping_sub_u64(b << 27, l * l);
     let short = std::num::wrapping_sub_u64(g, rest);
     Checked {
         digits: g + (short >> 63),
-        coarse: a | std::num::wrapping_add_u64(b, 0x10_0000_0000),
-        far: std::num::wrapping_add_u64(rest, g - 1) | std::num::wrapping_add_u64(short, 2 * g + 1),
+        coarse: a | std::num::wrapping_add_u64(b, 0x8_0000_0000),
+        rest,
+        short,
     }
 }
 
-// One flag of both. Several words are or-ed before they are shifted: of one alone LLVM would make a
-// comparison, which SSE2 has not for 64 bits.
-fn joined(coarse: u64, far: u64) -> u64
-    ensures { λ r. ⌜ (r ≡ 0 → (coarse < 2 ^ 37) × (far < 2 ^ 63)) ⌝ }
+// Below 2^62 where the root is g or g + 1.
+fn apart(g: u64, rest: u64, short: u64) -> u64
+    requires { ⌜ (2 ^ 52 ≤ g) × (g < 2 ^ 53) ⌝ }
+    ensures { λ r. ⌜ (r < 2 ^ 62 → ((rest + (g - 1)) % 2 ^ 64 < 2 ^ 63) × ((short + 2 * g) % 2 ^ 64 < 2 ^ 63)) ⌝ }
 {
-    (coarse >> 37) | (far >> 63)
+    std::num::wrapping_add_u64(rest, g - 1) | std::num::wrapping_add_u64(short, 2 * g)
 }
 
 // sig * 2^odd. SSE2 has no shift by a count of each lane's own.
@@ -91,37 +98,43 @@ fn doubled(sig: u64, odd: u64) -> u64
     sig + (sig & std::num::wrapping_sub_u64(0, odd))
 }
 
-// Below 2^63 for the patterns of normal values above zero.
-fn not_normal(b: u64) -> u64
+// Below 2^62 for the patterns of values from 2^-511 up to 2^513, for which one word is enough. Others are
+// left to `root::root`.
+fn unusual(b: u64) -> u64
     requires { ⌜ b ≤ 9218868437227405312 ⌝ }
-    ensures { λ r. ⌜ (r < 2 ^ 63 → (2 ^ 52 ≤ b) × (b < 9218868437227405312)) ⌝ }
+    ensures { λ r. ⌜ (r < 2 ^ 62 → (2 ^ 52 ≤ b) × (b < 9218868437227405312)) ⌝ }
 {
-    std::num::wrapping_sub_u64(b, 0x10_0000_0000_0000) | (b + 0x10_0000_0000_0000)
+    std::num::wrapping_sub_u64(b, 512 << 52)
 }
 
 // The root of x, if s is near the root of x's significand, that of `sharpen`.
 pub fn any_lane(x: f64, s: f64) -> Lane
-    ensures { λ r. ⌜ (r .flag ≡ 0 → r .root ≡ squareRoot binary64 x) ⌝ }
+    ensures { λ r. ⌜ (r .coarse < 2 ^ 36 → r .far < 2 ^ 62 → r .root ≡ squareRoot binary64 x) ⌝ }
 {
     let b = pattern(x);
     let sig = (b & 0xF_FFFF_FFFF_FFFF) | 0x10_0000_0000_0000;
     let ex = (b >> 52) + 51;
-    let a = check(doubled(sig, ex & 1), digits(s));
+    let g = digits(s);
+    let a = check(doubled(sig, ex & 1), g);
     Lane {
         root: f64::from_bits((((ex >> 1) + 485) << 52) + a.digits),
-        flag: joined(a.coarse, a.far | not_normal(b)),
+        coarse: a.coarse,
+        far: apart(g, a.rest, a.short) | unusual(b),
     }
 }
 
-// The root of f, if it is from 1 to 2 and s is near its root.
+// The root of an f from 1 to 2, if s is near its root. What is left is held to bounds that no g goes
+// below, which is one test in place of two; `sharpen` with 7.8e-17 keeps within them.
 pub fn unit_lane(f: f64, s: f64) -> Lane
-    ensures { λ r. ⌜ (r .flag ≡ 0 → r .root ≡ squareRoot binary64 f) ⌝ }
+    requires { ⌜ Within 1 2 f ⌝ }
+    ensures { λ r. ⌜ Within 1 2 (r .root) × (r .coarse < 2 ^ 36 → r .far < 2 ^ 54 → r .root ≡ squareRoot binary64 f) ⌝ }
 {
-    let d = std::num::wrapping_sub_u64(pattern(f), 1022 << 52);
+    let d = f64::to_bits(f) - (1022 << 52);
     let a = check(d, digits(s));
     Lane {
         root: f64::from_bits((1022 << 52) + a.digits),
-        flag: joined(a.coarse, a.far | std::num::wrapping_sub_u64(1 << 53, d)),
+        coarse: a.coarse,
+        far: std::num::wrapping_add_u64(a.rest, 0xF_FFFF_FFFF_FFFF),
     }
 }
 
@@ -179,8 +192,9 @@ pub fn near_one(f: f64) -> f64 {
     )
 }
 
-// A float at √f or a last digit below it, from a y near 1 / √f, for an f from 1 up to 4.
-pub fn sharpen(f: f64, y: f64) -> f64 {
+// A float at √f or a last digit below it, from a y near 1 / √f, for an f from 1 up to 4: `less`, about half
+// a last digit, is taken off before the sum is rounded.
+pub fn sharpen(f: f64, y: f64, less: f64) -> f64 {
     let s = f * y;
-    s + ((0.5 * y) * (f - s * s) - 1.1102230246251565e-16)
+    s + ((0.5 * y) * (f - s * s) - less)
 }

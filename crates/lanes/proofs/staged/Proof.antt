@@ -10,7 +10,7 @@ returns c =
     let a = c .before .before .before .before .before .before .before in
     let r = a .before .before .before .before .before .before .before .before .before .before .before .before .before in
     let p = r .before .before .before .before .before .before .before .before .before .args in
-    λ e. let z = or-zero (r .radii-of .result .flag) (a .arcs .result) e in by-radii (p .sigma) (p .x .now) (r .radii-of .ensures .0 (z .0)) (a .arcs .ensures (z .1) (r .radii-of .ensures .1 (a .before .before .before .before .before .if1 .taken)))
+    λ e. let z = or-zero (r .radii-of .result .flag) (a .arcs .result) e in by-radii (p .sigma) (p .x .now) (r .radii-of .ensures .0 (z .0)) (a .arcs .ensures (z .1))
 
 returns-2 : tie.Need-returns-2
 returns-2 c =
@@ -24,7 +24,7 @@ staged-spec =
     tie.close
     (tie.spec
     (λ c κs. search needs)
-    (λ c κs. search needs)
+    (λ c κs. let r = c .before .before .before .before .before .before .before .before .before .before .before .before .radii-of in (search needs, search needs, search needs, search needs, r .ensures .1 (search needs), r .ensures .2))
     (λ c. search needs)
     (λ c. search needs)
     (λ c. search needs)

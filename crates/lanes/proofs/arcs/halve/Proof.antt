@@ -1,28 +1,40 @@
 -- `halve` meets its contract: a loop that sets each element from what stood there. Assumes nothing.
 use Prim.Native.Nat.{ℕ, _-_}
-use mathlib.Core.Path.{_≡_}
+use mathlib.Core.Path.{_≡_, subst⁻¹}
 use native.Mathlib.Nat.{le-refl}
 use lib.ListN.{getD}
 use lib.Ieee.{Float, nan, binary64}
 use Rattle.base.specs.Floats.{_⊕_, _⊘_}
 use Rattle.base.specs.Constants.{one}
+use Rattle.base.specs.Ranges.{Within}
 use Rattle.root.specs.Root.{squareRoot}
-use Rattle.lanes.proofs.Filling.{Filled, If, none-filled, fills-if, all-if}
+use Rattle.lanes.proofs.Points.{halved-of}
+use Rattle.lanes.proofs.Filling.{Filled, If, Clear, none-filled, fills, fills-if, clear-or, clear-zero, all-filled, all-if}
 use borrow.Author.Needs.{needs}
 use Rattle.lanes.proofs.arcs.halve.Statement.{statement}
 use Rattle.lanes.proofs.arcs.halve.Tie as tie
 
 abbrev Inv-loop : tie.InvT-loop
-Inv-loop f y v₀ flag₀ i₀ v flag i = Filled (If flag (λ (j : ℕ) (z : Float). z ≡ getD v₀ j nan ⊘ (one ⊕ squareRoot binary64 (getD f j nan)))) v₀ i v
+Inv-loop f y v₀ coarse₀ far₀ i₀ v coarse far i = Filled (λ (j : ℕ) (z : Float). Within 0 1 z) v₀ i v × Filled (If (Clear 54 coarse far) (λ (j : ℕ) (z : Float). z ≡ getD v₀ j nan ⊘ (one ⊕ squareRoot binary64 (getD f j nan)))) v₀ i v
 
 abbrev μ-loop : tie.MeasureT-loop
-μ-loop f y v₀ flag₀ i₀ v flag i = 28 - i
+μ-loop f y v₀ coarse₀ far₀ i₀ v coarse far i = 28 - i
 
 loop-again : tie.Need-loop-again Inv-loop μ-loop
 loop-again c =
-    let l = c .before .before .before .before .before .before .before .loop in
-    let u = c .before .before .before .unit-lane in
-    fills-if (l .flag) (u .result .flag) (l .inv) (search needs) (λ e. rw (← l .inv .kept (l .i) (le-refl (l .i)), ← u .ensures e))
+    let l = c .before .before .before .before .before .before .before .before .loop in
+    let u = c .before .before .before .before .unit-lane in
+    let p = c .before .before .before .before .before .before .before .before .before .before .before .before .pre in
+    let k = l .inv .0 .kept (l .i) (le-refl (l .i)) in
+    let d = clear-or 54 (l .coarse) (u .result .coarse) (l .far) (u .result .far) in (
+      fills (l .inv .0) (search needs) (halved-of (getD (l .v) (l .i) nan) (u .result .root) (subst⁻¹ (Within 0 1) k (p .4 .at (l .i) (search needs))) (u .ensures .0)),
+      fills-if (l .inv .1) (search needs) (λ e. d e .0) (λ e. rw (← k, ← u .ensures .1 (d e .1 .0) (d e .1 .1))),
+    )
+
+returns : tie.Need-returns Inv-loop μ-loop
+returns c =
+    let l = c .before .loop in
+    (all-filled (l .inv .0) (search needs), λ e. all-if (l .inv .1) (search needs) (clear-zero 54 (l .coarse) (l .far) e))
 
 pub halve-spec : {M : Type 1} → statement M
 halve-spec =
@@ -35,7 +47,7 @@ halve-spec =
     (λ c. search needs)
     (λ c. search needs)
     (λ c. search needs)
-    (λ c κs. search needs)
+    (λ c κs. c .before .before .before .before .before .before .before .pre .3 .at (c .before .before .before .loop .i) (search needs))
     (λ c. search needs)
     (λ c. search needs)
     (λ c. search needs)
@@ -44,4 +56,4 @@ halve-spec =
     (λ c. search needs)
     loop-again
     (λ c. search needs)
-    (λ c. search (all-if, needs)))
+    returns)

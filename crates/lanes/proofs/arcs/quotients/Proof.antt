@@ -1,36 +1,15 @@
--- `quotients` meets its contract: a loop that sets each element. Assumes nothing.
-use Prim.Native.Nat.{ℕ, _-_}
-use mathlib.Core.Path.{_≡_}
-use lib.ListN.{getD}
-use lib.Ieee.{Float, nan}
-use Rattle.lanes.specs.Stages.{quotient}
-use Rattle.lanes.proofs.Filling.{Filled, none-filled, fills, all-filled}
+-- `quotients` meets its contract: either loop gives the factors. Assumes nothing.
 use borrow.Author.Needs.{needs}
 use Rattle.lanes.proofs.arcs.quotients.Statement.{statement}
 use Rattle.lanes.proofs.arcs.quotients.Tie as tie
-
-abbrev Inv-loop : tie.InvT-loop
-Inv-loop t v g₀ i₀ g i = Filled (λ (j : ℕ) (z : Float). z ≡ quotient (getD t j nan) (getD v j nan)) g₀ i g
-
-abbrev μ-loop : tie.MeasureT-loop
-μ-loop t v g₀ i₀ g i = 28 - i
 
 pub quotients-spec : {M : Type 1} → statement M
 quotients-spec =
     tie.close
     (tie.spec
-    Inv-loop
-    μ-loop
-    (λ c. search (none-filled, needs))
-    (λ c. search needs)
-    (λ c. search needs)
-    (λ c. search needs)
-    (λ c. search needs)
+    (λ c κs. (search needs, search needs, search needs, c .before .before .before .before .before .pre .3 (search needs)))
     (λ c κs. search needs)
     (λ c. search needs)
     (λ c. search needs)
     (λ c. search needs)
-    (λ c. search needs)
-    (λ c. search (fills, needs))
-    (λ c. search needs)
-    (λ c. search (all-filled, needs)))
+    (λ c. search needs))

@@ -18,14 +18,16 @@ small : (b a : ℕ) → b ≤ 9218868437227405312 → a ≤ 2 ^ 53 → ((b / 2 ^
 small b a h k = omega arith
 
 returns : tie.Need-returns
-returns c z =
-    let a = c .before .before .before .before .check in
-    let d = c .before .before .before .before .before .before .doubled in
-    let p = c .before .before .before .before .before .before .before .pattern in
-    let n = c .before .before .not-normal in
-    let k = c .joined .ensures z in
-    let m = or-most (a .result .far) (n .result) in
-    any-root (c .before .before .before .before .before .before .before .before .args .x) (p .result) (d .result) (a .result .digits) (subst T (sym (c .before .before .before .before .before .before .before .before .good .0 .1)) tt) (p .ensures .1) (n .ensures (lt-of-le-of-lt (m .1) (k .1))) (d .ensures) (a .ensures .2 (k .0) (lt-of-le-of-lt (m .0) (k .1)))
+returns c y z =
+    let u = c .unusual in
+    let n = c .before .apart in
+    let a = c .before .before .before .check in
+    let d = c .before .before .before .before .doubled in
+    let p = c .before .before .before .before .before .before .pattern in
+    let i = c .before .before .before .before .before .before .before in
+    let m = or-most (n .result) (u .result) in
+    let k = n .ensures (lt-of-le-of-lt (m .0) z) in
+    any-root (i .args .x) (p .result) (d .result) (a .result .digits) (subst T (sym (i .good .0 .1)) tt) (p .ensures .1) (u .ensures (lt-of-le-of-lt (m .1) z)) (d .ensures) (a .ensures .1 y (k .0) (k .1))
 
 pub any-lane-spec : {M : Type 1} → statement M
 any-lane-spec =
@@ -33,12 +35,12 @@ any-lane-spec =
     (tie.spec
     (λ c κs. search needs)
     (λ c. search needs)
-    (λ c κs. (omega (arith, guessed (c .pattern .result)), omega (arith, low-bit (c .pattern .result / 2 ^ 52 + 51))))
     (λ c κs. search needs)
+    (λ c κs. (omega (arith, guessed (c .before .pattern .result)), omega (arith, low-bit (c .before .pattern .result / 2 ^ 52 + 51))))
     (λ c κs. search needs)
     (λ c. search needs)
-    (λ c. omega (arith, c .before .check .ensures .1))
-    (λ c. no-nan-below (((c .before .before .before .before .pattern .result / 2 ^ 52 + 51) / 2 + 485) * 2 ^ 52 % 2 ^ 64 + c .before .check .result .digits) (small (c .before .before .before .before .pattern .result) (c .before .check .result .digits) (c .before .before .before .before .pattern .ensures .0) (c .before .check .ensures .1)))
-    (λ c κs. c .before .before .before .before .pattern .ensures .0)
+    (λ c. omega (arith, c .before .check .ensures .0 .1))
+    (λ c. no-nan-below (((c .before .before .before .before .pattern .result / 2 ^ 52 + 51) / 2 + 485) * 2 ^ 52 % 2 ^ 64 + c .before .check .result .digits) (small (c .before .before .before .before .pattern .result) (c .before .check .result .digits) (c .before .before .before .before .pattern .ensures .0) (c .before .check .ensures .0 .1)))
     (λ c κs. search needs)
+    (λ c κs. c .before .before .before .before .before .pattern .ensures .0)
     returns)
