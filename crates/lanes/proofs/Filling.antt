@@ -66,6 +66,10 @@ fills-or a b f h q = fills-if f h (λ e. or-zero a b e .0) (λ e. q (or-zero a b
 pub all-if : {C : Type 0} {P : ℕ → Float → Type 0} {first ys : List Float} {i : ℕ} → Filled (If C P) first i ys → 28 ≤ i → C → All P ys
 all-if f h e = record { at = λ j l. f .done j (lt-of-lt-of-le l h) e }
 
+-- what is shown of the elements of ts at the places of ys
+pub of-each : {P : Float → Type 0} {ts ys : List Float} → All (λ i y. P (getD ts i nan)) ys → All (λ i t. P t) ts
+of-each h = record { at = λ j l. h .at j l }
+
 -- a flag that is set
 pub flagged : {P : Type 0} → _≡_ {A = ℕ} 18446744073709551615 0 → P
 flagged e = absurd (omega arith)

@@ -1,5 +1,6 @@
 -- One point: where its radius is small the series is the factor, where it is large the quotient is, and what the tests of both tell. Assumes nothing.
-use mathlib.Core.Path.{_≡_, refl}
+use mathlib.Core.Path.{_≡_, refl, sym, ap, _∙_}
+use mathlib.Core.Logic.{inl, inr}
 use mathlib.Core.Bool.{Bool, true, false, _&&_, _||_, cond, true≢false, false≢true}
 use Prim.Native.Nat.{ℕ, _*_, _^_, _<_, _≤_}
 use native.Mathlib.Nat.{le-refl, le-of-lt, le-of-eq, zero-mul, mul-pos}
@@ -15,7 +16,7 @@ use Rattle.base.specs.RangeLaws.{square-within, one-plus-within, quotient-withi
 use Rattle.base.specs.Constants.{one, tenth}
 use Rattle.powers.specs.Arc.{halved, arcCore, arcAbs, arc}
 use Rattle.radial.specs.Radial.{radialGSeries, radialG}
-use Rattle.lanes.specs.Stages.{Large, Low, Small, inverted, turned, radicand, quotient}
+use Rattle.lanes.specs.Stages.{Large, Low, Small, Sided, raised, inverted, turned, radicand, quotient}
 
 -- ---- small
 pub small-is : (t : Float) → Small t → radialGSeries t ≡ radialG t
@@ -117,3 +118,40 @@ radicand-of v h = one-plus-within 0 1 (v ⊗ v) (lit< tt) (lit< tt) (square-with
 
 pub halved-of : (v r : Float) → Within 0 1 v → Within 1 2 r → Within 0 1 (v ⊘ (one ⊕ r))
 halved-of v r h k = quotient-within v (one ⊕ r) h (at-least 2 3 1 (one ⊕ r) (le-of-lt (lit< tt)) (one-plus-within 1 2 r (lit< tt) (lit< tt) k))
+
+-- ---- on one side of 0.1 or the other
+tenth-large : Large tenth
+unfolding le lt eq ofBits
+tenth-large = refl
+
+tenth-low : Low tenth
+unfolding lt ofBits
+tenth-low = refl
+
+pub raised-large : (t : Float) → Large (raised t)
+unfolding raised
+raised-large t = go (le tenth t) refl
+  where
+    go : (b : Bool) → le tenth t ≡ b → Large (cond b t tenth)
+    go true h = h
+    go false h = tenth-large
+
+pub raised-low : (t : Float) → Low t → Low (raised t)
+unfolding raised
+raised-low t h = go (le tenth t)
+  where
+    go : (b : Bool) → Low (cond b t tenth)
+    go true = h
+    go false = tenth-low
+
+raised-same : (t : Float) → Large t → raised t ≡ t
+unfolding raised
+raised-same t h = rw h refl
+
+pub one-side : (t : Float) {u s g h : Float} → Sided t → u ≡ raised t → s ≡ radialG u → (Small t → g ≡ radialG t) → h ≡ cond (le tenth t) s g → h ≡ radialG t
+one-side t {u} {s} {g} {h} d e f k c = go (le tenth t) refl d
+  where
+    go : (b : Bool) → le tenth t ≡ b → Sided t → h ≡ radialG t
+    go true l x = c ∙ ap (λ (z : Bool). cond z s g) l ∙ f ∙ ap radialG (e ∙ raised-same t l)
+    go false l (inl x) = absurd (false≢true (sym l ∙ x))
+    go false l (inr x) = c ∙ ap (λ (z : Bool). cond z s g) l ∙ k x

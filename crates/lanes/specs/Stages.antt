@@ -1,5 +1,6 @@
 -- What a step computes of one point and of 28, for the functions' contracts. Definitions only.
 use mathlib.Core.Path.{_≡_}
+use mathlib.Core.Logic.{_⊎_}
 use mathlib.Core.Bool.{true, false, cond}
 use mathlib.Core.List.{List}
 use lib.ListN.{getD}
@@ -9,6 +10,7 @@ use Rattle.base.specs.Constants.{one, halfPi, tenth}
 use Rattle.base.specs.Ranges.{Within}
 use Rattle.root.specs.Root.{squareRoot}
 use Rattle.powers.specs.Arc.{arcCore}
+use Rattle.radial.specs.Radial.{radialG}
 use Rattle.lanes.specs.declared.radii.Found.{Found}
 use Rattle.lanes.specs.Factors.{All, Each}
 
@@ -27,6 +29,14 @@ Low t = lt one t ≡ false
 -- the series is taken
 abbrev pub Small : Float → Type 0
 Small t = lt (abs t) tenth ≡ true
+
+-- the quotient is taken, or the series
+abbrev pub Sided : Float → Type 0
+Sided t = Large t ⊎ Small t
+
+-- t, or 0.1 where t is not at least that
+unfoldable pub raised : Float → Float
+raised t = cond (le tenth t) t tenth
 
 -- of s = |t|: "v = 1/s if s > 1, else s"
 unfoldable pub inverted : Float → Float
@@ -51,6 +61,12 @@ AllLarge ts = All (λ i t. Large t) ts
 abbrev pub AllLow : List Float → Type 0
 AllLow ts = All (λ i t. Low t) ts
 
+abbrev pub AllSmall : List Float → Type 0
+AllSmall ts = All (λ i t. Small t) ts
+
+abbrev pub AllSided : List Float → Type 0
+AllSided ts = All (λ i t. Sided t) ts
+
 -- what the flags tell of the radii
 abbrev pub Radii : Float → List Float → Found → List Float → Type 0
 Radii sigma xs r ts = (r .flag ≡ 0 → Each (radius sigma) xs ts) × (r .low ≡ 0 → AllLarge ts) × (r .high ≡ 0 → AllLow ts)
@@ -65,6 +81,14 @@ Radicands fs = All (λ i f. Within 1 2 f) fs
 -- ws are the vs halved, fs being the radicands
 abbrev pub Halves : List Float → List Float → List Float → Type 0
 Halves vs fs ws = All (λ i w. w ≡ getD vs i nan ⊘ (one ⊕ squareRoot binary64 (getD fs i nan))) ws
+
+-- gs are the factors of those radii that take the series
+abbrev pub SmallFactors : List Float → List Float → Type 0
+SmallFactors ts gs = All (λ i g. Small (getD ts i nan) → g ≡ radialG (getD ts i nan)) gs
+
+-- hs are the ss where the radius is at least 0.1, else the gs
+abbrev pub Chosen : List Float → List Float → List Float → List Float → Type 0
+Chosen ts ss gs hs = All (λ i h. h ≡ cond (le tenth (getD ts i nan)) (getD ss i nan) (getD gs i nan)) hs
 
 abbrev pub Quotients : List Float → List Float → List Float → Type 0
 Quotients ts vs gs = All (λ i g. g ≡ quotient (getD ts i nan) (getD vs i nan)) gs

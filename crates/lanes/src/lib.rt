@@ -6,12 +6,14 @@ ghost use mathlib.Core.Path.{_≡_};
 ghost use lib.ListN.{length};
 ghost use Rattle.lanes.specs.Factors.{Each, factor};
 use crate::arcs::arcs;
+use crate::mixed::mixed;
 use crate::radii::radii_of;
 use crate::series::all_series;
 use radial::radial_g;
 use root::root;
 
 pub mod arcs;
+pub mod mixed;
 pub mod radii;
 pub mod series;
 
@@ -26,30 +28,45 @@ fn one_by_one(x: &[f64], sigma: f64, g: &mut [f64])
 }
 
 // The factors step by step, if the flag is 0.
-fn staged(x: &[f64], sigma: f64, t: &mut [f64], v: &mut [f64], f: &mut [f64], g: &mut [f64]) -> u64
-    requires { ⌜ (length (now x) ≡ 28) × (length (now t) ≡ 28) × (length (now v) ≡ 28) × (length (now f) ≡ 28) × (length (now g) ≡ 28) ⌝ }
+fn staged(
+    x: &[f64],
+    sigma: f64,
+    t: &mut [f64],
+    u: &mut [f64],
+    v: &mut [f64],
+    f: &mut [f64],
+    s: &mut [f64],
+    g: &mut [f64],
+) -> u64
+    requires { ⌜ (length (now x) ≡ 28) × (length (now t) ≡ 28) × (length (now u) ≡ 28) × (length (now v) ≡ 28) × (length (now f) ≡ 28) × (length (now s) ≡ 28) × (length (now g) ≡ 28) ⌝ }
     ensures { λ r. ⌜ (r ≡ 0 → Each (factor sigma) (now (x .entry)) (now (g .exit))) ⌝ }
 {
     let found = radii_of(x, sigma, f, g, t);
     if found.low == 0 {
         return found.flag | arcs(t, found.high, v, f, g);
     }
-    found.flag | all_series(t, g)
+    let large = all_series(t, g);
+    if large == 0 {
+        return found.flag;
+    }
+    found.flag | mixed(t, found.high, u, v, f, s, g)
 }
 
-// Writes to g the radial factor of each point, x being the squares of the distances. What t, v
-// and f hold before and after is of no account: they are lent so that they are made once.
+// Writes to g the radial factor of each point, x being the squares of the distances. What t, u, v, f
+// and s hold before and after is of no account: they are lent so that they are made once.
 pub fn factors(
     x: &[f64; 28],
     sigma: f64,
     t: &mut [f64; 28],
+    u: &mut [f64; 28],
     v: &mut [f64; 28],
     f: &mut [f64; 28],
+    s: &mut [f64; 28],
     g: &mut [f64; 28],
 )
     ensures { λ _. ⌜ Each (factor sigma) (now (x .entry)) (now (g .exit)) ⌝ }
 {
-    let flag = staged(x, sigma, t, v, f, g);
+    let flag = staged(x, sigma, t, u, v, f, s, g);
     if flag == 0 {
         return;
     }

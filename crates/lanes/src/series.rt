@@ -1,14 +1,12 @@
-// The radial factors of 28 small radii, by the series. `all_series` takes runs of 28 floats, as its
-// `requires` says.
+// The radial factors of 28 radii, by the series. `all_series` takes runs of 28 floats, as its `requires`
+// says.
 ghost use mathlib.Core.Path.{_≡_};
 ghost use lib.ListN.{length};
-ghost use Rattle.radial.specs.Radial.{radialG};
-ghost use Rattle.lanes.specs.Factors.{Each};
-ghost use Rattle.lanes.specs.Stages.{Small};
+ghost use Rattle.lanes.specs.Stages.{Small, AllSmall, SmallFactors};
 use radial::radial_g_series;
 
 // 0 where the absolute value of t is below 0.1, else all ones, as SSE2's comparisons answer.
-fn not_small(t: f64) -> u64
+pub fn not_small(t: f64) -> u64
     ensures { λ r. ⌜ (r ≡ 0 → Small t) ⌝ }
 {
     if t < 0.1 {
@@ -18,10 +16,10 @@ fn not_small(t: f64) -> u64
     }
 }
 
-// The factors of the radii t, if the flag is 0.
+// The factors of those radii t whose absolute value is below 0.1: of all, if the flag is 0.
 pub fn all_series(t: &[f64], g: &mut [f64]) -> u64
     requires { ⌜ (length (now t) ≡ 28) × (length (now g) ≡ 28) ⌝ }
-    ensures { λ r. ⌜ (r ≡ 0 → Each radialG (now (t .entry)) (now (g .exit))) ⌝ }
+    ensures { λ r. ⌜ SmallFactors (now (t .entry)) (now (g .exit)) × (r ≡ 0 → AllSmall (now (t .entry))) ⌝ }
 {
     let mut flag = 0u64;
     for i in 0..28usize {

@@ -177,15 +177,17 @@ fn block(
     squares: &mut [f64; 28],
     heights: &mut [f64; 28],
     t: &mut [f64; 28],
+    u: &mut [f64; 28],
     v: &mut [f64; 28],
     radicands: &mut [f64; 28],
+    s: &mut [f64; 28],
     g: &mut [f64; 28],
 ) -> f64
     requires { ⌜ Sound (length (now xyz)) (now faces) ⌝ ∗ ⌜ (3 * (f + 4) ≤ length (now faces)) × (length (now squares) ≡ 28) × (length (now heights) ≡ 28) ⌝ }
     ensures { λ r. ⌜ r ≡ volumeFrom (triangleAt (now (xyz .entry)) (now (faces .entry))) c sigma f (f + 4) sum ⌝ ∗ ⌜ (length (now (squares .exit)) ≡ 28) × (length (now (heights .exit)) ≡ 28) ⌝ }
 {
     points(xyz, faces, f, c, squares, heights);
-    factors(squares, sigma, t, v, radicands, g);
+    factors(squares, sigma, t, u, v, radicands, s, g);
     all_shares(sum, g, heights)
 }
 
@@ -205,8 +207,10 @@ pub fn volume_blocks(
     let mut squares = [0.0; 28];
     let mut heights = [0.0; 28];
     let mut t = [0.0; 28];
+    let mut u = [0.0; 28];
     let mut v = [0.0; 28];
     let mut radicands = [0.0; 28];
+    let mut s = [0.0; 28];
     let mut g = [0.0; 28];
     let mut sum = sum;
     for i in 0..n {
@@ -220,8 +224,10 @@ pub fn volume_blocks(
             &mut squares,
             &mut heights,
             &mut t,
+            &mut u,
             &mut v,
             &mut radicands,
+            &mut s,
             &mut g,
         );
     }

@@ -1,16 +1,18 @@
 -- `all_series` meets its contract: a loop that sets each element. Assumes nothing.
-use Prim.Native.Nat.{_-_}
+use Prim.Native.Nat.{ℕ, _-_}
 use mathlib.Core.Path.{_≡_, _∙_}
+use lib.ListN.{getD}
+use lib.Ieee.{Float, nan}
 use Rattle.radial.specs.Radial.{radialG}
-use Rattle.lanes.specs.Factors.{Of}
+use Rattle.lanes.specs.Stages.{Small}
 use Rattle.lanes.proofs.Points.{small-is}
-use Rattle.lanes.proofs.Filling.{Filled, If, none-filled, fills-or, all-if}
+use Rattle.lanes.proofs.Filling.{Filled, If, none-filled, fills, fills-or, all-filled, all-if, of-each}
 use borrow.Author.Needs.{needs}
 use Rattle.lanes.proofs.series.all_series.Statement.{statement}
 use Rattle.lanes.proofs.series.all_series.Tie as tie
 
 abbrev Inv-loop : tie.InvT-loop
-Inv-loop t g₀ flag₀ i₀ g flag i = Filled (If (flag ≡ 0) (Of radialG t)) g₀ i g
+Inv-loop t g₀ flag₀ i₀ g flag i = Filled (λ (j : ℕ) (z : Float). Small (getD t j nan) → z ≡ radialG (getD t j nan)) g₀ i g × Filled (If (flag ≡ 0) (λ (j : ℕ) (z : Float). Small (getD t j nan))) g₀ i g
 
 abbrev μ-loop : tie.MeasureT-loop
 μ-loop t g₀ flag₀ i₀ g flag i = 28 - i
@@ -18,7 +20,12 @@ abbrev μ-loop : tie.MeasureT-loop
 loop-again : tie.Need-loop-again Inv-loop μ-loop
 loop-again c =
     let l = c .before .before .before .before .loop in
-    fills-or (l .flag) (c .not-small .result) (l .inv) (search needs) (λ e. c .before .radial-g-series .ensures ∙ small-is _ (c .not-small .ensures e))
+    (fills (l .inv .0) (search needs) (λ h. c .before .radial-g-series .ensures ∙ small-is _ h), fills-or (l .flag) (c .not-small .result) (l .inv .1) (search needs) (c .not-small .ensures))
+
+returns : tie.Need-returns Inv-loop μ-loop
+returns c =
+    let l = c .before .loop in
+    (all-filled (l .inv .0) (search needs), λ e. of-each (all-if (l .inv .1) (search needs) e))
 
 pub all-series-spec : {M : Type 1} → statement M
 all-series-spec =
@@ -37,4 +44,4 @@ all-series-spec =
     (λ c. search needs)
     loop-again
     (λ c. search needs)
-    (λ c. search (all-if, needs)))
+    returns)

@@ -11,11 +11,11 @@ use Rattle.volume.proofs.block.volume_blocks.Statement.{statement}
 use Rattle.volume.proofs.block.volume_blocks.Tie as tie
 
 abbrev Inv-loop : tie.InvT-loop
-Inv-loop sum xyz faces c sigma from n squares₀ heights₀ t₀ v₀ radicands₀ g₀ sum₀ i₀ squares heights t v radicands g sum' i =
+Inv-loop sum xyz faces c sigma from n squares₀ heights₀ t₀ u₀ v₀ radicands₀ s₀ g₀ sum₀ i₀ squares heights t u v radicands s g sum' i =
     (i ≤ n) × (sum' ≡ volumeFrom (triangleAt xyz faces) c sigma from (from + 4 * i) sum) × (length squares ≡ 28) × (length heights ≡ 28)
 
 abbrev μ-loop : tie.MeasureT-loop
-μ-loop sum xyz faces c sigma from n squares₀ heights₀ t₀ v₀ radicands₀ g₀ sum₀ i₀ squares heights t v radicands g sum' i = n - i
+μ-loop sum xyz faces c sigma from n squares₀ heights₀ t₀ u₀ v₀ radicands₀ s₀ g₀ sum₀ i₀ squares heights t u v radicands s g sum' i = n - i
 
 loop-holds : tie.Need-loop-holds Inv-loop μ-loop
 loop-holds c =
@@ -24,7 +24,7 @@ loop-holds c =
 
 loop-again : tie.Need-loop-again Inv-loop μ-loop
 loop-again c =
-    let l = c .before .before .before .before .before .before .before .before in
+    let l = c .before .before .before .before .before .before .before .before .before .before in
     let a = l .before .before .before .args in
     (search needs, one-block (triangleAt (a .xyz .now) (a .faces .now)) (a .c) (a .sigma) (a .from) (l .loop .i) (a .sum) (l .loop .inv .1) (c .block .ensures .0), c .block .ensures .1 .0, c .block .ensures .1 .1)
 
@@ -43,7 +43,7 @@ volume-blocks-spec =
     loop-holds
     (λ c. search needs)
     (λ c. search needs)
-    (λ c κs. search needs)
+    (λ c κs. let l = c .before .before .before .before .before .before .before .before .before in (l .before .before .before .pre .0, (search needs, l .loop .inv .2, l .loop .inv .3)))
     (λ c. search needs)
     (λ c. search needs)
     loop-again
