@@ -1,4 +1,5 @@
 //! A globe of some hundred metres, as each text takes it, and a store on it.
+use oracle::inputs::Rng;
 use oracle::machine::room;
 use oracle::meshes::{Mesh, globe};
 use oracle::original::{native_platform, native_steps};
@@ -19,7 +20,10 @@ pub struct Body {
 impl Body {
     /// 2·around·(rings - 1) faces.
     pub fn globe(rings: usize, around: usize) -> Rc<Body> {
-        let Mesh { xyz, faces } = globe(RADIUS, rings, around);
+        Body::of(globe(RADIUS, rings, around))
+    }
+
+    fn of(Mesh { xyz, faces }: Mesh) -> Rc<Body> {
         let steps = native_steps::Mesh { xyz: xyz.clone(), faces: faces.clone() };
         Rc::new(Body { faces: faces.len() / 3, plain: native_platform::Mesh { xyz, faces }, steps })
     }
@@ -30,6 +34,17 @@ impl Body {
 
     pub fn twenty_thousand() -> Rc<Body> {
         Body::globe(101, 100)
+    }
+
+    /// The same, its faces in an order that has nothing to do with where they lie.
+    pub fn shuffled() -> Rc<Body> {
+        let mut mesh = globe(RADIUS, 101, 100);
+        let mut r = Rng(1);
+        for face in (1..mesh.faces.len() / 3).rev() {
+            let other = r.below(face as u64 + 1) as usize;
+            (0..3).for_each(|corner| mesh.faces.swap(3 * face + corner, 3 * other + corner));
+        }
+        Body::of(mesh)
     }
 
     pub fn two_million() -> Rc<Body> {

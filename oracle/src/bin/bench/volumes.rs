@@ -14,7 +14,7 @@ const CENTRE: [f64; 3] = [10.0, -20.0, 30.0];
 /// Sigma, the path, and the bar by the platform's.
 type Case = (f64, &'static str, f64);
 
-const CASES: [Case; 4] = [(1e-4, "series", 0.8), (1e-3, "arc", 1.1), (4e-3, "arc", 1.1), (0.05, "arc", 1.1)];
+const CASES: [Case; 5] = [(1e-4, "series", 0.8), (2.1e-4, "both", 1.1), (1e-3, "arc", 1.1), (4e-3, "arc", 1.1), (0.05, "arc", 1.1)];
 
 /// By the next smaller mesh: "the same", read as within 5 %, and at most 1.3.
 const GROWTH: [(f64, &str); 2] = [(1.05, "1,000 faces"), (1.3, "20,000 faces")];
@@ -47,7 +47,9 @@ pub fn rows(bench: &mut Bench) {
         }
         advances(bench, &places, case, &volumes);
     }
-    small_budget(bench, &places[2], CASES[2]);
+    small_budget(bench, &places[2], CASES[3]);
+    unordered(bench);
+    below_zero(bench, &places[0]);
 }
 
 fn row(name: String, ours: Id, volume: Volume) -> Row {
@@ -107,6 +109,20 @@ fn advances(bench: &mut Bench, places: &[Place], (sigma, path, most): Case, volu
         bench.row(grown(row.within(most), i, i.checked_sub(1).and_then(|b| last[b])));
         last[i] = Some(ours);
     }
+}
+
+/// No two faces that follow each other are neighbours, so that nearly every block has points on both sides of 0.1.
+fn unordered(bench: &mut Bench) {
+    let body = Body::shuffled();
+    let place = Place { store: body.store(), body, name: "" };
+    let volume = volume(bench, &place, 2e-4);
+    bench.row(row("kernel_volume, both, sigma 0.0002, 20,000 faces in no order".into(), volume.ours, volume));
+}
+
+/// Points whose t is at most -0.1 are worked one by one.
+fn below_zero(bench: &mut Bench, place: &Place) {
+    let volume = volume(bench, place, -1e-3);
+    bench.row(row(format!("kernel_volume, arc, sigma -0.001, {}", place.name), volume.ours, volume));
 }
 
 /// On a large mesh the check weighs more than so few faces.
