@@ -123,8 +123,8 @@ pub fn any_lane(x: f64, s: f64) -> Lane
     }
 }
 
-// The root of an f from 1 to 2, if s is near its root. What is left is held to bounds that no g goes
-// below, which is one test in place of two; `sharpen` with 7.8e-17 keeps within them.
+// The root of an f from 1 to 2, if s is near its root. What is left is held to the bounds of the least g,
+// 2^52: one test in place of two, which the guesses of `sharpen` with 7.8e-17 pass.
 pub fn unit_lane(f: f64, s: f64) -> Lane
     requires { ⌜ Within 1 2 f ⌝ }
     ensures { λ r. ⌜ Within 1 2 (r .root) × (r .coarse < 2 ^ 36 → r .far < 2 ^ 54 → r .root ≡ squareRoot binary64 f) ⌝ }

@@ -36,6 +36,14 @@ fn radial_factors(count: u64, mut r: Rng) -> Tally {
     tally
 }
 
+/// A sigma with which some vertex has t about 0.1 or 1, where the paths of `radial_g` part.
+fn bordering(r: &mut Rng, mesh: &Mesh, c: [f64; 3]) -> f64 {
+    let vertices = mesh.xyz.len() as u64 / 3;
+    let at = 3 * r.below(vertices.max(1)) as usize;
+    let square: f64 = mesh.xyz.iter().skip(at).zip(c).map(|(x, c)| (x - c) * (x - c)).sum();
+    one(r, &[0.1, 1.0]) / square.sqrt()
+}
+
 /// The arguments of one call of each function.
 struct Case {
     mesh: Mesh,
@@ -53,7 +61,11 @@ struct Case {
 impl Case {
     fn draw(r: &mut Rng, mesh: Mesh, faults: bool) -> Case {
         let c = [(); 3].map(|()| cases::value(r, 300.0));
-        let sigma = if r.below(2) == 0 { r.spread(-16, 4) } else { cases::length(r, 0.004) };
+        let sigma = match r.below(4) {
+            0 | 1 => r.spread(-16, 4),
+            2 => bordering(r, &mesh, c),
+            _ => cases::length(r, 0.004),
+        };
         let unit = r.below(3) > 0;
         let mut kernels = meshes::kernels(r, unit);
         if faults && r.below(3) == 0 {
