@@ -24,7 +24,8 @@ at-most p q true y h k t = le-of-lt (ltb-true p q h)
 at-most p q false true h k t = le-of-eq (eqb-true p q k)
 at-most p q false false h k t = absurd t
 
-ordered : (p q : ℕ) → T (ltb p q || eqb p q && true) → p ≤ q
+-- the test of `le` on two values whose sign is plus
+pub ordered : (p q : ℕ) → T (ltb p q || eqb p q && true) → p ≤ q
 ordered p q = at-most p q (ltb p q) (eqb p q) refl refl
 
 -- n / d is the whole number a; what is at least or at most n / d is so of a

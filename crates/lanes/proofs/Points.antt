@@ -1,18 +1,18 @@
 -- One point: where its radius is small the series is the factor, where it is large the quotient is, and what the tests of both tell. Assumes nothing.
-use mathlib.Core.Path.{_≡_, refl, sym, ap, _∙_}
+use mathlib.Core.Path.{_≡_, refl, sym, ap, _∙_, subst⁻¹}
 use mathlib.Core.Logic.{inl, inr}
-use mathlib.Core.Bool.{Bool, true, false, _&&_, _||_, cond, true≢false, false≢true}
+use mathlib.Core.Bool.{Bool, true, false, _&&_, cond, true≢false, false≢true}
 use Prim.Native.Nat.{ℕ, _*_, _^_, _<_, _≤_}
-use native.Mathlib.Nat.{le-refl, le-of-lt, le-of-eq, zero-mul, mul-pos}
+use native.Mathlib.Nat.{le-refl, le-of-lt, zero-mul, mul-pos}
 use native.Mathlib.Omega.{arith}
 use borrow.Author.Tests.{ltb-true, ltb-false, eqb-true, le-ltb}
-use lib.Dec.{ltb, eqb, lit<}
+use lib.Dec.{T, eqb, lit<}
 use lib.Ieee.{Float, nan, inf, fin, lt, le, eq, neg, div, ofBits, up, down}
 use lib.IntN.{ℤ}
 use lib.Ieee.Fits.{down-pos}
 use Rattle.base.specs.Floats.{_⊕_, _⊖_, _⊗_, _⊘_, sign, signed, abs}
 use Rattle.base.specs.Ranges.{Within, AtLeast}
-use Rattle.base.specs.RangeLaws.{square-within, one-plus-within, quotient-within, at-least}
+use Rattle.base.specs.RangeLaws.{ordered, square-within, one-plus-within, quotient-within, at-least}
 use Rattle.base.specs.Constants.{one, tenth}
 use Rattle.powers.specs.Arc.{halved, arcCore, arcAbs, arc}
 use Rattle.radial.specs.Radial.{radialGSeries, radialG}
@@ -32,11 +32,6 @@ small-between (fin true m e) h k = k
 small-between (fin false m e) h k = h
 
 -- ---- large
-at-most : (a b : ℕ) (p q : Bool) → ltb a b ≡ p → eqb a b ≡ q → (p || q && true) ≡ true → a ≤ b
-at-most a b true q h k l = le-of-lt (ltb-true a b h)
-at-most a b false true h k l = le-of-eq (eqb-true a b k)
-at-most a b false false h k l = absurd (false≢true l)
-
 no-zero : (a : ℕ) (p q : Bool) → eqb a 0 ≡ q → 0 < a → (p && q) ≡ true → ⊥
 no-zero a p true h k l = omega (arith, eqb-true a 0 h)
 no-zero a true false h k l = false≢true l
@@ -58,7 +53,7 @@ plain nan h = absurd (false≢true h)
 plain (inf true) h = absurd (false≢true h)
 plain (inf false) h = record { same = refl; plus = refl; over = refl }
 plain (fin true m e) h = let a = tenths * 1 * down e in absurd (no-zero a (eqb a (m * up e * 2 ^ 55)) (eqb a 0) refl (mul-pos {m = tenths * 1} (lit< tt) (down-pos e)) h)
-plain (fin false m e) h = record { same = refl; plus = refl; over = let a = tenths * 1 * down e in let b = m * up e * 2 ^ 55 in le-ltb b a (at-most a b (ltb a b) (eqb a b) refl refl h) }
+plain (fin false m e) h = record { same = refl; plus = refl; over = let a = tenths * 1 * down e in let b = m * up e * 2 ^ 55 in le-ltb b a (ordered a b (subst⁻¹ T h tt)) }
 
 arc-is : (t : Float) (b : Bool) → lt one t ≡ b → arcAbs t ≡ turned t (arcCore (halved (halved (inverted t))))
 unfolding arcAbs turned inverted
