@@ -8,6 +8,7 @@ pub mod Constants
 pub mod Split
 pub mod Ranges
 pub mod RangeLaws
+pub mod SignLaws
 pub mod UnitLaws
 pub mod Refusals
 pub mod RefusalLaws

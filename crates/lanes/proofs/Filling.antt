@@ -66,6 +66,30 @@ fills-or a b f h q = fills-if f h (λ e. or-zero a b e .0) (λ e. q (or-zero a b
 pub all-if : {C : Type 0} {P : ℕ → Float → Type 0} {first ys : List Float} {i : ℕ} → Filled (If C P) first i ys → 28 ≤ i → C → All P ys
 all-if f h e = record { at = λ j l. f .done j (lt-of-lt-of-le l h) e }
 
+-- ---- a loop that only looks: C says that no flag is set for the elements below i
+pub record Seen (C : Type 0) (P : ℕ → Float → Type 0) (i : ℕ) (ys : List Float) : Type 0 where
+  pub within : i ≤ 28
+  pub done : (j : ℕ) → j < i → C → P j (getD ys j nan)
+
+pub none-seen : {C : Type 0} {P : ℕ → Float → Type 0} (ys : List Float) → Seen C P 0 ys
+none-seen ys = record { within = omega arith; done = λ j l. absurd (omega arith) }
+
+pub sees-or : {P : ℕ → Float → Type 0} (a b : ℕ) {i : ℕ} {ys : List Float} → Seen (a ≡ 0) P i ys → i < 28 → (b ≡ 0 → P i (getD ys i nan)) → Seen (bitOr a b ≡ 0) P (i + 1) ys
+sees-or {P} a b {i} {ys} f h q =
+    record {
+      within = omega arith;
+      done = λ j l e. elim (eq-or-lt-of-le (under j l)) [
+        | inl k ↦ subst⁻¹ (λ (n : ℕ). P n (getD ys n nan)) k (q (or-zero a b e .1))
+        | inr g ↦ f .done j g (or-zero a b e .0)
+      ];
+    }
+  where
+    under : (j : ℕ) → j < i + 1 → j ≤ i
+    under j l = omega arith
+
+pub all-seen : {C : Type 0} {P : ℕ → Float → Type 0} {i : ℕ} {ys : List Float} → Seen C P i ys → 28 ≤ i → C → All P ys
+all-seen f h e = record { at = λ j l. f .done j (lt-of-lt-of-le l h) e }
+
 -- what is shown of the elements of ts at the places of ys
 pub of-each : {P : Float → Type 0} {ts ys : List Float} → All (λ i y. P (getD ts i nan)) ys → All (λ i t. P t) ts
 of-each h = record { at = λ j l. h .at j l }

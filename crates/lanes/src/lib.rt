@@ -6,13 +6,16 @@ ghost use mathlib.Core.Path.{_≡_};
 ghost use lib.ListN.{length};
 ghost use Rattle.lanes.specs.Factors.{Each, factor};
 use crate::arcs::arcs;
+use crate::even::not_even;
 use crate::mixed::mixed;
 use crate::radii::radii_of;
 use crate::series::all_series;
+use base::floats::abs;
 use radial::radial_g;
 use root::root;
 
 pub mod arcs;
+pub mod even;
 pub mod mixed;
 pub mod radii;
 pub mod series;
@@ -66,7 +69,7 @@ pub fn factors(
 )
     ensures { λ _. ⌜ Each (factor sigma) (now (x .entry)) (now (g .exit)) ⌝ }
 {
-    let flag = staged(x, sigma, t, u, v, f, s, g);
+    let flag = staged(x, abs(sigma), t, u, v, f, s, g) | not_even(sigma, g);
     if flag == 0 {
         return;
     }
