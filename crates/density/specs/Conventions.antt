@@ -33,8 +33,11 @@ unfoldable pub rho0Scale : Float → Float → Float
 rho0Scale bulk rho0 = cond (lt scaleLimit (abs rho0)) (bulk ⊘ rho0) one
 
 -- "a non-finite or tiny raw mass, or no target, falls back to rho0"; tiny is up to 1e-30
+abbrev pub scalable : Float → Float → Bool
+scalable target raw = lt +0 target && finite raw && lt scaleLimit (abs raw)
+
 unfoldable pub massScale : Float → Float → Float → Float
-massScale target raw scale = cond (lt +0 target && finite raw && lt scaleLimit (abs raw)) (target ⊘ raw) scale
+massScale target raw scale = cond (scalable target raw) (target ⊘ raw) scale
 
 -- the scale on every weight, from the raw mass and rho0's scale
 unfoldable pub appliedScale : Convention → Float → Float → Float

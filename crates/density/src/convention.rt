@@ -1,6 +1,6 @@
 // The conventions on the kernels' weights and the scales that they apply. No function here has a `requires`.
 ghost use mathlib.Core.Path.{_≡_};
-ghost use Rattle.density.specs.Conventions.{aboveZeroOr, bulkOf, targetOf, finite, rho0Scale, massScale, appliedScale};
+ghost use Rattle.density.specs.Conventions.{aboveZeroOr, bulkOf, targetOf, finite, rho0Scale, scalable, massScale, appliedScale};
 use base::floats::abs;
 
 // Raw; rho0 with a bulk density; mass with a target, then a bulk density.
@@ -53,12 +53,22 @@ pub fn rho0_scale(bulk: f64, rho0: f64) -> f64
     if abs(rho0) > 1e-30 { bulk / rho0 } else { 1.0 }
 }
 
+// Whether there is a target, and a mass to scale.
+pub fn scalable(target: f64, raw: f64) -> bool
+    ensures { λ r. ⌜ r ≡ scalable target raw ⌝ }
+{
+    (target > 0.0) & is_finite(raw) & (abs(raw) > 1e-30)
+}
+
 // The scale that brings the raw mass to the target, where there is a target and a mass to scale; else that of rho0.
 fn mass_scale(target: f64, raw: f64, scale: f64) -> f64
     ensures { λ r. ⌜ r ≡ massScale target raw scale ⌝ }
 {
-    let scalable = (target > 0.0) & is_finite(raw) & (abs(raw) > 1e-30);
-    if scalable { target / raw } else { scale }
+    if scalable(target, raw) {
+        target / raw
+    } else {
+        scale
+    }
 }
 
 // The scale that the convention puts on every weight.

@@ -5,7 +5,7 @@ ghost use mathlib.Core.List.{[]};
 ghost use Prim.Native.Nat.{_≤_};
 ghost use lib.ListN.{length};
 ghost use Rattle.base.specs.Answers.{measuredAs, outcome};
-ghost use Rattle.density.specs.declared.convention.Convention.the-variants.{Rho0};
+ghost use Rattle.density.specs.declared.convention.Convention.the-variants.{Rho0, Mass};
 ghost use Rattle.layout.specs.Layout.{width, slotLimit, coordsFrom};
 ghost use Rattle.layout.specs.SoundLaws.{Worded};
 ghost use Rattle.readings.specs.Readings.{byMass, applied, heldAll, readStep};
@@ -18,9 +18,10 @@ use base::refusal::Checked;
 use base::refusal::Measured;
 use base::refusal::Refusal;
 use density::convention::Convention;
-use density::convention::applied_scale;
 use density::convention::bulk_of;
 use density::convention::rho0_scale;
+use density::convention::scalable;
+use density::convention::target_of;
 use layout::check::check_store;
 use layout::left::left;
 use runs::word;
@@ -54,22 +55,28 @@ pub fn check_read(f: &[f64], w: &[u32], needs: bool) -> Checked
     }
 }
 
-// The scale by rho0 or by mass, from the sums over all pieces.
-fn scale_by_sums(v: Convention, f: &[f64], w: &[u32], faces: usize) -> f64
-    requires { ⌜ coordsFrom ≤ length (now f) ⌝ ∗ ⌜ Worded width (now w) faces ⌝ }
-    ensures { λ r. ⌜ r ≡ applied v (heldAll width (now (f .entry)) (now (w .entry)) slotLimit) ⌝ }
-{
-    let rho0 = origin_density(f, w, faces);
-    let mass = raw_mass(f, w, faces);
-    applied_scale(v, mass, rho0_scale(bulk_of(v), rho0))
-}
-
 // The scale by rho0, which looks at no volume.
 fn scale_by_rho0(bulk: f64, f: &[f64], w: &[u32], faces: usize) -> f64
     requires { ⌜ coordsFrom ≤ length (now f) ⌝ ∗ ⌜ Worded width (now w) faces ⌝ }
     ensures { λ r. ⌜ r ≡ applied (Rho0 bulk) (heldAll width (now (f .entry)) (now (w .entry)) slotLimit) ⌝ }
 {
     rho0_scale(bulk_of(Convention::Rho0(bulk)), origin_density(f, w, faces))
+}
+
+// The scale by mass. The density at the origin is summed only where there is no mass to scale.
+fn scale_by_mass(target: f64, bulk: f64, f: &[f64], w: &[u32], faces: usize) -> f64
+    requires { ⌜ coordsFrom ≤ length (now f) ⌝ ∗ ⌜ Worded width (now w) faces ⌝ }
+    ensures { λ r. ⌜ r ≡ applied (Mass target bulk) (heldAll width (now (f .entry)) (now (w .entry)) slotLimit) ⌝ }
+{
+    let aim = target_of(Convention::Mass(target, bulk));
+    let mass = raw_mass(f, w, faces);
+    if scalable(aim, mass) {
+        return aim / mass;
+    }
+    rho0_scale(
+        bulk_of(Convention::Mass(target, bulk)),
+        origin_density(f, w, faces),
+    )
 }
 
 // The scale that a convention puts on every weight.
@@ -80,7 +87,7 @@ pub fn scale_of(v: Convention, f: &[f64], w: &[u32], faces: usize) -> f64
     match v {
         Convention::Raw => 1.0,
         Convention::Rho0(bulk) => scale_by_rho0(bulk, f, w, faces),
-        Convention::Mass(_, _) => scale_by_sums(v, f, w, faces),
+        Convention::Mass(target, bulk) => scale_by_mass(target, bulk, f, w, faces),
     }
 }
 

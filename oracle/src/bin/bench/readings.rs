@@ -90,7 +90,7 @@ pub fn rows(bench: &mut Bench) {
     for (name, by) in [("raw", Convention::RAW), ("rho0", Convention::rho0(BULK)), ("mass", Convention::mass_of(TARGET, BULK))] {
         density(bench, &store, name, by, check);
     }
-    list(bench, &store);
+    list(bench, &store, check);
     report(bench, "report by mass, 512 pieces, 1,000 faces", &small, store);
     let large = Body::twenty_thousand();
     let store = full(&large);
@@ -110,7 +110,7 @@ fn density(bench: &mut Bench, store: &Shared, name: &str, by: Convention, check:
     bench.row(row.platform(platform).less(check).within(1.2));
 }
 
-fn list(bench: &mut Bench, store: &Shared) {
+fn list(bench: &mut Bench, store: &Shared, check: Id) {
     let (store, mut pieces) = (store.clone(), Pieces::of(store));
     let (mut out, mut written) = (vec![0.0; 6 * PIECES], vec![0.0; 6 * PIECES]);
     let ours = move |out: &mut [f64]| {
@@ -123,6 +123,7 @@ fn list(bench: &mut Bench, store: &Shared) {
     let ours = bench.way(Way::turns(TURNS, 1, move || ours(&mut out)));
     let platform = bench.way(Way::turns(TURNS, 1, move || pieces.write(black_box(&mut written))));
     bench.row(Row::new("list by mass, 512 pieces, 1,000 faces", ours).platform(platform));
+    bench.row(Row::new("list by mass, 512 pieces, beyond the check", ours).platform(platform).less(check));
 }
 
 fn report(bench: &mut Bench, name: &str, body: &Rc<Body>, store: Shared) {

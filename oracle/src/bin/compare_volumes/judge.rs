@@ -66,6 +66,7 @@ impl Case {
             2 => bordering(r, &mesh, c),
             _ => cases::length(r, 0.004),
         };
+        let sigma = if r.below(4) == 0 { -sigma } else { sigma };
         let unit = r.below(3) > 0;
         let mut kernels = meshes::kernels(r, unit);
         if faults && r.below(3) == 0 {

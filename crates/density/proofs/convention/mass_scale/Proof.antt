@@ -6,11 +6,11 @@ use Rattle.density.proofs.convention.mass_scale.Tie as tie
 
 returns : tie.Need-returns
 unfolding massScale
-returns c = rw (← c .before .before .is-finite .ensures, ← c .before .abs .ensures, c .if1 .taken)
+returns c = rw (← c .before .scalable .ensures, c .if1 .taken)
 
 returns-2 : tie.Need-returns-2
 unfolding massScale
-returns-2 c = rw (← c .before .before .is-finite .ensures, ← c .before .abs .ensures, c .if1 .left)
+returns-2 c = rw (← c .before .scalable .ensures, c .if1 .left)
 
 pub mass-scale-spec : {M : Type 1} → statement M
-mass-scale-spec = tie.close (tie.spec (λ c κs. search needs) (λ c κs. search needs) returns returns-2)
+mass-scale-spec = tie.close (tie.spec (λ c κs. search needs) returns returns-2)

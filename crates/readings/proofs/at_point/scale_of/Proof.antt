@@ -11,6 +11,9 @@ returns c = search needs
 returns-2 : tie.Need-returns-2
 returns-2 c = rw (c .before .before .v .given .1) (c .scale-by-rho0 .ensures)
 
+returns-3 : tie.Need-returns-3
+returns-3 c = rw (c .before .before .v2 .given .1) (c .scale-by-mass .ensures)
+
 pub scale-of-spec : {M : Type 1} → statement M
 scale-of-spec =
     tie.close
@@ -22,4 +25,4 @@ scale-of-spec =
     (λ c κs. search needs)
     returns
     returns-2
-    (λ c. search needs))
+    returns-3)
