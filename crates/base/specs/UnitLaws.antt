@@ -184,7 +184,7 @@ pattern-same s m e n d h =
 
 crossed : (M D N D' a c a' c' : ℕ) → M * c ≡ a * D → N * c' ≡ a' * D' → a * c' ≡ a' * c → M * D' * (c * c') ≡ N * D * (c * c')
 crossed M D N D' a c a' c' v w h =
-    let one : M * D' * (c * c') ≡ M * c * (D' * c') = simp (mul-assoc, mul-comm, mul-left-comm) in
+    let one : M * D' * (c * c') ≡ M * c * (D' * c') = simp (mul-assoc, mul-left-comm) in
     let two : a * D * (D' * c') ≡ a * c' * (D * D') = simp (mul-assoc, mul-comm, mul-left-comm) in
     let three : a' * c * (D * D') ≡ a' * D' * (D * c) = simp (mul-assoc, mul-comm, mul-left-comm) in
     let four : N * c' * (D * c) ≡ N * D * (c * c') = simp (mul-assoc, mul-comm, mul-left-comm) in
