@@ -55,8 +55,9 @@ fn staged(
     found.flag | mixed(t, found.high, u, v, f, s, g)
 }
 
-// Writes to g the radial factor of each point, x being the squares of the distances. What t, u, v, f
-// and s hold before and after is of no account: they are lent so that they are made once.
+// Writes to g the radial factor of each point, x being the squares of the distances. The steps go by the
+// absolute value of sigma. What t, u, v, f and s hold before and after is of no account: they are lent so that
+// they are made once.
 pub fn factors(
     x: &[f64; 28],
     sigma: f64,
