@@ -1,10 +1,10 @@
 -- A good line that is printed is parsed as itself, and what is parsed as a good line is its text, up to the patterns of a NaN. Assumes nothing.
-use mathlib.Core.Path.{_≡_, refl, sym, ap, subst, _∙_}
+use mathlib.Core.Path.{_≡_, refl, sym, subst, _∙_}
 use mathlib.Core.List.{List, [], _∷_, append-nil}
 use mathlib.Core.Logic.{_⊎_, inl, inr}
 use Prim.Native.Nat.{ℕ}
 use Rattle.text.specs.Text.{Text, lost, left}
-use Rattle.text.specs.Form.{Form, end, either, Vals, read, print, Spells, Fit, NoNan}
+use Rattle.text.specs.Form.{end, either, Vals, read, Spells, Fit, NoNan}
 use Rattle.text.specs.FormLaws.{back-whole, spells, spelled}
 use Rattle.density.specs.declared.convention.Convention.{Convention}
 use Rattle.density.specs.declared.convention.Convention.the-variants.{Raw, Rho0, Mass}

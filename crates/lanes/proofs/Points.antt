@@ -10,7 +10,7 @@ use lib.Dec.{T, eqb, lit<}
 use lib.Ieee.{Float, nan, inf, fin, binary64, lt, le, eq, neg, div, ofBits, up, down}
 use lib.IntN.{ℤ}
 use lib.Ieee.Fits.{down-pos}
-use Rattle.base.specs.Floats.{_⊕_, _⊖_, _⊗_, _⊘_, +0, sign, signed, abs}
+use Rattle.base.specs.Floats.{_⊕_, _⊖_, _⊗_, _⊘_, sign, signed, abs}
 use Rattle.base.specs.Ranges.{Within, AtLeast}
 use Rattle.base.specs.RangeLaws.{ordered, square-within, one-plus-within, quotient-within, at-least}
 use Rattle.base.specs.SignLaws.{mul-neg-left}

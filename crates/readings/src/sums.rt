@@ -6,7 +6,7 @@ ghost use lib.ListN.{length};
 ghost use Rattle.base.specs.Floats.{+0};
 ghost use Rattle.layout.specs.Layout.{width, slotLimit, pieceLimit, coordsFrom};
 ghost use Rattle.layout.specs.SoundLaws.{Worded};
-ghost use Rattle.readings.specs.Readings.{heldAt, heldAll, rescaled, origin};
+ghost use Rattle.readings.specs.Readings.{heldAt, heldAll};
 ghost use Rattle.readings.specs.Folds.{fold, scaledStep, originStep, massStep};
 use crate::held::piece_at;
 use crate::held::rescaled_at;

@@ -8,7 +8,7 @@ use lib.Dec.{T, eqb, leb, ltb, leb→le, ltb→lt}
 use lib.Ieee.{Float, binary64, toBits, isNan}
 use lib.Ieee.Bits.{ofBits-toBits, toBits-lt, toBits-ofBits}
 use Rattle.base.specs.Floats.{bits}
-use Rattle.text.specs.Text.{Text, lost, left, Got, literal, strip, keepIf, digit, pattern, patternFrom, float, decimal}
+use Rattle.text.specs.Text.{Text, lost, left, Got, strip, keepIf, digit, pattern, patternFrom, float, decimal}
 use Rattle.text.specs.Print.{decimalText, patternText, floatText}
 use Rattle.text.specs.Form.{Form, end, word, number, real, either, Vals, map, choose, orAt, or, pair, read, print, Spells, Fit, NoNan, differ, other, apart, stops, clear}
 use Rattle.text.specs.Tokens.{literal-back, literal-inv, not-lost, pattern-back, pattern-inv, NoDigit, decimal-back, decimal-inv}

@@ -2,7 +2,7 @@
 -- A token that does not fit leaves `lost`, and every token of `lost` is `lost`.
 use Prim.Native.Nat.{ℕ, zero, suc, _-_, _+_, _*_}
 use Prim.Native.String.{String}
-use Prim.Native.Char.{Char, code}
+use Prim.Native.Char.{code}
 use mathlib.Core.List.{List, [], _∷_}
 use mathlib.Core.Bool.{Bool, true, false, cond}
 use lib.ListN.{length, drop}

@@ -7,7 +7,7 @@ use native.Mathlib.Nat.{zero-add, add-zero, pow-suc, mul-add-div-right, mul-add-
 use native.Mathlib.Omega.{arith}
 use lib.Dec.{ltb, leb, eqb}
 use borrow.Author.Tests.{lt-ltb, le-ltb, le-leb, eq-eqb, ne-eqb, ltb-true, ltb-false, leb-true, eqb-true, eqb-false}
-use Rattle.text.specs.Text.{Text, lost, left, Got, literal, strip, keepIf, digit, pattern, patternFrom, missing, decimal, decimalFrom}
+use Rattle.text.specs.Text.{Text, lost, left, Got, strip, keepIf, digit, pattern, patternFrom, missing, decimal, decimalFrom}
 use Rattle.text.specs.Print.{glyph, digits, lengthFrom, decimalLength, decimalText, patternText}
 
 -- ---- literals

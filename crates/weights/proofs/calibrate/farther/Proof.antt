@@ -1,6 +1,5 @@
 -- `farther` meets its contract. Assumes nothing.
 use borrow.Author.Needs.{needs}
-use Rattle.base.specs.Floats.{greater}
 use Rattle.weights.specs.Calibration.{farther}
 use Rattle.weights.proofs.calibrate.farther.Statement.{statement}
 use Rattle.weights.proofs.calibrate.farther.Tie as tie
