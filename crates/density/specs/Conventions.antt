@@ -32,10 +32,11 @@ finite (fin s m e) = true
 unfoldable pub rho0Scale : Float → Float → Float
 rho0Scale bulk rho0 = cond (lt scaleLimit (abs rho0)) (bulk ⊘ rho0) one
 
--- "a non-finite or tiny raw mass, or no target, falls back to rho0"; tiny is up to 1e-30
+-- there is a target, and a raw mass that is finite and not tiny; tiny is up to 1e-30
 abbrev pub scalable : Float → Float → Bool
 scalable target raw = lt +0 target && finite raw && lt scaleLimit (abs raw)
 
+-- "a non-finite or tiny raw mass, or no target, falls back to rho0"
 unfoldable pub massScale : Float → Float → Float → Float
 massScale target raw scale = cond (scalable target raw) (target ⊘ raw) scale
 

@@ -18,7 +18,7 @@ pub scaled-mass : (target bulk raw scale : Float) → scalable (targetOf (Mass t
 unfolding appliedScale massScale
 scaled-mass target bulk raw scale h = rw h refl
 
--- else the mass is
+-- where there is none, the raw mass is of no account
 pub unscaled-mass : (target bulk raw scale : Float) → scalable (targetOf (Mass target bulk)) raw ≡ false → appliedScale (Mass target bulk) raw scale ≡ scale
 unfolding appliedScale massScale
 unscaled-mass target bulk raw scale h = rw h refl

@@ -27,22 +27,26 @@ none-filled ys h = record { within = omega arith; long = h; done = λ j l. absur
 pub all-filled : {P : ℕ → Float → Type 0} {first ys : List Float} {i : ℕ} → Filled P first i ys → 28 ≤ i → All P ys
 all-filled f h = record { at = λ j l. f .done j (lt-of-lt-of-le l h) }
 
+-- what holds below i and at i holds below i + 1
+up-to : {P : ℕ → Type 0} {i : ℕ} → ((j : ℕ) → j < i → P j) → P i → (j : ℕ) → j < i + 1 → P j
+up-to {P} {i} before last j l = elim (eq-or-lt-of-le (under l)) [
+  | inl e ↦ subst⁻¹ P e last
+  | inr g ↦ before j g
+]
+  where
+    under : j < i + 1 → j ≤ i
+    under k = omega arith
+
 -- one more is set; what is shown of the others may become another statement that follows
 pub fills-on : {P Q : ℕ → Float → Type 0} {first ys : List Float} {i : ℕ} {y : Float} → Filled P first i ys → i < 28 → ((j : ℕ) (z : Float) → P j z → Q j z) → Q i y → Filled Q first (i + 1) (set ys i y)
 fills-on {P} {Q} {first} {ys} {i} {y} f h on q =
     record {
       within = omega arith;
       long = length-set ys i y ∙ f .long;
-      done = λ j l. elim (eq-or-lt-of-le (under j l)) [
-        | inl e ↦ subst⁻¹ (λ (k : ℕ). Q k (getD (set ys i y) k nan)) e (subst⁻¹ (Q i) (getD-set-same ys i y nan (subst⁻¹ (λ (n : ℕ). i < n) (f .long) h)) q)
-        | inr g ↦ subst⁻¹ (Q j) (getD-set-other ys i j y nan (ne-of-lt g)) (on j (getD ys j nan) (f .done j g))
-      ];
+      done = up-to {P = λ (k : ℕ). Q k (getD (set ys i y) k nan)} (λ j g. subst⁻¹ (Q j) (getD-set-other ys i j y nan (ne-of-lt g)) (on j (getD ys j nan) (f .done j g))) (subst⁻¹ (Q i) (getD-set-same ys i y nan (subst⁻¹ (λ (n : ℕ). i < n) (f .long) h)) q);
       kept = λ j l. getD-set-other ys i j y nan (ne-of-gt (over j l)) ∙ f .kept j (lower j l);
     }
   where
-    under : (j : ℕ) → j < i + 1 → j ≤ i
-    under j l = omega arith
-
     over : (j : ℕ) → i + 1 ≤ j → i < j
     over j l = omega arith
 
@@ -78,14 +82,8 @@ pub sees-or : {P : ℕ → Float → Type 0} (a b : ℕ) {i : ℕ} {ys : List Fl
 sees-or {P} a b {i} {ys} f h q =
     record {
       within = omega arith;
-      done = λ j l e. elim (eq-or-lt-of-le (under j l)) [
-        | inl k ↦ subst⁻¹ (λ (n : ℕ). P n (getD ys n nan)) k (q (or-zero a b e .1))
-        | inr g ↦ f .done j g (or-zero a b e .0)
-      ];
+      done = up-to {P = λ (k : ℕ). bitOr a b ≡ 0 → P k (getD ys k nan)} (λ j g e. f .done j g (or-zero a b e .0)) (λ e. q (or-zero a b e .1));
     }
-  where
-    under : (j : ℕ) → j < i + 1 → j ≤ i
-    under j l = omega arith
 
 pub all-seen : {C : Type 0} {P : ℕ → Float → Type 0} {i : ℕ} {ys : List Float} → Seen C P i ys → 28 ≤ i → C → All P ys
 all-seen f h e = record { at = λ j l. f .done j (lt-of-lt-of-le l h) e }

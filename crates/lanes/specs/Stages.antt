@@ -100,6 +100,6 @@ Above g = lt +0 g ≡ true
 abbrev pub AllAbove : List Float → Type 0
 AllAbove gs = All (λ i g. Above g) gs
 
--- gs, the factors of sigma's absolute value, are those of sigma
+-- what shows that gs, the factors of sigma's absolute value, are those of sigma: sigma is that value, or the factors are above 0, where they are even
 abbrev pub Even : Float → List Float → Type 0
 Even sigma gs = Above sigma ⊎ AllAbove gs

@@ -1,5 +1,5 @@
 // The radial factors of a sigma below 0, from those of its absolute value: where all of them are above 0 they
-// are the same. `not_even` takes a run of 28 floats, as its `requires` says.
+// are the same. Internal: the functions take runs of 28 floats, as each `requires` says.
 ghost use mathlib.Core.Path.{_≡_};
 ghost use lib.ListN.{length};
 ghost use Rattle.lanes.specs.Stages.{Above, AllAbove, Even};
