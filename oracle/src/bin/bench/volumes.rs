@@ -111,7 +111,7 @@ fn advances(bench: &mut Bench, places: &[Place], (sigma, path, most): Case, volu
     }
 }
 
-/// No two faces that follow each other are neighbours, so that nearly every block has points on both sides of 0.1.
+/// Faces that follow each other lie anywhere, so that nearly every block has points on both sides of 0.1.
 fn unordered(bench: &mut Bench) {
     let body = Body::shuffled();
     let place = Place { store: body.store(), body, name: "" };
