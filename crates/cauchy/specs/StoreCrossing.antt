@@ -14,6 +14,7 @@ use Rattle.cauchy.specs.Volumes.{massFrom}
 use Rattle.cauchy.specs.declared.stores.CauchyOpened.{CauchyOpened}
 use Rattle.cauchy.specs.declared.stores.CauchyPlaced.{CauchyPlaced}
 use Rattle.cauchy.specs.declared.stores.CauchySteps.{CauchySteps}
+use Rattle.cauchy.specs.declared.stores.CauchySqueezed.{CauchySqueezed}
 use Rattle.cauchy.specs.declared.stores.CauchyConvention.{CauchyConvention}
 use Rattle.cauchy.specs.declared.stores.CauchyStoreReport.{CauchyStoreReport}
 use Rattle.cauchy.specs.declared.stores.CauchyListed.{CauchyListed}
@@ -44,6 +45,10 @@ placedFrom a = record { no = a .refusal; pieces = getD (a .counts) 0 0; need = g
 -- advance: "done, beside left"
 abbrev pub stepsFrom : Answer → CauchySteps
 stepsFrom a = record { no = a .refusal; done = getD (a .counts) 0 0; left = getD (a .counts) 1 0 }
+
+-- squeeze: "how many coordinates were freed"
+abbrev pub squeezedFrom : Answer → CauchySqueezed
+squeezedFrom a = record { no = a .refusal; freed = getD (a .counts) 0 0 }
 
 -- report: "the first seven in `MassReport` order", then "filled count, pieces, greatest error"
 abbrev pub reportFrom : Answer → CauchyStoreReport

@@ -14,6 +14,8 @@ ghost use Rattle.put.specs.Puts.{putStep};
 ghost use Rattle.put.specs.PutAnswer.{placed};
 ghost use Rattle.advance.specs.Steps.{advanceStep};
 ghost use Rattle.advance.specs.AdvanceAnswer.{advanced};
+ghost use Rattle.squeeze.specs.Squeeze.{squeezeStep};
+ghost use Rattle.squeeze.specs.SqueezeAnswer.{squeezedAs};
 ghost use Rattle.mass.specs.Calls.{pointValues};
 ghost use Rattle.readings.specs.Readings.{readStep};
 ghost use Rattle.readings.specs.Readings;
@@ -21,7 +23,7 @@ ghost use Rattle.readings.specs.ListAnswer.{listRead};
 ghost use Rattle.readings.specs.ReportAnswer.{reportRead};
 ghost use Rattle.cauchy.specs.Volumes.{valueFrom};
 ghost use Rattle.cauchy.specs.Crossing.{lent, lentFrom, numberFrom};
-ghost use Rattle.cauchy.specs.StoreCrossing.{crossed, across, openedFrom, placedFrom, stepsFrom, conventionOf, reportFrom, listedFrom};
+ghost use Rattle.cauchy.specs.StoreCrossing.{crossed, across, openedFrom, placedFrom, stepsFrom, squeezedFrom, conventionOf, reportFrom, listedFrom};
 use crate::volumes::CauchyValue;
 use crate::volumes::value_of;
 use advance::advance::Advanced;
@@ -38,6 +40,8 @@ use readings::listing::ListRead;
 use readings::listing::list;
 use readings::reports::Reported;
 use readings::reports::report;
+use squeeze::call::Squeezed;
+use squeeze::call::squeeze;
 use store::edit::Edited;
 use store::edit::clear;
 use store::edit::reweigh;
@@ -58,6 +62,13 @@ pub struct CauchyPlaced {
     pub no: u32,
     pub pieces: u32,
     pub need: u32,
+}
+
+// 01's number, then the coordinates freed.
+#[repr(C)]
+pub struct CauchySqueezed {
+    pub no: u32,
+    pub freed: u32,
 }
 
 // 01's number, then the steps done and left.
@@ -158,6 +169,26 @@ pub extern "C" fn cauchy_store_reweigh(
     ensures { λ r. ⌜ crossed r (now (floats .exit)) (now (words .exit)) ≡ across numberFrom (reweighStep width (now (floats .entry)) (now (words .entry)) place w) ⌝ }
 {
     edit_number(reweigh(floats, words, place, w))
+}
+
+fn squeezed_of(s: Squeezed) -> CauchySqueezed
+    ensures { λ r. ⌜ r ≡ squeezedFrom (squeezedAs s) ⌝ }
+{
+    match s {
+        Squeezed::Freed(freed) => CauchySqueezed { no: 0, freed },
+        Squeezed::Refused(r) => CauchySqueezed {
+            no: refusal_number(r),
+            freed: 0,
+        },
+    }
+}
+
+// Squeezes the vertices that no face uses out of a store: 4 or 5.
+#[no_mangle]
+pub extern "C" fn cauchy_store_squeeze(floats: &mut [f64], words: &mut [u32]) -> CauchySqueezed
+    ensures { λ r. ⌜ crossed r (now (floats .exit)) (now (words .exit)) ≡ across squeezedFrom (squeezeStep width (now (floats .entry)) (now (words .entry))) ⌝ }
+{
+    squeezed_of(squeeze(floats, words))
 }
 
 fn steps_of(a: Advanced) -> CauchySteps

@@ -28,26 +28,29 @@ use Rattle.layout.specs.Layout.{slotLimit, radiusOf, vertsOf, facesOf, statusOf
 use Rattle.layout.specs.Soundness.{storeCheck, slotCheck, filledCheck}
 use Rattle.store.specs.Calls.{clearStep, reweighStep}
 use Rattle.advance.specs.Steps.{advanceStep}
+use Rattle.squeeze.specs.Squeeze.{squeezeStep}
 use Rattle.put.specs.Puts.{fresh, atFirst, putFloats, putWords, putStep}
 use Rattle.machine.specs.Machine.{Mesh, Slot, empty, full, need, leftSlot, leftSum, Machine, Turn, turn, putTurn, clearTurn, weighed, reweighTurn}
 use Rattle.machine.specs.Holding.{Width, width3, placeRow, floats48, cells, floatsOf, wordsOf}
 use Rattle.readings.specs.Readings.{Reading}
-use Rattle.machine.specs.Calls.{Call, put, clear, reweigh, advance, read, machine, Result, result, seen, store, results, turns, after-all, holding, shown, chargedBy, doneBy, chargedIn, doneIn}
+use Rattle.machine.specs.Calls.{Call, put, clear, reweigh, advance, squeeze, read, machine, Result, result, seen, store, results, turns, after-all, past, holding, shown, chargedBy, doneBy, chargedIn, doneIn}
 use Rattle.machine.proofs.Valid.{Within, Valid, spread}
 use Rattle.machine.proofs.Held.{status-held, write-words, write-floats, set-seven, coords-held, corners-held}
 use Rattle.machine.proofs.Sane.{no-fault}
 use Rattle.machine.proofs.Look.{read-held}
+use Rattle.machine.proofs.Squeezing.{floats-squeezed, words-squeezed, slim-valid, left-slim}
+use Rattle.machine.proofs.Slim.{freed-is}
 use Rattle.machine.proofs.Sweep.{all-held, left-held, lowest-first, spread-length, within-spread, left-spread}
 
 module _ (wd : ℕ) (fm : Width wd) (m : Machine) (v : Valid (m .mesh) (m .slots)) (xs : List Float) (ys : List ℕ) where
   abbrev FS : List Float
-  FS = floatsOf (m .mesh) (m .slots) xs
+  FS = floatsOf (m .mesh) (m .slots) (past m xs)
 
   abbrev WS : List ℕ
   WS = wordsOf (m .mesh) (m .slots) ys
 
   sane : storeCheck wd FS WS ≡ Passed
-  sane = no-fault wd fm (m .mesh) (m .slots) v xs ys
+  sane = no-fault wd fm (m .mesh) (m .slots) v (past m xs) ys
 
   -- ---- the checks of a place
   slot-in : (i : ℕ) → i < 32 → slotCheck wd FS WS i ≡ Passed
@@ -84,7 +87,7 @@ module _ (wd : ℕ) (fm : Width wd) (m : Machine) (v : Valid (m .mesh) (m .slots
   unfolding clearStep
   clear-in i h empty e = rw (filled-none i h e) refl
   clear-in i h (full k fit p) e =
-      rw (filled-in i h k fit p e, write-floats wd fm (m .mesh) (m .slots) (v .slots) xs i h empty, zeros-row, write-words wd fm (m .mesh) (m .slots) (v .slots) ys i h empty) refl
+      rw (filled-in i h k fit p e, write-floats wd fm (m .mesh) (m .slots) (v .slots) (past m xs) i h empty, zeros-row, write-words wd fm (m .mesh) (m .slots) (v .slots) ys i h empty) refl
 
   clear-held : (i : ℕ) → store wd (holding m xs ys) (clear i) ≡ shown xs ys (machine m (clear i))
   unfolding store machine clearStep
@@ -110,10 +113,10 @@ module _ (wd : ℕ) (fm : Width wd) (m : Machine) (v : Valid (m .mesh) (m .slots
   reweigh-in i w h (full k fit p) e =
       let n : 5 + 7 * i ≡ 1 + (7 * i + 4) = omega arith in
       let s = full (weighed k w) fit p in
-      let f = set-seven wd fm (m .mesh) (m .slots) (v .slots) xs i h s 4 w (omega arith) (rw e refl) (rw e (same-volumes k fit w p)) in
+      let f = set-seven wd fm (m .mesh) (m .slots) (v .slots) (past m xs) i h s 4 w (omega arith) (rw e refl) (rw e (same-volumes k fit w p)) in
       let g : WS ≡ wordsOf (m .mesh) (set (m .slots) i s) ys = same-place i h s (rw e refl) in
       rw (filled-in i h k fit p e, n, f)
-      (ap (λ (t : List ℕ). record { left = record { floats = floatsOf (m .mesh) (set (m .slots) i s) xs; words = t }; reply = done; out = [] }) g)
+      (ap (λ (t : List ℕ). record { left = record { floats = floatsOf (m .mesh) (set (m .slots) i s) (past m xs); words = t }; reply = done; out = [] }) g)
 
   reweigh-held : (i : ℕ) (w : Float) → store wd (holding m xs ys) (reweigh i w) ≡ shown xs ys (machine m (reweigh i w))
   unfolding store machine reweighStep
@@ -148,7 +151,7 @@ module _ (wd : ℕ) (fm : Width wd) (m : Machine) (v : Valid (m .mesh) (m .slots
       → result (record { reply = counted (fit .count ∷ need (m .mesh) fit ∷ []); floats = putFloats FS i k fit; words = putWords wd WS i fit }) ≡ shown xs ys (putTurn m i k fit)
   unfolding putFloats putWords atFirst
   put-in i k fit h =
-      let f = write-floats wd fm (m .mesh) (m .slots) (v .slots) xs i h (full k fit 0) in
+      let f = write-floats wd fm (m .mesh) (m .slots) (v .slots) (past m xs) i h (full k fit 0) in
       let g = rw (zero-div, zero-mod) at (write-words wd fm (m .mesh) (m .slots) (v .slots) ys i h (full k fit 0)) in
       rw (faces-held, fresh-cells k fit 16 0, f, g) refl
 
@@ -170,9 +173,9 @@ module _ (wd : ℕ) (fm : Width wd) (m : Machine) (v : Valid (m .mesh) (m .slots
         sane,
         verts-held,
         faces-held,
-        coords-held wd fm (m .mesh) (m .slots) (v .slots) xs (v .coords),
+        coords-held wd fm (m .mesh) (m .slots) (v .slots) (past m xs) (v .coords),
         corners-held wd fm (m .mesh) (m .slots) (v .slots) ys (v .corners),
-        all-held wd fm (m .mesh) (m .slots) v xs ys n,
+        all-held wd fm (m .mesh) (m .slots) v (past m xs) ys n,
         left-held wd fm (m .mesh) (m .slots) v ys,
         a,
         lowest-first (m .mesh) (min n l) n (m .slots) refl,
@@ -182,13 +185,29 @@ module _ (wd : ℕ) (fm : Width wd) (m : Machine) (v : Valid (m .mesh) (m .slots
   -- ---- a reading
   reading-held : (r : Reading) → store wd (holding m xs ys) (read r) ≡ shown xs ys (machine m (read r))
   unfolding store machine
-  reading-held r = ap (seen (holding m xs ys)) (read-held wd fm (m .mesh) (m .slots) v xs ys r)
+  reading-held r = ap (seen (holding m xs ys)) (read-held wd fm (m .mesh) (m .slots) v (past m xs) ys r)
+
+  -- ---- squeeze
+  squeeze-held : store wd (holding m xs ys) squeeze ≡ shown xs ys (machine m squeeze)
+  unfolding store machine squeezeStep
+  squeeze-held =
+      rw (
+        sane,
+        verts-held,
+        faces-held,
+        coords-held wd fm (m .mesh) (m .slots) (v .slots) (past m xs) (v .coords),
+        corners-held wd fm (m .mesh) (m .slots) (v .slots) ys (v .corners),
+        floats-squeezed wd fm (m .mesh) (m .slots) v (m .freed) xs,
+        words-squeezed wd fm (m .mesh) (m .slots) v ys,
+        freed-is (m .mesh),
+      ) refl
 
   pub one-call : (c : Call) → store wd (holding m xs ys) c ≡ shown xs ys (machine m c)
   one-call (put i k) = put-held i k
   one-call (clear i) = clear-held i
   one-call (reweigh i w) = reweigh-held i w
   one-call (advance n) = advance-held n
+  one-call squeeze = squeeze-held
   one-call (read r) = reading-held r
 
 -- ---- what every turn keeps
@@ -270,6 +289,7 @@ module _ (m : Machine) (v : Valid (m .mesh) (m .slots)) where
         valid = remade (spread (m .mesh) n (m .slots)) (spread-length 3 width3 (m .mesh) n (m .slots) ∙ v .slots) (within-spread (m .mesh) n (m .slots) (v .within));
         balance = rw (left-spread (m .mesh) n (m .slots)) (omega arith);
       })
+  kept squeeze = record { valid = slim-valid (m .mesh) (m .slots) v; balance = rw (left-slim (m .mesh) (m .slots) v) refl }
   kept (read r) = record { valid = v; balance = refl }
 
 -- ---- every list of calls

@@ -21,10 +21,11 @@ use Rattle.readings.specs.Readings.{Reading, density, report, list, needsWork, 
 use Rattle.machine.specs.Machine.{leftSum, Machine, opened}
 use Rattle.machine.specs.Holding.{Width, excessF, excessW}
 use Rattle.machine.specs.Fresh.{freshSeen}
-use Rattle.machine.specs.Calls.{Call, advance, read, machine, Store, Result, store, leaves, after-all, holding, leftIn}
+use Rattle.machine.specs.Calls.{Call, advance, read, machine, Store, Result, store, leaves, after-all, holding, leftIn, without, heard}
 use Rattle.machine.specs.Demands.{leaving, Same, Read, Each, end, next, Follows, Demand3}
 use Rattle.machine.proofs.Valid.{Valid}
 use Rattle.machine.proofs.Claim.{one-call, kept, books}
+use Rattle.machine.proofs.Unaltered.{unaltered}
 use Rattle.machine.proofs.Opened.{opens, opened-valid}
 
 -- ---- what is answered is never 8
@@ -131,6 +132,8 @@ demand3 wd fm r xs ks fs ws =
       holds = holds;
       every-list = λ h cs. subst (λ (s : Store). Follows wd (excessF xs fs) (excessW wd ks ws) (opened r xs ks) s cs) (sym (holds h))
           (follows wd fm (excessF xs fs) (excessW wd ks ws) cs (opened r xs ks) (opened-valid wd fm r xs ks (length fs) (length ws) h) refl refl);
+      unaltered = λ h cs. subst (λ (s : Store). heard wd s cs ≡ heard wd s (without cs)) (sym (holds h))
+          (unaltered wd fm (excessF xs fs) (excessW wd ks ws) (opened r xs ks) (opened-valid wd fm r xs ks (length fs) (length ws) h) cs);
     }
   where
     holds : openCheck wd (length xs) ks (length fs) (length ws) ≡ Passed → leaving (openStep wd fs ws r xs ks) ≡ holding (opened r xs ks) (excessF xs fs) (excessW wd ks ws)

@@ -6,6 +6,9 @@ pub mod Step
 pub mod Sweep
 pub mod Read
 pub mod Look
+pub mod Slim
+pub mod Squeezing
 pub mod Claim
+pub mod Unaltered
 pub mod Opened
 pub mod Demand

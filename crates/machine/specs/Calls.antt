@@ -1,11 +1,12 @@
 -- Demand 3: the calls of a list, what the machine does at each, the store's calls by their contracts, and the sums over a list. Definitions only.
 use mathlib.Core.Bool.{cond}
-use mathlib.Core.List.{List, [], _∷_}
+use mathlib.Core.List.{List, [], _∷_, _++_}
 use Prim.Native.Nat.{ℕ, _+_}
 use lib.Dec.{ltb}
-use lib.ListN.{getD}
+use lib.ListN.{getD, replicate}
 use lib.Ieee.{Float}
-use Rattle.base.specs.Answers.{Answer, refused, Outcome}
+use Rattle.base.specs.Floats.{+0}
+use Rattle.base.specs.Answers.{Answer, refused, Outcome, outcome}
 use Rattle.base.specs.declared.refusal.Refusal.the-variants.{NoPlace}
 use Rattle.kernel.specs.declared.kernel.Kernel.{Kernel}
 use Rattle.pieces.specs.Pieces.{decomposed}
@@ -14,7 +15,8 @@ use Rattle.store.specs.Calls.{After, clearStep, reweighStep}
 use Rattle.advance.specs.Steps.{advanceStep}
 use Rattle.put.specs.Puts.{putStep}
 use Rattle.readings.specs.Readings.{Reading, readingOf, readStep}
-use Rattle.machine.specs.Machine.{empty, leftSum, Machine, Turn, turn, putTurn, clearTurn, reweighTurn, advanceTurn}
+use Rattle.squeeze.specs.Squeeze.{squeezeStep}
+use Rattle.machine.specs.Machine.{empty, leftSum, Machine, Turn, turn, putTurn, clearTurn, reweighTurn, advanceTurn, squeezeTurn}
 use Rattle.machine.specs.Holding.{floatsOf, wordsOf}
 use Rattle.machine.specs.Fresh.{freshSeen}
 
@@ -24,6 +26,7 @@ pub data Call : Type 0 where
   clear : ℕ → Call
   reweigh : ℕ → Float → Call
   advance : ℕ → Call
+  squeeze : Call
   read : Reading → Call
 
 -- ---- the machine: "It refuses by the table below as its own places stand; a refused call changes nothing."
@@ -35,6 +38,7 @@ machine m (put i k) = cond (ltb i slotLimit) (putTurn m i k (decomposed k (m .me
 machine m (clear i) = cond (ltb i slotLimit) (clearTurn m i (getD (m .slots) i empty)) (turn m (refused NoPlace))
 machine m (reweigh i v) = cond (ltb i slotLimit) (reweighTurn m i v (getD (m .slots) i empty)) (turn m (refused NoPlace))
 machine m (advance n) = advanceTurn m n
+machine m squeeze = squeezeTurn m
 machine m (read r) = given m (readingOf r (leftSum (m .mesh) (m .slots)) (freshSeen (m .mesh) (m .slots)))
 
 -- ---- the store
@@ -63,6 +67,7 @@ store q s (put i k) = result (putStep q (s .floats) (s .words) i k)
 store q s (clear i) = result (clearStep q (s .floats) (s .words) i)
 store q s (reweigh i v) = result (reweighStep q (s .floats) (s .words) i v)
 store q s (advance n) = result (advanceStep q (s .floats) (s .words) n)
+store q s squeeze = result (squeezeStep q (s .floats) (s .words))
 store q s (read r) = seen s (readStep q (s .floats) (s .words) r)
 
 -- ---- a list of calls: each gets what the call before it left
@@ -82,9 +87,12 @@ abbrev pub after-all : Machine → List Call → Machine
 after-all m [] = m
 after-all m (c ∷ cs) = after-all (machine m c .next) cs
 
--- ---- the runs that hold a machine, with what lies past them
+-- ---- the runs that hold a machine, with what lies past them: the freed words, which are zero, and the excess
+abbrev pub past : Machine → List Float → List Float
+past m xs = replicate (m .freed) +0 ++ xs
+
 abbrev pub holding : Machine → List Float → List ℕ → Store
-holding m xs ys = record { floats = floatsOf (m .mesh) (m .slots) xs; words = wordsOf (m .mesh) (m .slots) ys }
+holding m xs ys = record { floats = floatsOf (m .mesh) (m .slots) (past m xs); words = wordsOf (m .mesh) (m .slots) ys }
 
 abbrev pub shown : List Float → List ℕ → Turn → Result
 shown xs ys t = record { left = holding (t .next) xs ys; reply = t .reply; out = t .out }
@@ -95,6 +103,7 @@ chargedBy (put i k) r = getD (r .counts) 1 0
 chargedBy (clear i) r = 0
 chargedBy (reweigh i v) r = 0
 chargedBy (advance n) r = 0
+chargedBy squeeze r = 0
 chargedBy (read x) r = 0
 
 -- the steps that an advance answers
@@ -103,6 +112,7 @@ doneBy (put i k) r = 0
 doneBy (clear i) r = 0
 doneBy (reweigh i v) r = 0
 doneBy (advance n) r = getD (r .counts) 0 0
+doneBy squeeze r = 0
 doneBy (read x) r = 0
 
 -- the left that an advance answers
@@ -116,3 +126,25 @@ chargedIn q s (c ∷ cs) = chargedBy c (store q s c .reply) + chargedIn q (store
 abbrev pub doneIn : ℕ → Store → List Call → ℕ
 doneIn q s [] = 0
 doneIn q s (c ∷ cs) = doneBy c (store q s c .reply) + doneIn q (store q s c .left) cs
+
+-- ---- a list without its squeezes, and what its other calls answer and write into the runs lent beside the store
+abbrev pub without : List Call → List Call
+without [] = []
+without (put i k ∷ cs) = put i k ∷ without cs
+without (clear i ∷ cs) = clear i ∷ without cs
+without (reweigh i v ∷ cs) = reweigh i v ∷ without cs
+without (advance n ∷ cs) = advance n ∷ without cs
+without (squeeze ∷ cs) = without cs
+without (read r ∷ cs) = read r ∷ without cs
+
+abbrev pub others : Call → Outcome → List Outcome → List Outcome
+others (put i k) o os = o ∷ os
+others (clear i) o os = o ∷ os
+others (reweigh i v) o os = o ∷ os
+others (advance n) o os = o ∷ os
+others squeeze o os = os
+others (read r) o os = o ∷ os
+
+abbrev pub heard : ℕ → Store → List Call → List Outcome
+heard q s [] = []
+heard q s (c ∷ cs) = others c (outcome (store q s c .reply) (store q s c .out)) (heard q (store q s c .left) cs)

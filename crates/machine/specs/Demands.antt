@@ -15,7 +15,7 @@ use Rattle.readings.specs.Readings.{Reading, needsWork, answerOf}
 use Rattle.machine.specs.Machine.{leftSum, Machine, opened}
 use Rattle.machine.specs.Holding.{excessF, excessW}
 use Rattle.machine.specs.Fresh.{freshSeen}
-use Rattle.machine.specs.Calls.{Call, advance, read, machine, Store, store, leaves, after-all, holding, leftIn, chargedIn, doneIn}
+use Rattle.machine.specs.Calls.{Call, advance, read, machine, Store, store, leaves, after-all, holding, leftIn, chargedIn, doneIn, without, heard}
 
 abbrev pub leaving : After → Store
 leaving a = record { floats = a .floats; words = a .words }
@@ -28,7 +28,7 @@ pub record Same (q : ℕ) (exF : List Float) (exW : List ℕ) (m : Machine) (s :
   pub reply : store q s c .reply ≡ machine m c .reply
   -- the run lent beside the store, each word
   pub lent : store q s c .out ≡ machine m c .out
-  -- 01's fields for mesh, radius, places and steps, volumes so far included, and the excess as the opening found it
+  -- 01's fields for mesh, radius, places and steps, volumes so far included, the freed words zero, and the excess as the opening found it
   pub fields : store q s c .left ≡ holding (machine m c .next) exF exW
 
 -- a reading: unfinished exactly where the machine has work left that it needs; any other as worked afresh
@@ -61,3 +61,6 @@ pub record Demand3 (q : ℕ) (r : Float) (xs : List Float) (ks : List ℕ) (fs :
   -- and every list of calls on those runs goes as the machine goes
   pub every-list : openCheck q (length xs) ks (length fs) (length ws) ≡ Passed → (cs : List Call)
       → Follows q (excessF xs fs) (excessW q ks ws) (opened r xs ks) (leaving (openStep q fs ws r xs ks)) cs
+  -- 02, L12: "Later readings and step counts are then the same as without it; left isn't altered by it": what the other calls answer and write
+  pub unaltered : openCheck q (length xs) ks (length fs) (length ws) ≡ Passed → (cs : List Call)
+      → heard q (leaving (openStep q fs ws r xs ks)) cs ≡ heard q (leaving (openStep q fs ws r xs ks)) (without cs)

@@ -1,7 +1,7 @@
 -- 01, "The store": the machine, "fed only the calls' arguments, never the store's runs". Definitions only.
 use mathlib.Core.Bool.{cond}
-use mathlib.Core.List.{List, [], _∷_}
-use Prim.Native.Nat.{ℕ, _+_, _*_, _-_, _/_, min}
+use mathlib.Core.List.{List, [], _∷_, _++_, map}
+use Prim.Native.Nat.{ℕ, zero, suc, _+_, _*_, _-_, _/_, min}
 use lib.Dec.{eqb}
 use lib.ListN.{length, getD, set, replicate}
 use lib.Ieee.{Float}
@@ -11,6 +11,7 @@ use Rattle.base.specs.declared.refusal.Refusal.the-variants.{Vacant}
 use Rattle.kernel.specs.declared.kernel.Kernel.{Kernel}
 use Rattle.pieces.specs.declared.pieces.Pieces.{Pieces}
 use Rattle.layout.specs.Layout.{slotLimit}
+use Rattle.squeeze.specs.Squeeze.{used, pointOf}
 
 -- the mesh and radius that an opening gave: V and F are the counts of vertices and faces
 pub record Mesh : Type 0 where
@@ -49,6 +50,8 @@ pub record Machine : Type 0 where
   pub slots : List Slot
   pub charged : ℕ
   pub dropped : ℕ
+  -- the coordinates that squeezes freed
+  pub freed : ℕ
 
 -- what a call does: the machine after it, the reply, and the run lent beside the store as it is then ([] where none is lent)
 pub record Turn : Type 0 where
@@ -61,14 +64,14 @@ turn m r = record { next = m; reply = r; out = [] }
 
 -- with other places, and so much more charged and dropped
 abbrev pub with-slots : Machine → List Slot → ℕ → ℕ → Machine
-with-slots m ss c d = record { mesh = m .mesh; slots = ss; charged = m .charged + c; dropped = m .dropped + d }
+with-slots m ss c d = record { mesh = m .mesh; slots = ss; charged = m .charged + c; dropped = m .dropped + d; freed = m .freed }
 
 -- "Open copies a mesh and radius; all empty, charged = dropped = 0"
 abbrev pub meshOf : Float → List Float → List ℕ → Mesh
 meshOf r xs ks = record { radius = r; coords = xs; corners = ks; verts = length xs / 3; faces = length ks / 3 }
 
 abbrev pub opened : Float → List Float → List ℕ → Machine
-opened r xs ks = record { mesh = meshOf r xs ks; slots = replicate slotLimit empty; charged = 0; dropped = 0 }
+opened r xs ks = record { mesh = meshOf r xs ks; slots = replicate slotLimit empty; charged = 0; dropped = 0; freed = 0 }
 
 -- "Put: charged += need, dropped += the old need - p (0 for an empty place), p = 0. Answers pieces and need."
 abbrev pub putTurn : Machine → ℕ → Kernel → Pieces → Turn
@@ -101,3 +104,43 @@ abbrev pub advanceTurn : Machine → ℕ → Turn
 advanceTurn m n =
     let ss = iterate (bump (m .mesh)) (stepsOf m n) (m .slots) in
     turn (with-slots m ss 0 0) (counted (stepsOf m n ∷ leftSum (m .mesh) ss ∷ []))
+
+-- ---- 02, L12, on the machine's mesh alone
+
+-- the vertices below n that a face uses, in order
+abbrev pub usedBelow : List ℕ → ℕ → List ℕ
+usedBelow ks zero = []
+usedBelow ks (suc n) = usedBelow ks n ++ cond (used ks n) (n ∷ []) []
+
+-- where vertex i stands among the vertices vs: its new number
+abbrev pub placeIn : List ℕ → ℕ → ℕ
+placeIn [] i = 0
+placeIn (v ∷ vs) i = cond (eqb v i) 0 (suc (placeIn vs i))
+
+-- the coordinates of the vertices vs
+abbrev pub pointsAt : List Float → List ℕ → List Float
+pointsAt xs [] = []
+pointsAt xs (v ∷ vs) = pointOf xs v ++ pointsAt xs vs
+
+-- "its machine then drops the same vertices from its mesh": radius and F stay
+unfoldable pub slim : Mesh → Mesh
+slim m =
+    let vs = usedBelow (m .corners) (m .verts) in
+    record {
+      radius = m .radius;
+      coords = pointsAt (m .coords) vs;
+      corners = map (placeIn vs) (m .corners);
+      verts = length vs;
+      faces = m .faces;
+    }
+
+-- "It answers how many coordinates were freed": three to each vertex that is dropped
+unfoldable pub freedBy : Mesh → ℕ
+freedBy m = 3 * (m .verts - length (usedBelow (m .corners) (m .verts)))
+
+-- places and sums stay
+abbrev pub squeezeTurn : Machine → Turn
+squeezeTurn m =
+    turn
+    (record { mesh = slim (m .mesh); slots = m .slots; charged = m .charged; dropped = m .dropped; freed = freedBy (m .mesh) + m .freed })
+    (counted (freedBy (m .mesh) ∷ []))

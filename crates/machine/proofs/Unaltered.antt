@@ -1,0 +1,199 @@
+-- 02, L12: with squeezes or without them, the other calls of a list answer and write the same. Assumes nothing.
+use mathlib.Core.Path.{_≡_, refl, sym, ap, subst, _∙_}
+use mathlib.Core.Bool.{Bool, true, false, cond}
+use mathlib.Core.List.{List, [], _∷_, _++_}
+use Prim.Native.Nat.{ℕ, zero, suc, _+_, _*_, _≤_, _<_}
+use native.Mathlib.Omega.{arith}
+use lib.Dec.{ltb}
+use lib.ListN.{length, getD, length-map}
+use lib.Ieee.{Float, nan}
+use Rattle.base.specs.Floats.{+0, greater}
+use Rattle.base.specs.Loops.{iterate}
+use Rattle.base.specs.Answers.{Outcome, outcome, refused}
+use Rattle.base.specs.declared.refusal.Refusal.the-variants.{NoPlace}
+use Rattle.mesh.specs.Triangles.{triangleAt}
+use Rattle.mesh.specs.CheckLaws.{below-each}
+use Rattle.volume.specs.Volume.{kernelVolume, bodyVolume, origin}
+use Rattle.field.specs.Field.{centreOf}
+use Rattle.kernel.specs.declared.kernel.Kernel.{Kernel}
+use Rattle.pieces.specs.declared.pieces.Pieces.{Pieces}
+use Rattle.pieces.specs.Pieces.{decomposed}
+use Rattle.layout.specs.Layout.{slotLimit}
+use Rattle.readings.specs.Readings.{Reading, Part, Seen, seeing, readingOf}
+use Rattle.squeeze.specs.Squeeze.{rank, renumbered, keptTo}
+use Rattle.squeeze.specs.Marks.{Below}
+use Rattle.squeeze.specs.TriangleLaws.{same-triangle, rank-below, corner-at}
+use Rattle.machine.specs.Machine.{Mesh, Slot, empty, full, leftSum, bump, Machine, Turn, turn, freedBy, stepsOf, putTurn, clearTurn, reweighTurn, advanceTurn}
+use Rattle.machine.specs.Holding.{Width, triangles}
+use Rattle.machine.specs.Fresh.{freshPart, freshAt, freshSlot, freshAll, freshFilled, worseOne, worstFrom, freshSeen}
+use Rattle.machine.specs.Calls.{Call, put, clear, reweigh, advance, squeeze, read, machine, Result, holding, shown, without, others, heard}
+use Rattle.machine.proofs.Valid.{Valid}
+use Rattle.machine.proofs.Slim.{slim-is}
+use Rattle.machine.proofs.Squeezing.{remesh, left-same, left-sum-same, volume-same}
+use Rattle.machine.proofs.Claim.{one-call, kept}
+
+same-seen : {p p′ : List Part} {b b′ : Float} {n : ℕ} {e e′ : Float} → p ≡ p′ → b ≡ b′ → e ≡ e′ → seeing p b n e ≡ seeing p′ b′ n e′
+same-seen hp hb he = rw (hp, hb, he) refl
+
+-- ---- on another mesh of the same radius, faces and triangles
+module _ (m : Mesh) (xs : List Float) (ks : List ℕ) (w : ℕ) where
+  abbrev n : Mesh
+  n = remesh m xs ks w
+
+  bump-same : (ss : List Slot) → bump n ss ≡ bump m ss
+  bump-same [] = refl
+  bump-same (s ∷ ss) = rw (left-same m xs ks w s, bump-same ss) refl
+
+  bumps-same : (k : ℕ) (ss : List Slot) → iterate (bump n) k ss ≡ iterate (bump m) k ss
+  bumps-same zero ss = refl
+  bumps-same (suc k) ss = ap (bump n) (bumps-same k ss) ∙ bump-same (iterate (bump m) k ss)
+
+  worse-same : (e : Float) (s : Slot) → worseOne n e s ≡ worseOne m e s
+  worse-same e empty = refl
+  worse-same e (full k fit p) = refl
+
+  worst-same : (e : Float) (ss : List Slot) → worstFrom n e ss ≡ worstFrom m e ss
+  worst-same e [] = refl
+  worst-same e (s ∷ ss) = ap (λ (x : Float). worstFrom n x ss) (worse-same e s) ∙ worst-same (worseOne m e s) ss
+
+  module _ (same : (f : ℕ) → f < m .faces → triangleAt xs ks f ≡ triangles m f) where
+    part-same : (k : Kernel) (fit : Pieces) (j : ℕ) → freshPart n k fit j ≡ freshPart m k fit j
+    part-same k fit j = ap (λ (x : Float). record { kernel = freshPart m k fit j .kernel; volume = x }) (volume-same m xs ks w same (centreOf k) (getD (fit .sigma) j nan) (m .faces) (omega arith))
+
+    parts-same : (k : Kernel) (fit : Pieces) (j : ℕ) → freshAt n k fit j ≡ freshAt m k fit j
+    parts-same k fit zero = refl
+    parts-same k fit (suc j) = rw (parts-same k fit j, part-same k fit j) refl
+
+    slot-same : (s : Slot) → freshSlot n s ≡ freshSlot m s
+    slot-same empty = refl
+    slot-same (full k fit p) = parts-same k (decomposed k (m .radius)) (decomposed k (m .radius) .count)
+
+    all-same : (ss : List Slot) → freshAll n ss ≡ freshAll m ss
+    all-same [] = refl
+    all-same (s ∷ ss) = rw (slot-same s, all-same ss) refl
+
+    pub seen-same : (ss : List Slot) → freshSeen n ss ≡ freshSeen m ss
+    unfolding freshSeen
+    seen-same ss = same-seen (all-same ss) (volume-same m xs ks w same origin +0 (m .faces) (omega arith)) (worst-same +0 ss)
+
+-- ---- a machine on another mesh
+abbrev remade : Machine → List Float → List ℕ → ℕ → ℕ → Machine
+remade m xs ks w g = record { mesh = remesh (m .mesh) xs ks w; slots = m .slots; charged = m .charged; dropped = m .dropped; freed = g }
+
+abbrev lifted : Turn → List Float → List ℕ → ℕ → ℕ → Turn
+lifted t xs ks w g = record { next = remade (t .next) xs ks w g; reply = t .reply; out = t .out }
+
+-- a mesh with the triangles of a machine's
+record Alike (m : Mesh) (xs : List Float) (ks : List ℕ) (w : ℕ) : Type 0 where
+  below : Below w ks
+  long : length ks ≡ 3 * m .faces
+  same : (f : ℕ) → f < m .faces → triangleAt xs ks f ≡ triangles m f
+
+-- one call that is no squeeze
+record Goes (m : Machine) (c : Call) (xs : List Float) (ks : List ℕ) (w g : ℕ) : Type 0 where
+  lift : machine (remade m xs ks w g) c ≡ lifted (machine m c) xs ks w g
+  mesh : machine m c .next .mesh ≡ m .mesh
+
+module _ (m : Machine) (xs : List Float) (ks : List ℕ) (w g : ℕ) where
+  put-goes : (i : ℕ) (k : Kernel) → Goes m (put i k) xs ks w g
+  unfolding machine
+  put-goes i k = record { lift = lift (ltb i slotLimit); mesh = stays (ltb i slotLimit) }
+    where
+      fit : Pieces
+      fit = decomposed k (m .mesh .radius)
+
+      lift : (b : Bool) → cond b (putTurn (remade m xs ks w g) i k fit) (turn (remade m xs ks w g) (refused NoPlace)) ≡ lifted (cond b (putTurn m i k fit) (turn m (refused NoPlace))) xs ks w g
+      lift true = rw (left-same (m .mesh) xs ks w (getD (m .slots) i empty)) refl
+      lift false = refl
+
+      stays : (b : Bool) → cond b (putTurn m i k fit) (turn m (refused NoPlace)) .next .mesh ≡ m .mesh
+      stays true = refl
+      stays false = refl
+
+  clear-goes : (i : ℕ) → Goes m (clear i) xs ks w g
+  unfolding machine
+  clear-goes i = record { lift = lift (ltb i slotLimit) (getD (m .slots) i empty); mesh = stays (ltb i slotLimit) (getD (m .slots) i empty) }
+    where
+      lift : (b : Bool) (s : Slot) → cond b (clearTurn (remade m xs ks w g) i s) (turn (remade m xs ks w g) (refused NoPlace)) ≡ lifted (cond b (clearTurn m i s) (turn m (refused NoPlace))) xs ks w g
+      lift true empty = refl
+      lift true (full k fit p) = refl
+      lift false s = refl
+
+      stays : (b : Bool) (s : Slot) → cond b (clearTurn m i s) (turn m (refused NoPlace)) .next .mesh ≡ m .mesh
+      stays true empty = refl
+      stays true (full k fit p) = refl
+      stays false s = refl
+
+  reweigh-goes : (i : ℕ) (x : Float) → Goes m (reweigh i x) xs ks w g
+  unfolding machine
+  reweigh-goes i x = record { lift = lift (ltb i slotLimit) (getD (m .slots) i empty); mesh = stays (ltb i slotLimit) (getD (m .slots) i empty) }
+    where
+      lift : (b : Bool) (s : Slot) → cond b (reweighTurn (remade m xs ks w g) i x s) (turn (remade m xs ks w g) (refused NoPlace)) ≡ lifted (cond b (reweighTurn m i x s) (turn m (refused NoPlace))) xs ks w g
+      lift true empty = refl
+      lift true (full k fit p) = refl
+      lift false s = refl
+
+      stays : (b : Bool) (s : Slot) → cond b (reweighTurn m i x s) (turn m (refused NoPlace)) .next .mesh ≡ m .mesh
+      stays true empty = refl
+      stays true (full k fit p) = refl
+      stays false s = refl
+
+  advance-goes : (k : ℕ) → Goes m (advance k) xs ks w g
+  unfolding machine
+  advance-goes k =
+      let ss = iterate (bump (m .mesh)) (stepsOf m k) (m .slots) in
+      record {
+        lift = rw (left-sum-same (m .mesh) xs ks w (m .slots), bumps-same (m .mesh) xs ks w (stepsOf m k) (m .slots), left-sum-same (m .mesh) xs ks w ss) refl;
+        mesh = refl;
+      }
+
+  read-goes : Alike (m .mesh) xs ks w → (r : Reading) → Goes m (read r) xs ks w g
+  unfolding machine
+  read-goes a r = record { lift = rw (left-sum-same (m .mesh) xs ks w (m .slots), seen-same (m .mesh) xs ks w (a .same) (m .slots)) refl; mesh = refl }
+
+-- ---- a list of calls
+abbrev heardBy : Machine → List Call → List Outcome
+heardBy m [] = []
+heardBy m (c ∷ cs) = others c (outcome (machine m c .reply) (machine m c .out)) (heardBy (machine m c .next) cs)
+
+-- one squeeze more
+squeezed-alike : (m : Mesh) (xs : List Float) (ks : List ℕ) (w : ℕ) → Alike m xs ks w → Alike m (keptTo ks xs w) (renumbered ks) (rank ks w)
+squeezed-alike m xs ks w a =
+    let n = length-map ks (rank ks) in
+    record {
+      below = record { corner = λ j h. rw (corner-at ks j) (rank-below ks xs w (a .below) j (omega arith)) };
+      long = n ∙ a .long;
+      same = λ f h. same-triangle ks xs w (a .below) f (omega (arith, a .long)) ∙ a .same f h;
+    }
+
+module _ (m : Machine) (c : Call) (cs : List Call) (xs : List Float) (ks : List ℕ) (w g : ℕ) where
+  one-heard : Goes m c xs ks w g → Alike (m .mesh) xs ks w
+      → (Alike (machine m c .next .mesh) xs ks w → heardBy (remade (machine m c .next) xs ks w g) cs ≡ heardBy (machine m c .next) (without cs))
+      → _≡_ {A = List Outcome} (outcome (machine (remade m xs ks w g) c .reply) (machine (remade m xs ks w g) c .out) ∷ heardBy (machine (remade m xs ks w g) c .next) cs)
+      (outcome (machine m c .reply) (machine m c .out) ∷ heardBy (machine m c .next) (without cs))
+  one-heard s a ih =
+      rw (s .lift) (ap (λ (os : List Outcome). outcome (machine m c .reply) (machine m c .out) ∷ os) (ih (subst (λ (t : Mesh). Alike t xs ks w) (sym (s .mesh)) a)))
+
+same-heard : (cs : List Call) (m : Machine) (xs : List Float) (ks : List ℕ) (w g : ℕ) → Alike (m .mesh) xs ks w → heardBy (remade m xs ks w g) cs ≡ heardBy m (without cs)
+unfolding machine
+same-heard [] m xs ks w g a = refl
+same-heard (put i k ∷ cs) m xs ks w g a = one-heard m (put i k) cs xs ks w g (put-goes m xs ks w g i k) a (same-heard cs (machine m (put i k) .next) xs ks w g)
+same-heard (clear i ∷ cs) m xs ks w g a = one-heard m (clear i) cs xs ks w g (clear-goes m xs ks w g i) a (same-heard cs (machine m (clear i) .next) xs ks w g)
+same-heard (reweigh i x ∷ cs) m xs ks w g a = one-heard m (reweigh i x) cs xs ks w g (reweigh-goes m xs ks w g i x) a (same-heard cs (machine m (reweigh i x) .next) xs ks w g)
+same-heard (advance k ∷ cs) m xs ks w g a = one-heard m (advance k) cs xs ks w g (advance-goes m xs ks w g k) a (same-heard cs (machine m (advance k) .next) xs ks w g)
+same-heard (squeeze ∷ cs) m xs ks w g a =
+    let n = remesh (m .mesh) xs ks w in
+    rw (slim-is n (a .below)) (same-heard cs m (keptTo ks xs w) (renumbered ks) (rank ks w) (freedBy n + g) (squeezed-alike (m .mesh) xs ks w a))
+same-heard (read r ∷ cs) m xs ks w g a = one-heard m (read r) cs xs ks w g (read-goes m xs ks w g a r) a (same-heard cs (machine m (read r) .next) xs ks w g)
+
+module _ (wd : ℕ) (fm : Width wd) (exF : List Float) (exW : List ℕ) where
+  store-heard : (cs : List Call) (m : Machine) → Valid (m .mesh) (m .slots) → heard wd (holding m exF exW) cs ≡ heardBy m cs
+  store-heard [] m v = refl
+  store-heard (c ∷ cs) m v =
+      rw (one-call wd fm m v exF exW c) (ap (others c (outcome (machine m c .reply) (machine m c .out))) (store-heard cs (machine m c .next) (kept m v c .valid)))
+
+  pub unaltered : (m : Machine) → Valid (m .mesh) (m .slots) → (cs : List Call) → heard wd (holding m exF exW) cs ≡ heard wd (holding m exF exW) (without cs)
+  unaltered m v cs =
+      let a : Alike (m .mesh) (m .mesh .coords) (m .mesh .corners) (m .mesh .verts)
+      = record { below = record { corner = below-each (m .mesh .verts) (m .mesh .corners) (v .below) }; long = v .corners; same = λ f h. refl } in
+      store-heard cs m v ∙ (same-heard cs m (m .mesh .coords) (m .mesh .corners) (m .mesh .verts) (m .freed) a ∙ sym (store-heard (without cs) m v))
