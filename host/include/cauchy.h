@@ -28,6 +28,8 @@
  *     `gcc -ffast-math` starts with subnormals flushed to zero. Unmasked exceptions may end the process.
  *  5. Snapshots of the two runs are taken between calls only. Otherwise (also where a process is killed
  *     inside a call) the runs are half written, and may still look sound.
+ *  6. Stack. The local memory of any call stays within 512 KiB, so a thread needs no more than 2 MiB of
+ *     stack. Otherwise: the stack overflows, as in any C function.
  *
  * host/tests/abi.c holds this file to the archive. */
 #ifndef CAUCHY_H
@@ -125,6 +127,10 @@ typedef struct CauchyPlaced {
     uint32_t no, pieces, need; /* the kernel's pieces, and the steps that they need */
 } CauchyPlaced;
 
+typedef struct CauchySqueezed {
+    uint32_t no, freed; /* coordinates freed, three a vertex */
+} CauchySqueezed;
+
 typedef struct CauchySteps {
     uint32_t no;
     uint64_t done, left; /* steps that this call did, and that are left */
@@ -190,6 +196,11 @@ uint32_t cauchy_store_clear(double *floats, size_t n_floats, uint32_t *words, si
 /* Gives the kernel of a place another weight, its work kept; answers `no`.                     4 5 6 7 */
 uint32_t cauchy_store_reweigh(double *floats, size_t n_floats, uint32_t *words, size_t n_words, uint32_t place,
                               double w);
+
+/* Takes the vertices that no face uses out of the mesh. The others keep their order, corners are renumbered to
+ * match, and the doubles that are freed, the last of the old coordinates, become 0. It may come between any
+ * two calls: no place, no step and no later reading changes by it.                                 4 5 */
+CauchySqueezed cauchy_store_squeeze(double *floats, size_t n_floats, uint32_t *words, size_t n_words);
 
 /* Does up to `budget` steps of the work left, one face of one piece each. Every call looks the store over
  * first, some 2 ns a face, so budgets of many faces are cheapest. A budget of 0 tells what is left. 4 5 */

@@ -114,6 +114,7 @@ def _answer(name, *fields):
 
 Opened = _answer("Opened", ("verts", c_uint32), ("faces", c_uint32))
 Placed = _answer("Placed", ("pieces", c_uint32), ("need", c_uint32))
+Squeezed = _answer("Squeezed", ("freed", c_uint32))
 Steps = _answer("Steps", ("done", c_uint64), ("left", c_uint64))
 Value = _answer("Value", ("value", c_double))
 Point = _answer("Point", ("at", Vector))
@@ -136,6 +137,7 @@ _PROTOTYPES = {
     "store_put": (Placed, *_STORE, c_uint32, Kernel),
     "store_clear": (c_uint32, *_STORE, c_uint32),
     "store_reweigh": (c_uint32, *_STORE, c_uint32, c_double),
+    "store_squeeze": (Squeezed, *_STORE),
     "store_advance": (Steps, *_STORE, c_uint64),
     "store_density": (Value, *_STORE, Convention, Vector),
     "store_report": (StoreReport, *_STORE, Convention),
@@ -279,6 +281,18 @@ class Store:
     def reweigh(self, place, w):
         """Gives the kernel of a place another weight; the work on it is kept."""
         _call("store_reweigh", *self._runs(), _place(place), w)
+
+    def squeeze(self):
+        """Takes the vertices that no face uses out of the mesh; the coordinates freed, three a vertex. No place,
+        no step and no later reading changes by it, and the freed floats stay in the run, as zeros.
+
+        >>> store = Store(500, [8, 8, 8, 0, 0, 0, 6, 0, 0, 9, 9, 9, 0, 6, 0], [1, 2, 4])
+        >>> store.squeeze(), store.squeeze()
+        (6, 0)
+        >>> store.words[0], list(store.words[98:]), list(store.floats[1761:])
+        (3, [0, 1, 2], [0.0, 0.0, 0.0, 6.0, 0.0, 0.0, 0.0, 6.0, 0.0, 0.0, 0.0, 0.0, 0.0, 0.0, 0.0])
+        """
+        return _call("store_squeeze", *self._runs()).freed
 
     def advance(self, budget):
         """Does up to so many steps; the steps done and left."""

@@ -156,10 +156,16 @@ mod tests {
         assert_eq!(refused(&[0.0; 1760], &[0; 98]), Refusal::ShortStore);
         assert_eq!(refused(&[0.0; 1762], &[0; 98]), Refusal::Unsound);
         assert_eq!(refused(&[0.0; 1761], &[0; 101]), Refusal::Unsound);
+        for stray in [1.0, -0.0, f64::NAN] {
+            let mut floats = [0.0; 1764];
+            floats[1763] = stray;
+            assert_eq!(refused(&floats, &[0; 98]), Refusal::Unsound);
+        }
         let mut words = [0; 98];
         words[2] = 18;
         assert_eq!(refused(&[0.0; 1761], &words), Refusal::Unsound);
         assert!(Store::from_bytes(&forged(&[f64::NAN; 1761], &[0; 98])).is_ok());
+        assert!(Store::from_bytes(&forged(&[0.0; 1764], &[0; 98])).is_ok());
     }
 
     #[test]

@@ -163,6 +163,28 @@ impl Store {
         })
     }
 
+    /// Takes the vertices that no face uses out of the mesh, and answers how many coordinates that frees, three
+    /// a vertex. The others keep their order, and corners are renumbered to match. It may come at any time: no
+    /// place, no step and no later reading changes by it. The freed floats stay in the store's run, as zeros.
+    ///
+    /// ```
+    /// # use cauchy::{Mesh, Store};
+    /// let vertices = [[0.0; 3], [1.0, 0.0, 0.0], [5.0; 3], [0.0, 1.0, 0.0]];
+    /// let mut store = Store::open(500.0, Mesh { vertices: &vertices, faces: &[[0, 1, 3]] })?;
+    /// assert_eq!(store.squeeze()?, 3);
+    /// let kept = [[0.0; 3], [1.0, 0.0, 0.0], [0.0, 1.0, 0.0]];
+    /// assert_eq!(store.mesh(), Mesh { vertices: &kept, faces: &[[0, 1, 2]] });
+    /// # Ok::<(), Box<dyn std::error::Error>>(())
+    /// ```
+    pub fn squeeze(&mut self) -> Result<u32, Refusal> {
+        let (floats, words) = (&mut self.floats, &mut self.words);
+        let (n_floats, n_words) = (floats.len(), words.len());
+        // SAFETY: two vectors of the store's own, borrowed for the call.
+        let told =
+            unsafe { sys::cauchy_store_squeeze(floats.as_mut_ptr(), n_floats, words.as_mut_ptr(), n_words) };
+        Refusal::check(told.no).map(|()| told.freed)
+    }
+
     /// Does up to `budget` steps of the work left, one face of one piece each. Every call looks the whole
     /// store over first, so budgets of many faces are cheapest.
     ///
@@ -362,20 +384,23 @@ impl Store {
     /// # Ok::<(), cauchy::OpenError>(())
     /// ```
     pub fn mesh(&self) -> Mesh<'_> {
-        Mesh {
-            vertices: self.floats[FLOATS_BEFORE_MESH..].as_chunks().0,
-            faces: self.words[WORDS_BEFORE_MESH..].as_chunks().0,
-        }
+        let (coordinates, _) = self.coordinates();
+        Mesh { vertices: coordinates.as_chunks().0, faces: self.words[WORDS_BEFORE_MESH..].as_chunks().0 }
     }
 
-    /// Whether the runs are a sound store without excess, as an opening makes them.
+    /// The mesh's coordinates, and the floats past them, which squeezes have freed.
+    fn coordinates(&self) -> (&[f64], &[f64]) {
+        self.floats[FLOATS_BEFORE_MESH..].split_at(3 * self.vertices() as usize)
+    }
+
+    /// Whether the runs are a sound store as an opening and squeezes leave it: past the mesh there is no word,
+    /// and no float but the zeros of whole vertices.
     pub(crate) fn check(&mut self) -> Result<(), Refusal> {
         self.left()?;
-        let vertices = self.vertices() as usize;
-        let faces = self.faces() as usize;
-        let exact = self.floats.len() == FLOATS_BEFORE_MESH + 3 * vertices
-            && self.words.len() == WORDS_BEFORE_MESH + 3 * faces;
-        if exact { Ok(()) } else { Err(Refusal::Unsound) }
+        let (_, freed) = self.coordinates();
+        let zeros = freed.len().is_multiple_of(3) && freed.iter().all(|x| x.to_bits() == 0);
+        let exact = self.words.len() == WORDS_BEFORE_MESH + 3 * self.faces() as usize;
+        if zeros && exact { Ok(()) } else { Err(Refusal::Unsound) }
     }
 }
 

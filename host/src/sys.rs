@@ -47,6 +47,12 @@ pub struct Placed {
 }
 
 #[repr(C)]
+pub struct Squeezed {
+    pub no: u32,
+    pub freed: u32,
+}
+
+#[repr(C)]
 pub struct Steps {
     pub no: u32,
     pub done: u64,
@@ -145,6 +151,12 @@ unsafe extern "C" {
         place: u32,
         w: f64,
     ) -> u32;
+    pub fn cauchy_store_squeeze(
+        floats: *mut f64,
+        n_floats: usize,
+        words: *mut u32,
+        n_words: usize,
+    ) -> Squeezed;
     pub fn cauchy_store_advance(
         floats: *mut f64,
         n_floats: usize,

@@ -187,6 +187,47 @@ static void put_clear_reweigh(void) {
     CHECK(cauchy_store_clear(floats, N_FLOATS, words, N_WORDS, 8) == 0 && words[2 + 3 * 8] == 0);
 }
 
+/* A mesh of 8 vertices: 0, 3 and 7 in no face, 5 where 1 is. A squeeze leaves 5 of them. */
+static void squeeze(void) {
+    enum { OLD = 8, KEPT = 5, N_OLD = 1761 + 3 * OLD + 2 };
+    static const double old[3 * OLD] = {21,   22, 23, -1, -2, -3, 7,   1, 0.5, 24, 25, 26,
+                                        0.25, 8,  2,  -1, -2, -3, 1.5, 3, 9,   27, 28, 29};
+    static const double kept[3 * KEPT] = {-1, -2, -3, 7, 1, 0.5, 0.25, 8, 2, -1, -2, -3, 1.5, 3, 9};
+    static const uint32_t old_faces[N_FACES] = {1, 4, 2, 1, 2, 6, 5, 6, 4, 2, 4, 6};
+    static const uint32_t kept_faces[N_FACES] = {0, 2, 1, 0, 1, 4, 3, 4, 2, 1, 2, 4};
+    static double f[N_OLD], f_before[N_OLD];
+    static uint32_t w[N_WORDS], w_before[N_WORDS];
+    for (int i = 0; i < N_OLD; i++) f[i] = 500 + i;
+    for (int i = 0; i < N_WORDS; i++) w[i] = 600 + (uint32_t)i;
+    CHECK(cauchy_store_open(f, N_OLD, w, N_WORDS, radius, old, 3 * OLD, old_faces, N_FACES).no == 0);
+    CHECK(cauchy_store_put(f, N_OLD, w, N_WORDS, 6, flat()).no == 0);
+    CHECK(cauchy_store_put(f, N_OLD, w, N_WORDS, 7, steep()).no == 0);
+    CHECK(cauchy_store_advance(f, N_OLD, w, N_WORDS, 5).left == 14 * F - 5);
+
+    memcpy(f_before, f, sizeof f), memcpy(w_before, w, sizeof w);
+    CauchySqueezed s = cauchy_store_squeeze(f, 1761 + 3 * OLD - 1, w, N_WORDS);
+    CHECK(s.no == CAUCHY_SHORT_STORE && s.freed == 0);
+    w[98] = w_before[98] = OLD;
+    s = cauchy_store_squeeze(f, N_OLD, w, N_WORDS);
+    CHECK(s.no == CAUCHY_UNSOUND && s.freed == 0);
+    CHECK(!memcmp(f, f_before, sizeof f) && !memcmp(w, w_before, sizeof w));
+    w[98] = w_before[98] = old_faces[0];
+
+    s = cauchy_store_squeeze(f, N_OLD, w, N_WORDS);
+    CHECK(s.no == 0 && s.freed == 3 * (OLD - KEPT) && w[0] == KEPT && w[1] == F);
+    CHECK(!memcmp(f + 1761, kept, sizeof kept) && !memcmp(w + 98, kept_faces, sizeof kept_faces));
+    for (int i = 1761 + 3 * KEPT; i < 1761 + 3 * OLD; i++) CHECK(f[i] == 0 && !signbit(f[i]));
+    CHECK(!memcmp(f, f_before, 1761 * sizeof *f) && !memcmp(w + 2, w_before + 2, 96 * sizeof *w));
+    CHECK(f[N_OLD - 2] == f_before[N_OLD - 2] && f[N_OLD - 1] == f_before[N_OLD - 1]);
+    CHECK(!memcmp(w + 98 + N_FACES, w_before + 98 + N_FACES, 3 * sizeof *w));
+
+    /* the work goes on, with the mesh's shorter run too, and leaves the volumes that it would have left */
+    CHECK(cauchy_store_advance(f, 1761 + 3 * KEPT, w, N_WORDS, UINT64_MAX).done == 14 * F - 5);
+    CHECK(cauchy_store_advance(f_before, N_OLD, w_before, N_WORDS, UINT64_MAX).done == 14 * F - 5);
+    CHECK(!memcmp(f, f_before, 1761 * sizeof *f) && f[225 + 48 * 6 + 2] == volume_of(flat().c, flat().sigma));
+    CHECK(cauchy_store_squeeze(f, N_OLD, w, N_WORDS).freed == 0);
+}
+
 static void advance(void) {
     remember();
     CauchySteps s = cauchy_store_advance(floats, N_FLOATS, words, 97, 5);
@@ -401,6 +442,7 @@ static void numbers(void) {
 int main(void) {
     open_store();
     put_clear_reweigh();
+    squeeze();
     advance();
     list_store();
     decompose_lists();

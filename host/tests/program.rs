@@ -120,6 +120,38 @@ fn what_a_planner_must_not_overlook_is_said() {
 }
 
 #[test]
+fn unused_vertices_are_counted_and_taken_out() {
+    let folder = Folder::new("squeeze");
+    let vertices = "v 0 0 0\nv 0.9 0 0\nv 0.3 0.3 0.3\nv 0.1 0 0\nv 0 0.8 0\nv 0 0 0.7\n";
+    folder.write("spare.obj", format!("{vertices}f 1 5 2\nf 1 2 6\nf 1 6 5\nf 2 5 6\n"));
+    let reads = "--mass 1e11 --track t.txt --overwrite --csv c.csv --list l.csv --svg s.svg";
+    let files = || ["c.csv", "l.csv", "s.svg"].map(|name| folder.read(name));
+    let report = |said: &str| said.split("Mass report").nth(1).unwrap().to_string();
+
+    let plain = folder.goes(&format!("run a.obj k.txt {reads}"));
+    assert!(!plain.contains("no face"), "{plain}");
+    let wanted = (report(&plain), files());
+    let said = folder.goes(&format!("run spare.obj k.txt {reads}"));
+    assert!(said.contains("2 vertices in no face: see --squeeze"), "{said}");
+    assert!(said.contains("6 vertices, 4 faces"), "{said}");
+    assert!((report(&said), files()) == wanted);
+    let said = folder.goes(&format!("run spare.obj k.txt {reads} --squeeze"));
+    assert!(said.contains("2 vertices in no face, taken out"), "{said}");
+    assert!(said.contains("4 vertices, 4 faces"), "{said}");
+    assert!((report(&said), files()) == wanted);
+    let said = folder.goes("run a.obj k.txt --raw --squeeze");
+    assert!(said.contains("every vertex is in a face: none taken out"), "{said}");
+
+    // between two portions of work, and from a snapshot of a squeezed store
+    folder.goes("run spare.obj k.txt --raw --snapshot s.snap --steps 9");
+    let said = folder.goes("resume s.snap --raw --snapshot s.snap --steps 9 --squeeze");
+    assert!(said.contains("2 vertices in no face, taken out") && said.contains("38 left"), "{said}");
+    let said = folder.goes(&format!("resume s.snap {reads}"));
+    assert!(said.contains("4 vertices, 4 faces") && !said.contains("no face"), "{said}");
+    assert!((report(&said), files()) == wanted);
+}
+
+#[test]
 fn bad_files_are_named() {
     let folder = Folder::new("bad-files");
     folder.write("bad.obj", format!("{BODY}f 1 2 9\n"));

@@ -73,6 +73,90 @@ fn portions_of_any_size_leave_the_same_store() {
     }
 }
 
+/// The same body with vertices that no face uses, first, within and last, and with one corner moved to a vertex
+/// of its own that has the coordinates of another.
+const SPARE_VERTICES: [[f64; 3]; 8] = [
+    [5000.0, 0.0, 1.0],
+    VERTICES[0],
+    VERTICES[1],
+    [f64::NAN, f64::INFINITY, -0.0],
+    VERTICES[2],
+    VERTICES[3],
+    VERTICES[0],
+    VERTICES[1],
+];
+const SPARE_FACES: [[u32; 3]; 4] = [[1, 4, 2], [1, 2, 5], [6, 5, 4], [2, 4, 5]];
+const KEPT_VERTICES: [[f64; 3]; 5] = [VERTICES[0], VERTICES[1], VERTICES[2], VERTICES[3], VERTICES[0]];
+const KEPT_FACES: [[u32; 3]; 4] = [[0, 2, 1], [0, 1, 3], [4, 3, 2], [1, 2, 3]];
+
+fn with_spare_vertices() -> Store {
+    let mut store = Store::open(900.0, Mesh { vertices: &SPARE_VERTICES, faces: &SPARE_FACES }).unwrap();
+    store.put(2, FLAT).unwrap();
+    store.put(30, STEEP).unwrap();
+    store
+}
+
+#[test]
+fn a_squeeze_alters_no_step_and_no_reading() {
+    for steps in [0, 1, 4, 9, 55, 56] {
+        let mut store = with_spare_vertices();
+        store.advance(steps).unwrap();
+        let mut squeezed = store.clone();
+        assert_eq!(squeezed.squeeze(), Ok(9));
+        assert_eq!(squeezed.mesh(), Mesh { vertices: &KEPT_VERTICES, faces: &KEPT_FACES });
+        assert_eq!(squeezed.squeeze(), Ok(0));
+        assert_eq!(squeezed.left(), store.left());
+        for budget in [3, u64::MAX] {
+            assert_eq!(squeezed.advance(budget), store.advance(budget), "after {steps} steps");
+        }
+        for by in [Convention::Raw, Convention::Rho0 { bulk: 1500.0 }, BY_MASS] {
+            assert_eq!(squeezed.report(by), store.report(by), "after {steps} steps");
+            assert_eq!(squeezed.list(by), store.list(by));
+            assert_eq!(squeezed.density(by, [120.0, 60.0, 30.0]), store.density(by, [120.0, 60.0, 30.0]));
+        }
+        assert!(squeezed.report(BY_MASS).is_ok());
+        assert_eq!(squeezed.held(30), store.held(30));
+    }
+}
+
+#[test]
+fn a_mesh_without_faces_loses_every_vertex() {
+    let mut store = Store::open(900.0, Mesh { vertices: &VERTICES, faces: &[] }).unwrap();
+    assert_eq!(store.squeeze(), Ok(12));
+    assert_eq!(store.mesh(), Mesh { vertices: &[], faces: &[] });
+    assert_eq!(store.squeeze(), Ok(0));
+    assert!(Store::from_bytes(&store.to_bytes()).is_ok());
+}
+
+#[test]
+fn a_squeezed_store_goes_on_from_its_snapshot() {
+    let mut store = with_spare_vertices();
+    let before = store.to_bytes();
+    store.advance(9).unwrap();
+    store.squeeze().unwrap();
+    let bytes = store.to_bytes();
+    assert_eq!(bytes.len(), before.len());
+    let mut resumed = Store::from_bytes(&bytes).unwrap();
+    assert_eq!(resumed.mesh(), store.mesh());
+    resumed.advance(u64::MAX).unwrap();
+    store.advance(u64::MAX).unwrap();
+    assert_eq!(resumed.to_bytes(), store.to_bytes());
+}
+
+#[test]
+fn every_call_stays_within_its_stack() {
+    // 512 KiB for the call, as the header has it, and some for the thread around it
+    let thread = std::thread::Builder::new().stack_size((512 + 32) << 10).spawn(|| {
+        let mut store = with_spare_vertices();
+        store.advance(9).unwrap();
+        store.squeeze().unwrap();
+        store.advance(u64::MAX).unwrap();
+        store.report(BY_MASS).unwrap();
+        store.list(BY_MASS).unwrap();
+    });
+    thread.unwrap().join().unwrap();
+}
+
 #[test]
 fn readings_agree_with_each_other() {
     let mut store = filled();

@@ -41,7 +41,7 @@ fn main() -> ExitCode {
 fn run(options: &Options) -> Result<()> {
     let outputs = Outputs::prepare(options)?;
     let points = options.track.as_deref().map(input::track).transpose()?;
-    let (mut store, head) = opening::open(&options.origin)?;
+    let (mut store, head) = opening::open(&options.origin, options.squeeze)?;
     say(&head)?;
     let steps = work::work(&mut store, options.steps, outputs.snapshot.as_ref())?;
     say(&page::entry("work", &[page::steps(steps.done, steps.left)]))?;

@@ -1,15 +1,15 @@
 //! The store, from a mesh and a kernel list or from a snapshot.
 use crate::failure::{Failure, Result};
-use crate::figures::short;
+use crate::figures::{counted, short};
 use crate::input::{self, KernelFile};
 use crate::options::Origin;
 use crate::page;
 use cauchy::{Mesh, Store};
 use std::path::Path;
 
-/// The store, and what is printed of it.
-pub fn open(origin: &Origin) -> Result<(Store, String)> {
-    let (store, mut mesh_lines, mut kernel_lines) = match origin {
+/// The store, without unused vertices where that is asked, and what is printed of it.
+pub fn open(origin: &Origin, squeeze: bool) -> Result<(Store, String)> {
+    let (mut store, mut mesh_lines, mut kernel_lines) = match origin {
         Origin::Files { mesh, kernels, unit, radius } => open_files(mesh, kernels, *unit, *radius)?,
         Origin::Snapshot(path) => {
             let bytes = std::fs::read(path).map_err(|fault| Failure::of_system(path, &fault))?;
@@ -17,10 +17,34 @@ pub fn open(origin: &Origin) -> Result<(Store, String)> {
             (store, vec![format!("of the snapshot {}", path.display())], vec!["of the snapshot".into()])
         }
     };
+    mesh_lines.extend(spare(&mut store, squeeze)?);
     mesh_lines.extend(page::mesh(&store));
     kernel_lines.extend(page::places(&store));
     let head = page::entry("mesh", &mesh_lines) + &page::entry("kernels", &kernel_lines);
     Ok((store, head))
+}
+
+/// Takes the vertices that no face uses out where that is asked, and says how many there are.
+fn spare(store: &mut Store, squeeze: bool) -> Result<Option<String>> {
+    if !squeeze {
+        let found = unused(store.mesh());
+        let said = format!("{} in no face: see --squeeze", counted(found, "vertex"));
+        return Ok((found > 0).then_some(said));
+    }
+    let freed = store.squeeze().map_err(|refusal| Failure::Work(format!("squeeze: {refusal}")))?;
+    Ok(Some(match freed / 3 {
+        0 => "every vertex is in a face: none taken out".to_string(),
+        found => format!("{} in no face, taken out", counted(found.into(), "vertex")),
+    }))
+}
+
+/// How many vertices no face names.
+fn unused(mesh: Mesh<'_>) -> u64 {
+    let mut is_used = vec![false; mesh.vertices.len()];
+    for corner in mesh.faces.as_flattened() {
+        is_used[*corner as usize] = true;
+    }
+    is_used.into_iter().filter(|used| !used).count() as u64
 }
 
 /// The store of a mesh and a kernel list, and a line on each.

@@ -35,6 +35,7 @@ pub struct Options {
     pub list: Option<PathBuf>,
     pub snapshot: Option<PathBuf>,
     pub steps: Option<u64>,
+    pub squeeze: bool,
     pub overwrite: bool,
 }
 
@@ -54,6 +55,7 @@ struct Given {
     list: Option<PathBuf>,
     snapshot: Option<PathBuf>,
     steps: Option<u64>,
+    squeeze: Option<()>,
     overwrite: Option<()>,
     radius: Option<f64>,
     unit: Option<f64>,
@@ -107,6 +109,7 @@ impl Given {
                 "--list" => once(name, &mut given.list, value()?.into())?,
                 "--snapshot" => once(name, &mut given.snapshot, value()?.into())?,
                 "--steps" => once(name, &mut given.steps, whole(name, value()?)?)?,
+                "--squeeze" => once(name, &mut given.squeeze, ())?,
                 "--overwrite" => once(name, &mut given.overwrite, ())?,
                 "--radius" => {
                     let radius = above_zero(name, value()?)? * METRES_IN_KM;
@@ -161,6 +164,7 @@ impl Given {
             list: self.list,
             snapshot: self.snapshot,
             steps: self.steps,
+            squeeze: self.squeeze.is_some(),
             overwrite: self.overwrite.is_some(),
         })))
     }
@@ -219,13 +223,14 @@ mod tests {
 
     #[test]
     fn a_whole_line_is_understood() {
-        let line =
-            "run a.obj --mass 4.5e11 k.txt --bulk 1200 --radius 0.5 --mesh-unit m --steps 9 --snapshot s";
+        let line = "run a.obj --mass 4.5e11 k.txt --bulk 1200 --radius 0.5 --mesh-unit m --steps 9 --snapshot s \
+                    --squeeze";
         let Ok(Command::Work(options)) = asked(line) else { panic!() };
         let (mesh, kernels) = (PathBuf::from("a.obj"), PathBuf::from("k.txt"));
         assert_eq!(options.origin, Origin::Files { mesh, kernels, unit: 1.0, radius: Some(500.0) });
         assert_eq!(options.convention, Convention::Mass { target: 4.5e11, bulk: 1200.0 });
         assert_eq!((options.steps, options.snapshot), (Some(9), Some("s".into())));
+        assert_eq!((options.squeeze, options.overwrite), (true, false));
     }
 
     #[test]
@@ -239,6 +244,7 @@ mod tests {
             ("run a b", "name a convention"),
             ("run a b --raw --rho0", "one convention"),
             ("run a b --raw --raw", "--raw is given twice"),
+            ("run a b --raw --squeeze --squeeze", "--squeeze is given twice"),
             ("run a b --raw --bulk 5", "--bulk goes with"),
             ("run a b --mass", "--mass: its value is missing"),
             ("run a b --mass 0", "--mass: 0 is not a number above 0"),

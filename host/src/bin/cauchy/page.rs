@@ -27,11 +27,11 @@ pub fn mesh(store: &Store) -> Vec<String> {
     }
     let [x, y, z] = [0, 1, 2].map(|axis| rounded((high[axis] - low[axis]) / 1000.0, 4));
     let (vertices, faces) = (u64::from(store.vertices()), u64::from(store.faces()));
-    vec![
-        format!("{}, {}", counted(vertices, "vertex"), counted(faces, "face")),
-        format!("extent {x} × {y} × {z} km"),
-        format!("radius {} km", rounded(store.radius() / 1000.0, 4)),
-    ]
+    let extent = (vertices > 0).then(|| format!("extent {x} × {y} × {z} km"));
+    let mut lines = vec![format!("{}, {}", counted(vertices, "vertex"), counted(faces, "face"))];
+    lines.extend(extent);
+    lines.push(format!("radius {} km", rounded(store.radius() / 1000.0, 4)));
+    lines
 }
 
 /// The filled places in words.
