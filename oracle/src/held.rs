@@ -2,6 +2,7 @@
 //! the store holds ("Readings use pieces and volumes as the store holds them"). Written from 01's text, sharing nothing with the proved
 //! code but the powers.
 use crate::conventions::{Convention, Reading, Report, write_list};
+use crate::machine::squeezed;
 use crate::pieces::Kernel;
 use crate::text::{ByArchive, Text, volume_on};
 
@@ -133,6 +134,18 @@ impl Held {
         let c = [0, 1, 2].map(|k| self.floats[1 + 7 * i + k]);
         let (xyz, faces) = self.mesh();
         self.floats[slot + 2] = volume_on(xyz, faces, c, self.floats[slot], from..from + by, self.floats[slot + 2]);
+    }
+
+    /// 02's L12: "It answers how many coordinates were freed, and those words become zero."
+    pub fn squeeze(&mut self) -> Result<u32, u32> {
+        self.sound()?;
+        let (xyz, faces) = self.mesh();
+        let (all, (kept, corners)) = (xyz.len(), squeezed(xyz, faces));
+        self.floats[1_761..][..kept.len()].copy_from_slice(&kept);
+        self.floats[1_761 + kept.len()..1_761 + all].fill(0.0);
+        self.words[98..][..corners.len()].copy_from_slice(&corners);
+        self.words[0] = (kept.len() / 3) as u32;
+        Ok((all - kept.len()) as u32)
     }
 
     /// The filled places' pieces with their held volumes: "a piece's alpha is the kernel's if that kernel stays, else 1, and its weight is w

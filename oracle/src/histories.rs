@@ -14,6 +14,7 @@ pub enum Call {
     Clear(u32),
     Reweigh(u32, f64),
     Advance(u64),
+    Squeeze,
     Density(Convention, [f64; 3]),
     Report(Convention),
     List(Convention, usize),
@@ -26,6 +27,7 @@ pub enum Answer {
     Placed(u32, u32),
     Edited,
     Steps(u64, u64),
+    Freed(u32),
     Value(f64),
     Report(Report),
     Listed(u32),
@@ -44,13 +46,14 @@ fn of<V>(told: Result<V, u32>, answer: impl FnOnce(V) -> Answer) -> Answer {
 }
 
 macro_rules! model {
-    ($advance:expr) => {
+    ($advance:expr, $squeeze:expr) => {
         fn answer(&mut self, call: Call, out: &mut [f64]) -> Answer {
             match call {
                 Call::Put(place, k) => of(self.put(place, k), |(pieces, need)| Answer::Placed(pieces, need)),
                 Call::Clear(place) => of(self.clear(place), |()| Answer::Edited),
                 Call::Reweigh(place, w) => of(self.reweigh(place, w), |()| Answer::Edited),
                 Call::Advance(n) => of($advance(self, n), |(done, left)| Answer::Steps(done, left)),
+                Call::Squeeze => of($squeeze(self), Answer::Freed),
                 Call::Density(by, at) => of(self.density(by, at), Answer::Value),
                 Call::Report(by) => of(self.report(by), Answer::Report),
                 Call::List(by, _) => of(self.list(by, out), Answer::Listed),
@@ -69,11 +72,11 @@ macro_rules! model {
 }
 
 impl<T: Text> Model for Machine<T> {
-    model!(|m: &mut Self, n| Ok::<_, u32>(m.advance(n)));
+    model!(|m: &mut Self, n| Ok::<_, u32>(m.advance(n)), |m: &mut Self| Ok::<_, u32>(m.squeeze()));
 }
 
 impl Model for Held {
-    model!(Held::advance);
+    model!(Held::advance, Held::squeeze);
 }
 
 /// A mesh and a radius.
@@ -84,7 +87,7 @@ pub struct Body {
     pub radius: f64,
 }
 
-/// A mesh of at most 40 faces: none, points alone, closed, open, any corners, some coordinates odd.
+/// A mesh of at most 40 faces: none, points alone, closed, open, any corners, some coordinates odd, some vertices in no face.
 pub fn body(r: &mut Rng) -> Body {
     let (mut xyz, mut faces) = match r.below(10) {
         0 => (Vec::new(), Vec::new()),
@@ -106,7 +109,44 @@ pub fn body(r: &mut Rng) -> Body {
             }
         }
     }
+    for _ in 0..one(r, &[0, 0, 1, 2, 3]) {
+        add_unused(r, &mut xyz, &mut faces);
+    }
+    if r.below(4) == 0 {
+        repeat_vertex(r, &mut xyz);
+    }
     Body { xyz, faces, radius: cases::length(r, 500.0) }
+}
+
+/// One vertex or some that no face names, before all others, behind them or among them. Some have the place of another vertex.
+fn add_unused(r: &mut Rng, xyz: &mut Vec<f64>, faces: &mut [u32]) {
+    let verts = xyz.len() / 3;
+    let at = match r.below(3) {
+        0 => 0,
+        1 => verts,
+        _ => r.below(verts as u64 + 1) as usize,
+    };
+    let count = one(r, &[1, 1, 2, 3, 31, 32, 33, 70]);
+    let new: Vec<f64> = match r.below(2) {
+        0 if verts > 0 => (0..count).flat_map(|_| vertex(r, xyz)).collect(),
+        _ => coordinates(r, count),
+    };
+    xyz.splice(3 * at..3 * at, new);
+    faces.iter_mut().filter(|i| **i as usize >= at).for_each(|i| *i += count as u32);
+}
+
+/// The coordinates of any vertex.
+fn vertex(r: &mut Rng, xyz: &[f64]) -> [f64; 3] {
+    let at = 3 * r.below(xyz.len() as u64 / 3) as usize;
+    [xyz[at], xyz[at + 1], xyz[at + 2]]
+}
+
+/// Two vertices at one place.
+fn repeat_vertex(r: &mut Rng, xyz: &mut [f64]) {
+    if !xyz.is_empty() {
+        let (to, at) = (3 * r.below(xyz.len() as u64 / 3) as usize, vertex(r, xyz));
+        xyz[to..to + 3].copy_from_slice(&at);
+    }
 }
 
 fn coordinates(r: &mut Rng, verts: usize) -> Vec<f64> {
@@ -209,13 +249,14 @@ impl Places {
 
 /// The next call, by where the model stands.
 pub fn call(r: &mut Rng, model: &impl Model, places: &Places) -> Call {
-    match r.below(24) {
+    match r.below(26) {
         0..=5 => Call::Put(places.one(r), kernel(r)),
         6 | 7 => Call::Clear(places.one(r)),
         8 | 9 => Call::Reweigh(places.one(r), weight(r)),
         10..=15 => Call::Advance(budget(r, model)),
         16..=18 => Call::Density(convention(r), [(); 3].map(|()| cases::value(r, 400.0))),
         19 | 20 => Call::Report(convention(r)),
+        21 | 22 => Call::Squeeze,
         _ => Call::List(convention(r), list_room(r, model)),
     }
 }

@@ -30,6 +30,17 @@ pub fn open_number(xyz: &[f64], faces: &[u32], floats: usize, words: usize) -> u
     rows.into_iter().find(|row| row.1).map_or(0, |row| row.0)
 }
 
+/// 02's L12 of a mesh: the coordinates of the vertices that some face names, in their order, and the corners by their new numbers. A
+/// vertex's new number is its place among the named ones.
+pub fn squeezed(xyz: &[f64], faces: &[u32]) -> (Vec<f64>, Vec<u32>) {
+    let mut named = faces.to_vec();
+    named.sort_unstable();
+    named.dedup();
+    let kept = named.iter().flat_map(|i| xyz[3 * *i as usize..][..3].iter().copied()).collect();
+    let corners = faces.iter().map(|i| named.binary_search(i).unwrap() as u32).collect();
+    (kept, corners)
+}
+
 /// A filled place: its kernel and the steps done on it.
 #[derive(Clone, Copy, Debug)]
 struct Filled {
@@ -146,6 +157,15 @@ impl<T: Text> Machine<T> {
             self.places[lowest].as_mut().unwrap().p += 1;
         }
         (done, self.left())
+    }
+
+    /// 02's L12: "its machine then drops the same vertices from its mesh", and "answers how many coordinates were freed"; places and steps
+    /// stay. The volumes so far are worked again on the mesh that is left.
+    pub fn squeeze(&mut self) -> u32 {
+        let before = self.xyz.len();
+        (self.xyz, self.faces) = squeezed(&self.xyz, &self.faces);
+        self.known.borrow().values().for_each(|known| known.volumes.borrow_mut().clear());
+        (before - self.xyz.len()) as u32
     }
 
     /// The filled places' kernels, in order.

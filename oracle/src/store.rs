@@ -28,6 +28,14 @@ pub struct Steps {
     pub left: u64,
 }
 
+/// What a squeeze answers: a number, coordinates freed.
+#[repr(C)]
+#[derive(Clone, Copy, Debug, PartialEq, Eq)]
+pub struct Squeezed {
+    pub no: u32,
+    pub freed: u32,
+}
+
 unsafe extern "C" {
     fn cauchy_store_open(
         floats: *mut f64,
@@ -44,6 +52,7 @@ unsafe extern "C" {
     fn cauchy_store_clear(floats: *mut f64, floats_len: usize, words: *mut u32, words_len: usize, place: u32) -> u32;
     fn cauchy_store_reweigh(floats: *mut f64, floats_len: usize, words: *mut u32, words_len: usize, place: u32, w: f64) -> u32;
     fn cauchy_store_advance(floats: *mut f64, floats_len: usize, words: *mut u32, words_len: usize, budget: u64) -> Steps;
+    fn cauchy_store_squeeze(floats: *mut f64, floats_len: usize, words: *mut u32, words_len: usize) -> Squeezed;
 }
 
 // SAFETY, of every call below: runs of these lengths, and no other holds one that is written.
@@ -67,6 +76,10 @@ pub fn reweigh(floats: &mut [f64], words: &mut [u32], place: u32, w: f64) -> u32
 
 pub fn advance(floats: &mut [f64], words: &mut [u32], budget: u64) -> Steps {
     unsafe { cauchy_store_advance(floats.as_mut_ptr(), floats.len(), words.as_mut_ptr(), words.len(), budget) }
+}
+
+pub fn squeeze(floats: &mut [f64], words: &mut [u32]) -> Squeezed {
+    unsafe { cauchy_store_squeeze(floats.as_mut_ptr(), floats.len(), words.as_mut_ptr(), words.len()) }
 }
 
 pub use reading::{density, list, report};

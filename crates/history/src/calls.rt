@@ -18,6 +18,8 @@ use readings::listing::ListRead;
 use readings::listing::list;
 use readings::reports::Reported;
 use readings::reports::report;
+use squeeze::call::Squeezed;
+use squeeze::call::squeeze;
 use store::edit::Edited;
 use store::edit::clear;
 use store::edit::reweigh;
@@ -32,15 +34,25 @@ pub type Floats = [f64; 1787];
 
 pub type Words = [u32; 135];
 
-// Opens the store with so many coordinates and corners of the mesh.
-pub fn run_open(f: &mut Floats, w: &mut Words, coordinates: usize, corners: usize, radius: f64) {
+// Opens the store with so many coordinates of the mesh, and its corners from one position to another.
+pub fn run_open(
+    f: &mut Floats,
+    w: &mut Words,
+    coordinates: usize,
+    from: usize,
+    to: usize,
+    radius: f64,
+) {
     if coordinates > 30 {
         return;
     }
-    if corners > 39 {
+    if to > 39 {
         return;
     }
-    match open(f, w, radius, &XYZ[0..coordinates], &FACES[0..corners]) {
+    if from > to {
+        return;
+    }
+    match open(f, w, radius, &XYZ[0..coordinates], &FACES[from..to]) {
         Opened::Mesh(verts, faces) => {
             say(b" verts 0 faces 1", [verts as u64, faces as u64], NO_FLOATS);
         }
@@ -83,6 +95,13 @@ pub fn run_advance(f: &mut Floats, w: &mut Words, budget: u64) {
     match advance(f, w, budget) {
         Advanced::Steps { done, left } => say(b" done 0 left 1", [done, left], NO_FLOATS),
         Advanced::Refused(r) => say_refused(r),
+    }
+}
+
+pub fn run_squeeze(f: &mut Floats, w: &mut Words) {
+    match squeeze(f, w) {
+        Squeezed::Freed(n) => say(b" freed 0", [n as u64, 0], NO_FLOATS),
+        Squeezed::Refused(r) => say_refused(r),
     }
 }
 

@@ -23,6 +23,7 @@ use crate::calls::run_open;
 use crate::calls::run_put;
 use crate::calls::run_report;
 use crate::calls::run_reweigh;
+use crate::calls::run_squeeze;
 use crate::calls::run_write;
 use crate::line::say_runs;
 use crate::script::NO_WORD;
@@ -46,10 +47,12 @@ fn convention(first: u64, second: u64, a: f64, b: f64) -> Convention {
 // A call by the first and the third letter of its name, and its line's words.
 fn call(f: &mut Floats, w: &mut Words, first: u8, third: u8, n: [u64; 8], x: [f64; 8]) {
     match first {
-        b'o' => run_open(f, w, n[1] as usize, n[2] as usize, x[3]),
+        b'o' => run_open(f, w, n[1] as usize, 0, n[2] as usize, x[3]),
+        b'e' => run_open(f, w, n[1] as usize, n[2] as usize, n[3] as usize, x[4]),
         b'p' => run_put(f, w, n[1], x[2], x[3], x[4]),
         b'c' => run_clear(f, w, n[1]),
         b'a' => run_advance(f, w, n[1]),
+        b's' => run_squeeze(f, w),
         b'w' => run_write(w, n[1] as usize, n[2]),
         b'd' => run_density(f, w, convention(n[2], n[3], x[2], x[3])),
         b'l' => run_list(f, w, convention(n[3], n[4], x[3], x[4]), n[1] as usize),

@@ -17,6 +17,8 @@ mod program;
 #[cfg(original)]
 mod readings;
 #[cfg(original)]
+mod squeezes;
+#[cfg(original)]
 mod table;
 #[cfg(original)]
 mod volumes;
@@ -30,6 +32,7 @@ fn main() {
     fits::rows(&mut bench);
     volumes::rows(&mut bench);
     largest::rows(&mut bench);
+    squeezes::rows(&mut bench);
     readings::rows(&mut bench);
     if let Some(path) = std::env::args().nth(1) {
         program::rows(&mut bench, path);

@@ -18,6 +18,7 @@ fn calls(r: &mut Rng) -> Vec<Call> {
         Call::Put(place, kernel),
         Call::Clear(place),
         Call::Reweigh(place, inputs::any(r)),
+        Call::Squeeze,
     ];
     let by = histories::convention(r);
     calls.extend([Call::Density(by, [1.0, 2.0, 3.0]), Call::Report(by), Call::List(by, cases::one(r, &[0, 6, 600, 3_072]))]);
@@ -31,7 +32,7 @@ fn each(r: &mut Rng, held: &Held, what: impl Fn() -> String, tally: &mut Tally, 
         let mut runs = Runs { floats: held.floats.clone(), words: held.words.clone() };
         let lent = lent(r, call);
         let (difference, _, want) = differs(&mut runs, &mut model, call, &lent, fields);
-        seen.add(want);
+        seen.add(call, want);
         tally.count(difference.is_some(), || format!("{}, {call:?}: {}", what(), difference.unwrap()));
     }
 }

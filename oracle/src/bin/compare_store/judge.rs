@@ -1,7 +1,8 @@
 //! One call on the store beside the same call on a model, and histories of them.
+use crate::squeezes::{altered, touch_freed};
 use oracle::cases;
 use oracle::held::Held;
-use oracle::histories::{self, Answer, Call, Model, Places};
+use oracle::histories::{self, Answer, Body, Call, Model, Places};
 use oracle::inputs::Rng;
 use oracle::machine::{self, Machine};
 use oracle::pattern;
@@ -34,11 +35,16 @@ impl Runs {
                 store::Steps { no, done: 0, left: 0 } => Answer::Refused(no),
                 told => panic!("a refusal with values: {told:?}"),
             },
+            Call::Squeeze => match store::squeeze(f, w) {
+                store::Squeezed { no: 0, freed } => Answer::Freed(freed),
+                store::Squeezed { no, freed: 0 } => Answer::Refused(no),
+                told => panic!("a refusal with values: {told:?}"),
+            },
             _ => self.reading(call, out),
         }
     }
 
-    fn reading(&self, call: Call, out: &mut [f64]) -> Answer {
+    pub fn reading(&self, call: Call, out: &mut [f64]) -> Answer {
         // beside a refusal's number every value is 0
         let told = |no, values: &[f64], answer| match no {
             0 => answer,
@@ -64,34 +70,44 @@ impl Runs {
     }
 }
 
-/// What was seen of answers: accepted and refused, by number.
+/// What was seen of answers: accepted and refused, by number; and of squeezes: how many freed vertices, freed none, were refused.
 #[derive(Default)]
 pub struct Seen {
     accepted: u64,
     refused: [u64; 14],
+    squeezes: [u64; 3],
 }
 
 impl Seen {
-    pub fn add(&mut self, answer: Answer) {
+    pub fn add(&mut self, call: Call, answer: Answer) {
         match answer {
             Answer::Refused(no) => self.refused[no as usize] += 1,
             _ => self.accepted += 1,
+        }
+        match (call, answer) {
+            (Call::Squeeze, Answer::Freed(1..)) => self.squeezes[0] += 1,
+            (Call::Squeeze, Answer::Freed(0)) => self.squeezes[1] += 1,
+            (Call::Squeeze, _) => self.squeezes[2] += 1,
+            _ => {}
         }
     }
 
     pub fn text(&self) -> String {
         let refused = self.refused.iter().enumerate().filter(|(_, n)| **n > 0).map(|(no, n)| format!(", {n} refused as {no}"));
-        format!("{} accepted{}", self.accepted, refused.collect::<String>())
+        let [freed, none, turned_away] = self.squeezes;
+        let squeezes = format!("; of squeezes {freed} freed vertices, {none} freed none, {turned_away} refused");
+        format!("{} accepted{}{squeezes}", self.accepted, refused.collect::<String>())
     }
 }
 
-fn same(a: Answer, b: Answer) -> bool {
+pub fn same(a: Answer, b: Answer) -> bool {
     let floats = |x: &[f64], y: &[f64]| x.iter().zip(y).all(|(x, y)| pattern(*x) == pattern(*y));
     match (a, b) {
         (Answer::Refused(x), Answer::Refused(y)) => x == y,
         (Answer::Placed(a, b), Answer::Placed(x, y)) => (a, b) == (x, y),
         (Answer::Edited, Answer::Edited) => true,
         (Answer::Steps(a, b), Answer::Steps(x, y)) => (a, b) == (x, y),
+        (Answer::Freed(x), Answer::Freed(y)) => x == y,
         (Answer::Value(x), Answer::Value(y)) => floats(&[x], &[y]),
         (Answer::Listed(x), Answer::Listed(y)) => x == y,
         (Answer::Report(x), Answer::Report(y)) => {
@@ -102,9 +118,24 @@ fn same(a: Answer, b: Answer) -> bool {
 }
 
 /// The first float that differs: as numbers up to `alike`, bit for bit past it.
-fn float_differs(is: &[f64], want: &[f64], alike: usize) -> Option<usize> {
+pub fn float_differs(is: &[f64], want: &[f64], alike: usize) -> Option<usize> {
     let equal = |i: usize| if i < alike { pattern(is[i]) == pattern(want[i]) } else { is[i].to_bits() == want[i].to_bits() };
     if is.len() != want.len() { Some(is.len()) } else { (0..is.len()).find(|i| !equal(*i)) }
+}
+
+fn told_of(what: &str, at: usize, is: &[f64], want: &[f64]) -> String {
+    let bits = |run: &[f64]| run.get(at).map_or(0, |x| x.to_bits());
+    format!("{what} {at}: {:016x}, not {:016x}", bits(is), bits(want))
+}
+
+/// The runs as the call must leave them, and how many floats are the model's: its fields, zeros where it had some that a squeeze gave up,
+/// and the excess as it was.
+fn wanted(before: &Runs, had: usize, (mut floats, mut words): (Vec<f64>, Vec<u32>)) -> (Runs, usize) {
+    let own = floats.len();
+    floats.resize(own.max(had), 0.0);
+    floats.extend_from_slice(&before.floats[own.max(had)..]);
+    words.extend_from_slice(&before.words[words.len()..]);
+    (Runs { floats, words }, own)
 }
 
 /// One call on both: the answer, the list, and the runs, which `fields` then says of the model. A refused call and a reading leave every
@@ -117,26 +148,21 @@ pub fn differs<M: Model>(
     fields: impl Fn(&M) -> (Vec<f64>, Vec<u32>),
 ) -> (Option<String>, Answer, Answer) {
     let before = runs.clone();
+    let had = if let Call::Squeeze = call { fields(model).0.len() } else { 0 };
     let (mut out, mut want_out) = (lent.to_vec(), lent.to_vec());
     let (told, want) = (runs.answer(call, &mut out), model.answer(call, &mut want_out));
     let written = if let Answer::Listed(n) = want { 6 * n as usize } else { 0 };
     let stays = matches!(want, Answer::Refused(_)) || matches!(call, Call::Density(..) | Call::Report(_) | Call::List(..));
-    let (floats, words) = fields(model);
-    let (own_floats, own_words) = (floats.len(), words.len());
-    let want_floats: Vec<f64> = floats.into_iter().chain(before.floats[own_floats..].iter().copied()).collect();
-    let want_words: Vec<u32> = words.into_iter().chain(before.words[own_words..].iter().copied()).collect();
-    let told_of = |what: &str, at: usize, is: &[f64], want: &[f64]| {
-        Some(format!("{what} {at}: {:016x}, not {:016x}", is.get(at).map_or(0, |x| x.to_bits()), want.get(at).map_or(0, |x| x.to_bits())))
-    };
+    let (want_runs, own_floats) = wanted(&before, had, fields(model));
     let difference = if !same(told, want) {
         Some(format!("{told:?}, not {want:?}"))
     } else if let Some(at) = float_differs(&out, &want_out, written) {
-        told_of("list", at, &out, &want_out)
-    } else if let Some(at) = float_differs(&runs.floats, &want_floats, own_floats) {
-        told_of("float", at, &runs.floats, &want_floats)
-    } else if runs.words != want_words {
-        let at = (0..want_words.len()).find(|i| runs.words[*i] != want_words[*i]).unwrap();
-        Some(format!("word {at}: {}, not {}", runs.words[at], want_words[at]))
+        Some(told_of("list", at, &out, &want_out))
+    } else if let Some(at) = float_differs(&runs.floats, &want_runs.floats, own_floats) {
+        Some(told_of("float", at, &runs.floats, &want_runs.floats))
+    } else if runs.words != want_runs.words {
+        let at = (0..runs.words.len()).find(|i| runs.words[*i] != want_runs.words[*i]).unwrap();
+        Some(format!("word {at}: {}, not {}", runs.words[at], want_runs.words[at]))
     } else if stays && (float_differs(&runs.floats, &before.floats, 0).is_some() || runs.words != before.words) {
         Some("a refusal or a reading wrote into the store".into())
     } else {
@@ -170,35 +196,42 @@ fn of_machine(name: &str, count: u64, calls: usize, mut r: Rng) -> Tally {
     tally
 }
 
-/// One history: an accepted opening, then calls; the claim about its sums is one more comparison.
-fn history(r: &mut Rng, i: u64, calls: usize, tally: &mut Tally, seen: &mut Seen) -> Machine<ByArchive> {
-    let body = histories::body(r);
+/// A store on the body, its runs somewhat longer than it needs, the machine beside it, and what the opening did wrong.
+pub fn opened(r: &mut Rng, body: &Body) -> (Runs, Machine<ByArchive>, Option<store::Opened>) {
     let (floats, words) = machine::room(body.xyz.len() / 3, body.faces.len() / 3);
     let (more_floats, more_words) = (r.below(9) as usize, r.below(9) as usize);
     let mut runs =
         Runs { floats: cases::garbage(r, floats + more_floats), words: (0..words + more_words).map(|_| r.word() as u32).collect() };
     let before = runs.clone();
-    let opened = store::open(&mut runs.floats, &mut runs.words, body.radius, &body.xyz, &body.faces);
-    let mut machine = Machine::<ByArchive>::open(&body.xyz, &body.faces, body.radius);
-    let (want_floats, want_words) = machine.fields();
-    let as_asked = (opened.no, opened.verts as usize, opened.faces as usize) == (0, body.xyz.len() / 3, body.faces.len() / 3)
-        && float_differs(&runs.floats[..floats], &want_floats, floats).is_none()
-        && runs.words[..words] == want_words
-        && float_differs(&runs.floats[floats..], &before.floats[floats..], 0).is_none()
-        && runs.words[words..] == before.words[words..];
-    tally.count(!as_asked, || format!("history {i}, open {body:?}: {opened:?}"));
+    let told = store::open(&mut runs.floats, &mut runs.words, body.radius, &body.xyz, &body.faces);
+    let machine = Machine::<ByArchive>::open(&body.xyz, &body.faces, body.radius);
+    let (want, own) = wanted(&before, 0, machine.fields());
+    let as_asked = (told.no, told.verts as usize, told.faces as usize) == (0, body.xyz.len() / 3, body.faces.len() / 3)
+        && float_differs(&runs.floats, &want.floats, own).is_none()
+        && runs.words == want.words;
+    (runs, machine, if as_asked { None } else { Some(told) })
+}
+
+/// One history: an accepted opening, then calls; the claim about its sums is one more comparison.
+fn history(r: &mut Rng, i: u64, calls: usize, tally: &mut Tally, seen: &mut Seen) -> Machine<ByArchive> {
+    let body = histories::body(r);
+    let (mut runs, mut machine, fault) = opened(r, &body);
+    tally.count(fault.is_some(), || format!("history {i}, open {body:?}: {fault:?}"));
+    let mut spared = runs.clone();
     let places = Places::draw(r);
     let (mut charged, mut done) = (0, 0);
     for n in 0..calls {
         let call = histories::call(r, &machine, &places);
         let lent = lent(r, call);
         let (difference, told, want) = differs(&mut runs, &mut machine, call, &lent, Machine::fields);
-        seen.add(want);
+        seen.add(call, want);
         match told {
             Answer::Placed(_, need) => charged += u64::from(need),
             Answer::Steps(steps, _) => done += steps,
+            Answer::Freed(freed) => touch_freed(r, &mut runs, freed),
             _ => {}
         }
+        let difference = difference.or_else(|| altered(&mut spared, &runs, call, &lent, told));
         let bad = difference.is_some();
         tally.count(bad, || format!("history {i}, call {n} {call:?} on {body:?}: {}", difference.unwrap()));
         if bad {
@@ -229,7 +262,7 @@ pub fn unopened(count: u64, mut r: Rng) -> Tally {
             let call = histories::call(&mut r, &held, &places);
             let lent = lent(&mut r, call);
             let (difference, _, want) = differs(&mut runs, &mut held, call, &lent, fields);
-            seen.add(want);
+            seen.add(call, want);
             let bad = difference.is_some();
             tally.count(bad, || format!("store {i}, call {n} {call:?}: {}", difference.unwrap()));
             if bad {

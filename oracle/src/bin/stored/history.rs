@@ -12,6 +12,8 @@ use oracle::text::ByTranscription;
 pub enum Step {
     /// So many coordinates and corners from the front of the mesh below.
     Open(usize, usize, f64),
+    /// So many coordinates from the front, and the corners from one position to another.
+    Excerpt(usize, usize, usize, f64),
     Call(Call),
     /// Word at, from outside.
     Write(usize, u32),
@@ -61,9 +63,18 @@ impl Replay {
         self.words[..words.len()].copy_from_slice(&words);
     }
 
+    /// The floats behind the coordinates that a squeeze left become zero.
+    fn free(&mut self, count: usize) {
+        let end = 1_761 + 3 * self.words[0] as usize;
+        self.floats[end..][..count].fill(0.0);
+    }
+
     fn line(&mut self, step: Step) -> String {
         let told = match step {
             Step::Open(xyz, faces, radius) => format!("open {xyz} {faces}{}", self.open(&XYZ[..xyz], &FACES[..faces], radius)),
+            Step::Excerpt(xyz, from, to, radius) => {
+                format!("excerpt {xyz} {from} {to}{}", self.open(&XYZ[..xyz], &FACES[from..to], radius))
+            }
             Step::Call(call) => self.call(call),
             Step::Write(at, to) => self.write(at, to),
             Step::Mend(at) => self.write(at, self.machine.as_ref().unwrap().fields().1[at]),
@@ -96,6 +107,9 @@ impl Replay {
                 let room = if let Call::List(_, room) = call { room } else { 0 };
                 let told = self.machine.as_mut().unwrap().answer(call, &mut run[..room]);
                 self.follow();
+                if let Answer::Freed(n) = told {
+                    self.free(n as usize);
+                }
                 told
             }
             no => Answer::Refused(no),
@@ -111,6 +125,7 @@ fn head(call: Call) -> String {
         Call::Clear(place) => format!("clear {place}"),
         Call::Reweigh(place, _) => format!("reweigh {place}"),
         Call::Advance(n) => format!("advance {n}"),
+        Call::Squeeze => "squeeze".into(),
         Call::Density(by, _) => format!("density{}", convention(by)),
         Call::Report(by) => format!("report{}", convention(by)),
         Call::List(by, room) => format!("list {room}{}", convention(by)),
@@ -131,6 +146,7 @@ fn answer(told: Answer) -> String {
         Answer::Placed(pieces, need) => format!(" pieces {pieces} need {need}"),
         Answer::Edited => String::new(),
         Answer::Steps(done, left) => format!(" done {done} left {left}"),
+        Answer::Freed(n) => format!(" freed {n}"),
         Answer::Value(x) => format!(" value{}", bits(&[x])),
         Answer::Report(Report { mass, kernels, pieces, error }) => {
             format!(" masses{} kernels {kernels} pieces {pieces} error{}", bits(&mass), bits(&[error]))

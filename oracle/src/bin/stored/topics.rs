@@ -20,6 +20,7 @@ pub fn steps() -> Vec<Step> {
         faceless(),
         meshless(),
         reopened(),
+        squeezed(),
     ];
     topics.concat()
 }
@@ -61,6 +62,10 @@ fn open(coordinates: usize, corners: usize, radius: f64) -> Step {
     Step::Open(coordinates, corners, radius)
 }
 
+fn excerpt(coordinates: usize, from: usize, to: usize, radius: f64) -> Step {
+    Step::Excerpt(coordinates, from, to, radius)
+}
+
 fn put(place: u32, k: Kernel) -> Step {
     Step::Call(Call::Put(place, k))
 }
@@ -75,6 +80,10 @@ fn reweigh(place: u32, w: f64) -> Step {
 
 fn advance(n: u64) -> Step {
     Step::Call(Call::Advance(n))
+}
+
+fn squeeze() -> Step {
+    Step::Call(Call::Squeeze)
 }
 
 fn density(by: Convention) -> Step {
@@ -96,6 +105,7 @@ fn unopened() -> Vec<Step> {
         density(RAW),
         report(RAW),
         list(RAW, 0),
+        squeeze(),
         Step::Write(0, 0),
         advance(0),
         put(32, one()),
@@ -104,6 +114,7 @@ fn unopened() -> Vec<Step> {
         density(mass(1.0, 1190.0)),
         report(rho0(1190.0)),
         list(mass(1.0, 1190.0), 0),
+        squeeze(),
     ]
 }
 
@@ -270,6 +281,7 @@ fn damaged(at: usize, value: u32) -> Vec<Step> {
         density(mass(1e9, 2000.0)),
         report(RAW),
         list(RAW, 0),
+        squeeze(),
         Step::Mend(at),
     ]
 }
@@ -365,6 +377,46 @@ fn reopened() -> Vec<Step> {
         report(RAW),
         clear(31),
         advance(0),
+        report(RAW),
+    ]
+}
+
+/// Vertices in no face, before, among and behind the others, squeezed out with work half done; then there are none, no face, no mesh.
+fn squeezed() -> Vec<Step> {
+    vec![
+        excerpt(24, 18, 24, 2.0),
+        put(31, sixteen()),
+        put(3, one()),
+        advance(3),
+        density(RAW),
+        squeeze(),
+        squeeze(),
+        density(RAW),
+        advance(0),
+        report(RAW),
+        put(4, thirteen()),
+        advance(u64::MAX),
+        report(mass(1e9, 1190.0)),
+        list(mass(1e9, 1190.0), 180),
+        excerpt(24, 24, 30, 2.0),
+        put(0, one()),
+        advance(1),
+        squeeze(),
+        advance(1),
+        report(RAW),
+        open(24, 36, 2.0),
+        put(0, thirteen()),
+        advance(5),
+        squeeze(),
+        advance(0),
+        open(24, 0, 2.0),
+        put(31, sixteen()),
+        squeeze(),
+        squeeze(),
+        report(rho0(1190.0)),
+        open(0, 0, 2.0),
+        squeeze(),
+        open(24, 36, 2.0),
         report(RAW),
     ]
 }
