@@ -1,6 +1,6 @@
 -- Each call on a store that holds a machine does what the machine does. Assumes nothing.
 use mathlib.Core.Path.{_≡_, refl, sym, ap, subst, _∙_}
-use mathlib.Core.List.{List, [], _∷_, map}
+use mathlib.Core.List.{List, [], _∷_}
 use mathlib.Core.Bool.{cond}
 use Prim.Native.Nat.{ℕ, zero, suc, _+_, _*_, _-_, _≤_, _<_, min}
 use native.Mathlib.Nat.{zero-div, zero-mod}
@@ -23,7 +23,7 @@ use Rattle.field.specs.Field.{centreOf}
 use Rattle.kernel.specs.declared.kernel.Kernel.{Kernel}
 use Rattle.pieces.specs.declared.pieces.Pieces.{Pieces}
 use Rattle.pieces.specs.Pieces.{decomposed}
-use Rattle.pieces.specs.PieceLaws.{at-most-16, same-pieces}
+use Rattle.pieces.specs.PieceLaws.{same-pieces}
 use Rattle.layout.specs.Layout.{slotLimit, radiusOf, vertsOf, facesOf, statusOf}
 use Rattle.layout.specs.Soundness.{storeCheck, slotCheck, filledCheck}
 use Rattle.store.specs.Calls.{clearStep, reweighStep}
@@ -33,14 +33,15 @@ use Rattle.put.specs.Puts.{fresh, atFirst, putFloats, putWords, putStep}
 use Rattle.machine.specs.Machine.{Mesh, Slot, empty, full, need, leftSlot, leftSum, Machine, Turn, turn, putTurn, clearTurn, weighed, reweighTurn}
 use Rattle.machine.specs.Holding.{Width, width3, placeRow, floats48, cells, floatsOf, wordsOf}
 use Rattle.readings.specs.Readings.{Reading}
-use Rattle.machine.specs.Calls.{Call, put, clear, reweigh, advance, squeeze, read, machine, Result, result, seen, store, results, turns, after-all, past, holding, shown, chargedBy, doneBy, chargedIn, doneIn}
-use Rattle.machine.proofs.Valid.{Within, Valid, spread}
+use Rattle.machine.specs.Calls.{Call, put, clear, reweigh, advance, squeeze, read, machine, result, seen, store, after-all, past, holding, shown, chargedBy, doneBy, chargedIn, doneIn}
+use Rattle.machine.specs.Valid.{Within, Valid}
+use Rattle.machine.proofs.Unused.{okay}
 use Rattle.machine.proofs.Held.{status-held, write-words, write-floats, set-seven, coords-held, corners-held}
 use Rattle.machine.proofs.Sane.{no-fault}
 use Rattle.machine.proofs.Look.{read-held}
 use Rattle.machine.proofs.Squeezing.{floats-squeezed, words-squeezed, slim-valid, left-slim}
 use Rattle.machine.proofs.Slim.{freed-is}
-use Rattle.machine.proofs.Sweep.{all-held, left-held, lowest-first, spread-length, within-spread, left-spread}
+use Rattle.machine.proofs.Sweep.{spread, all-held, left-held, lowest-first, spread-length, within-spread, left-spread}
 
 module _ (wd : ℕ) (fm : Width wd) (m : Machine) (v : Valid (m .mesh) (m .slots)) (xs : List Float) (ys : List ℕ) where
   abbrev FS : List Float
@@ -173,8 +174,8 @@ module _ (wd : ℕ) (fm : Width wd) (m : Machine) (v : Valid (m .mesh) (m .slots
         sane,
         verts-held,
         faces-held,
-        coords-held wd fm (m .mesh) (m .slots) (v .slots) (past m xs) (v .coords),
-        corners-held wd fm (m .mesh) (m .slots) (v .slots) ys (v .corners),
+        coords-held wd fm (m .mesh) (m .slots) (v .slots) (past m xs) (v .mesh .coords),
+        corners-held wd fm (m .mesh) (m .slots) (v .slots) ys (v .mesh .corners),
         all-held wd fm (m .mesh) (m .slots) v (past m xs) ys n,
         left-held wd fm (m .mesh) (m .slots) v ys,
         a,
@@ -195,8 +196,8 @@ module _ (wd : ℕ) (fm : Width wd) (m : Machine) (v : Valid (m .mesh) (m .slots
         sane,
         verts-held,
         faces-held,
-        coords-held wd fm (m .mesh) (m .slots) (v .slots) (past m xs) (v .coords),
-        corners-held wd fm (m .mesh) (m .slots) (v .slots) ys (v .corners),
+        coords-held wd fm (m .mesh) (m .slots) (v .slots) (past m xs) (v .mesh .coords),
+        corners-held wd fm (m .mesh) (m .slots) (v .slots) ys (v .mesh .corners),
         floats-squeezed wd fm (m .mesh) (m .slots) v (m .freed) xs,
         words-squeezed wd fm (m .mesh) (m .slots) v ys,
         freed-is (m .mesh),
@@ -226,34 +227,35 @@ left-set m (x ∷ ss) (suc i) s h = omega (arith, left-set m ss i s (omega arith
 pub record Kept (m : Machine) (c : Call) (t : Turn) : Type 0 where
   pub valid : Valid (t .next .mesh) (t .next .slots)
   pub balance : doneBy c (t .reply) + leftSum (t .next .mesh) (t .next .slots) + t .next .dropped ≡ chargedBy c (t .reply) + leftSum (m .mesh) (m .slots) + m .dropped
+  pub charged : t .next .charged ≡ m .charged + chargedBy c (t .reply)
 
 module _ (m : Machine) (v : Valid (m .mesh) (m .slots)) where
   remade : (ss : List Slot) → length ss ≡ 32 → ((i : ℕ) → Within (m .mesh) (getD ss i empty)) → Valid (m .mesh) ss
-  remade ss l w = record { slots = l; coords = v .coords; corners = v .corners; verts = v .verts; faces = v .faces; below = v .below; within = w }
+  remade ss l w = record { mesh = v .mesh; slots = l; within = w }
 
   with-slot : (i : ℕ) (s : Slot) → Within (m .mesh) s → Valid (m .mesh) (set (m .slots) i s)
   with-slot i s w = remade (set (m .slots) i s) (length-set (m .slots) i s ∙ v .slots) (all-set (Within (m .mesh)) (m .slots) i s w (v .within))
 
   still-put : (i : ℕ) (k : Kernel) (r : Refusal) → Kept m (put i k) (turn m (refused r))
-  still-put i k r = record { valid = v; balance = refl }
+  still-put i k r = record { valid = v; balance = refl; charged = omega arith }
 
   still-clear : (i : ℕ) (r : Refusal) → Kept m (clear i) (turn m (refused r))
-  still-clear i r = record { valid = v; balance = refl }
+  still-clear i r = record { valid = v; balance = refl; charged = omega arith }
 
   still-reweigh : (i : ℕ) (w : Float) (r : Refusal) → Kept m (reweigh i w) (turn m (refused r))
-  still-reweigh i w r = record { valid = v; balance = refl }
+  still-reweigh i w r = record { valid = v; balance = refl; charged = omega arith }
 
   keep-put : (i : ℕ) (k : Kernel) → i < 32 → Kept m (put i k) (putTurn m i k (decomposed k (m .mesh .radius)))
   keep-put i k h =
       let fit = decomposed k (m .mesh .radius) in
       let z = left-set (m .mesh) (m .slots) i (full k fit 0) (rw (v .slots) h) in
-      record { valid = with-slot i (full k fit 0) (record { steps = omega arith; few = at-most-16 k (m .mesh .radius); fitted = refl }); balance = omega arith }
+      record { valid = with-slot i (full k fit 0) (okay (m .mesh) k fit 0 refl (omega arith)); balance = omega arith; charged = omega arith }
 
   keep-clear : (i : ℕ) → i < 32 → (s : Slot) → getD (m .slots) i empty ≡ s → Kept m (clear i) (clearTurn m i s)
   keep-clear i h empty e = still-clear i Vacant
   keep-clear i h (full k fit p) e =
       let z = rw e at (left-set (m .mesh) (m .slots) i empty (rw (v .slots) h)) in
-      record { valid = with-slot i empty (tt {0}); balance = omega arith }
+      record { valid = with-slot i empty (tt {0}); balance = omega arith; charged = omega arith }
 
   keep-reweigh : (i : ℕ) (w : Float) → i < 32 → (s : Slot) → getD (m .slots) i empty ≡ s → Kept m (reweigh i w) (reweighTurn m i w s)
   keep-reweigh i w h empty e = still-reweigh i w Vacant
@@ -261,8 +263,9 @@ module _ (m : Machine) (v : Valid (m .mesh) (m .slots)) where
       let o = subst (Within (m .mesh)) e (v .within i) in
       let z = rw e at (left-set (m .mesh) (m .slots) i (full (weighed k w) fit p) (rw (v .slots) h)) in
       record {
-        valid = with-slot i (full (weighed k w) fit p) (record { steps = o .steps; few = o .few; fitted = o .fitted ∙ same-pieces (k .c) (k .c) (k .sigma) (k .w) w (k .alpha) (m .mesh .radius) });
+        valid = with-slot i (full (weighed k w) fit p) (okay (m .mesh) (weighed k w) fit p (o .fitted ∙ same-pieces (k .c) (k .c) (k .sigma) (k .w) w (k .alpha) (m .mesh .radius)) (o .steps));
         balance = omega arith;
+        charged = omega arith;
       }
 
   pub kept : (c : Call) → Kept m c (machine m c)
@@ -288,17 +291,13 @@ module _ (m : Machine) (v : Valid (m .mesh) (m .slots)) where
       (record {
         valid = remade (spread (m .mesh) n (m .slots)) (spread-length 3 width3 (m .mesh) n (m .slots) ∙ v .slots) (within-spread (m .mesh) n (m .slots) (v .within));
         balance = rw (left-spread (m .mesh) n (m .slots)) (omega arith);
+        charged = omega arith;
       })
-  kept squeeze = record { valid = slim-valid (m .mesh) (m .slots) v; balance = rw (left-slim (m .mesh) (m .slots) v) refl }
-  kept (read r) = record { valid = v; balance = refl }
+  kept squeeze = record { valid = slim-valid (m .mesh) (m .slots) v; balance = rw (left-slim (m .mesh) (m .slots) v) refl; charged = omega arith }
+  kept (read r) = record { valid = v; balance = refl; charged = omega arith }
 
 -- ---- every list of calls
 module _ (wd : ℕ) (fm : Width wd) where
-  pub every-list : (cs : List Call) (m : Machine) → Valid (m .mesh) (m .slots) → (xs : List Float) (ys : List ℕ) → results wd (holding m xs ys) cs ≡ map (shown xs ys) (turns m cs)
-  every-list [] m v xs ys = refl
-  every-list (c ∷ cs) m v xs ys =
-      rw (one-call wd fm m v xs ys c) (ap (λ (l : List Result). shown xs ys (machine m c) ∷ l) (every-list cs (machine m c .next) (kept m v c .valid) xs ys))
-
   pub books : (cs : List Call) (m : Machine) → Valid (m .mesh) (m .slots) → (xs : List Float) (ys : List ℕ)
       → doneIn wd (holding m xs ys) cs + leftSum (after-all m cs .mesh) (after-all m cs .slots) + after-all m cs .dropped
       ≡ chargedIn wd (holding m xs ys) cs + leftSum (m .mesh) (m .slots) + m .dropped
@@ -307,3 +306,9 @@ module _ (wd : ℕ) (fm : Width wd) where
       let k = kept m v c in
       let t = machine m c in
       rw (one-call wd fm m v xs ys c) (omega (arith, books cs (t .next) (k .valid) xs ys, k .balance))
+
+  pub charges : (cs : List Call) (m : Machine) → Valid (m .mesh) (m .slots) → (xs : List Float) (ys : List ℕ) → after-all m cs .charged ≡ m .charged + chargedIn wd (holding m xs ys) cs
+  charges [] m v xs ys = omega arith
+  charges (c ∷ cs) m v xs ys =
+      let k = kept m v c in
+      rw (one-call wd fm m v xs ys c) (omega (arith, charges cs (machine m c .next) (k .valid) xs ys, k .charged))

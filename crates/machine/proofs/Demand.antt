@@ -15,17 +15,20 @@ use Rattle.base.specs.declared.refusal.Refusal.the-variants.{Ragged, Oversize, 
 use Rattle.base.specs.declared.refusal.Checked.the-variants.{Passed, Failed}
 use Rattle.runs.specs.Runs.{write}
 use Rattle.mesh.specs.Checks.{ragged, oversize, allBelow, meshCheck}
-use Rattle.layout.specs.Layout.{coordsFrom, cornersFrom}
+use Rattle.layout.specs.Layout.{width, coordsFrom, cornersFrom}
 use Rattle.store.specs.Calls.{After, after, openCheck, openStep}
 use Rattle.readings.specs.Readings.{Reading, density, report, list, needsWork, bare, applied, rescaled, sixes, Seen, answerOf, refusing}
-use Rattle.machine.specs.Machine.{leftSum, Machine, opened}
-use Rattle.machine.specs.Holding.{Width, excessF, excessW}
-use Rattle.machine.specs.Fresh.{freshSeen}
+use Rattle.machine.specs.Machine.{Mesh, leftSum, Machine, opened}
+use Rattle.machine.specs.Holding.{Width, width3, excessF, excessW}
+use Rattle.machine.specs.Fresh.{workedAfresh}
 use Rattle.machine.specs.Calls.{Call, advance, read, machine, Store, Result, store, leaves, after-all, holding, leftIn, without, heard}
 use Rattle.machine.specs.Demands.{leaving, Same, Read, Each, end, next, Follows, Demand3}
-use Rattle.machine.proofs.Valid.{Valid}
-use Rattle.machine.proofs.Claim.{one-call, kept, books}
-use Rattle.machine.proofs.Unaltered.{unaltered}
+use Rattle.machine.specs.Valid.{Valid}
+use Rattle.machine.proofs.Parts.{freshSeen}
+use Rattle.machine.proofs.Afresh.{joined}
+use Rattle.machine.proofs.Claim.{one-call, kept, books, charges}
+use Rattle.machine.proofs.Unaltered.{From, from-start, from-next, on-opened, unaltered}
+use Rattle.machine.proofs.Listed.{listed}
 use Rattle.machine.proofs.Opened.{opens, opened-valid}
 
 -- ---- what is answered is never 8
@@ -45,12 +48,12 @@ eight (density v x) = refl
 eight (report v) = refl
 eight (list v out) = refl
 
-module _ (r : Reading) (s : Seen) where
-  when-eight : (b : Bool) → cond b (refusing r Unfinished) (answerOf r s) .reply ≡ refused Unfinished → b ≡ true
-  when-eight true e = refl
-  when-eight false e = absurd (not-eight r s e)
+module _ (r : Reading) (o : Outcome) where
+  when-eight : (o .reply ≡ refused Unfinished → ⊥) → (b : Bool) → cond b (refusing r Unfinished) o .reply ≡ refused Unfinished → b ≡ true
+  when-eight n true e = refl
+  when-eight n false e = absurd (n e)
 
-  when-not : (b : Bool) → (cond b (refusing r Unfinished) (answerOf r s) .reply ≡ refused Unfinished → ⊥) → cond b (refusing r Unfinished) (answerOf r s) ≡ answerOf r s
+  when-not : (b : Bool) → (cond b (refusing r Unfinished) o .reply ≡ refused Unfinished → ⊥) → cond b (refusing r Unfinished) o ≡ o
   when-not true n = absurd (n (eight r))
   when-not false n = refl
 
@@ -60,28 +63,31 @@ module _ (wd : ℕ) (fm : Width wd) (exF : List Float) (exW : List ℕ) where
       let e = one-call wd fm m v exF exW c in
       record { before = refl; reply = ap (λ (r : Result). r .reply) e; lent = ap (λ (r : Result). r .out) e; fields = ap (λ (r : Result). r .left) e }
 
-  reading : (m : Machine) → Valid (m .mesh) (m .slots) → (r : Reading) → Read wd m (holding m exF exW) r
+  reading : (o : Mesh) (m : Machine) → Valid (m .mesh) (m .slots) → From o (m .mesh) → (r : Reading) → Read wd o m (holding m exF exW) r
   unfolding machine
-  reading m v r =
+  reading o m v g r =
       let e = one-call wd fm m v exF exW (read r) in
       let er = ap (λ (x : Result). x .reply) e in
       let eo = ap (λ (x : Result). x .out) e in
       let l = leftSum (m .mesh) (m .slots) in
       let b = needsWork r && ltb 0 l in
-      let f = freshSeen (m .mesh) (m .slots) in
+      let f = workedAfresh (m .mesh) (m .slots) r in
+      let j = joined (m .mesh) (v .mesh) (m .slots) r in
+      let never : f .reply ≡ refused Unfinished → ⊥ = λ y. not-eight r (freshSeen (m .mesh) (m .slots)) (ap (λ (a : Outcome). a .reply) j ∙ y) in
       record {
         unfinished = λ n h. er ∙ rw (n, lt-ltb 0 l h) (eight r);
-        only-then = λ z. let t = and-eq-true-iff (needsWork r) (ltb 0 l) .0 (when-eight r f b (sym er ∙ z)) in (t .0, ltb-true 0 l (t .1));
+        only-then = λ z. let t = and-eq-true-iff (needsWork r) (ltb 0 l) .0 (when-eight r f never b (sym er ∙ z)) in (t .0, ltb-true 0 l (t .1));
         afresh = λ z.
-            (er ∙ ap (λ (a : Outcome). a .reply) (when-not r f b (λ y. z (er ∙ y))), eo ∙ ap (λ (a : Outcome). a .out) (when-not r f b (λ y. z (er ∙ y))));
+            let t = when-not r f b (λ y. z (er ∙ y)) ∙ on-opened o (m .mesh) g (m .slots) r in
+            (er ∙ ap (λ (a : Outcome). a .reply) t, eo ∙ ap (λ (a : Outcome). a .out) t);
         kept = ap (λ (x : Result). x .left) e;
       }
 
-  each : (cs : List Call) (m : Machine) → Valid (m .mesh) (m .slots) → Each wd exF exW m (holding m exF exW) cs
-  each [] m v = end
-  each (c ∷ cs) m v =
+  each : (o : Mesh) (cs : List Call) (m : Machine) → Valid (m .mesh) (m .slots) → From o (m .mesh) → Each wd exF exW o m (holding m exF exW) cs
+  each o [] m v g = end
+  each o (c ∷ cs) m v g =
       let s = same m v c in
-      next s (reading m v) (subst (λ (t : Store). Each wd exF exW (machine m c .next) t cs) (sym (s .fields)) (each cs (machine m c .next) (kept m v c .valid)))
+      next s (reading o m v g) (subst (λ (t : Store). Each wd exF exW o (machine m c .next) t cs) (sym (s .fields)) (each o cs (machine m c .next) (kept m v c .valid) (from-next o m c g)))
 
   last : (cs : List Call) (m : Machine) → Valid (m .mesh) (m .slots) → (leaves wd (holding m exF exW) cs ≡ holding (after-all m cs) exF exW) × Valid (after-all m cs .mesh) (after-all m cs .slots)
   last [] m v = (refl, v)
@@ -95,13 +101,13 @@ module _ (wd : ℕ) (fm : Width wd) (exF : List Float) (exW : List ℕ) where
       let z : min 0 (leftSum (m .mesh) (m .slots)) ≡ 0 = omega arith in
       ap (λ (x : Result). leftIn (x .reply)) (one-call wd fm m v exF exW (advance 0)) ∙ rw z refl
 
-  follows : (cs : List Call) (m : Machine) → Valid (m .mesh) (m .slots) → leftSum (m .mesh) (m .slots) ≡ 0 → m .dropped ≡ 0 → Follows wd exF exW m (holding m exF exW) cs
-  follows cs m v z d =
+  follows : (cs : List Call) (m : Machine) → Valid (m .mesh) (m .slots) → leftSum (m .mesh) (m .slots) ≡ 0 → m .dropped ≡ 0 → m .charged ≡ 0 → Follows wd exF exW m (holding m exF exW) cs
+  follows cs m v z d c =
       let i = last cs m v in
       let l : leftIn (store wd (leaves wd (holding m exF exW) cs) (advance 0) .reply) ≡ leftSum (after-all m cs .mesh) (after-all m cs .slots)
       = ap (λ (t : Store). leftIn (store wd t (advance 0) .reply)) (i .0) ∙ left-asked (after-all m cs) (i .1) in
       let b = books wd fm cs m v exF exW in
-      record { calls = each cs m v; sums = omega arith }
+      record { calls = each (m .mesh) cs m v (from-start (m .mesh) (v .mesh)); valid = i .1; pieces = record { listed = listed (m .mesh) (after-all m cs .slots) }; sums = omega arith; charged = omega (arith, charges wd fm cs m v exF exW) }
 
 -- ---- the refusals of an opening
 open-number : (q n : ℕ) (ks : List ℕ) (a b : ℕ) (e : Refusal) → openCheck q n ks a b ≡ Failed e → number e ≤ 4
@@ -131,10 +137,14 @@ demand3 wd fm r xs ks fs ws =
       accepted = λ h. ap (λ (a : After). a .reply) (opens wd fm r xs ks fs ws h);
       holds = holds;
       every-list = λ h cs. subst (λ (s : Store). Follows wd (excessF xs fs) (excessW wd ks ws) (opened r xs ks) s cs) (sym (holds h))
-          (follows wd fm (excessF xs fs) (excessW wd ks ws) cs (opened r xs ks) (opened-valid wd fm r xs ks (length fs) (length ws) h) refl refl);
+          (follows wd fm (excessF xs fs) (excessW wd ks ws) cs (opened r xs ks) (opened-valid wd fm r xs ks (length fs) (length ws) h) refl refl refl);
       unaltered = λ h cs. subst (λ (s : Store). heard wd s cs ≡ heard wd s (without cs)) (sym (holds h))
           (unaltered wd fm (excessF xs fs) (excessW wd ks ws) (opened r xs ks) (opened-valid wd fm r xs ks (length fs) (length ws) h) cs);
     }
   where
     holds : openCheck wd (length xs) ks (length fs) (length ws) ≡ Passed → leaving (openStep wd fs ws r xs ks) ≡ holding (opened r xs ks) (excessF xs fs) (excessW wd ks ws)
     holds h = ap leaving (opens wd fm r xs ks fs ws h)
+
+-- at the width that the contracts cite
+pub demand3-here : (r : Float) (xs : List Float) (ks : List ℕ) (fs : List Float) (ws : List ℕ) → Demand3 width r xs ks fs ws
+demand3-here = demand3 width width3

@@ -23,12 +23,14 @@ use Rattle.base.specs.Answers.{outcome}
 use Rattle.readings.specs.Readings.{Reading, density, report, list, byMass, needsWork, Part, bare, densityAt, rawMass, origin, applied, rescaled, Seen, seeing, listing, answerOf, refusing, readingOf, heldFilled, heldWorst, heldSeen, readStep}
 use Rattle.machine.specs.Machine.{Mesh, Slot, empty, full, leftSum}
 use Rattle.machine.specs.Holding.{Width, triangles, placeRow, floatsOf, wordsOf}
-use Rattle.machine.specs.Fresh.{filledOne, freshFilled, worseOne, worstFrom, freshSeen}
-use Rattle.machine.proofs.Valid.{Within, Valid}
+use Rattle.machine.specs.Fresh.{filledOne, freshFilled, worseOne, worstFrom, workedAfresh}
+use Rattle.machine.specs.Valid.{Within, Valid}
 use Rattle.machine.proofs.Held.{get7, status-held, coords-held, corners-held}
 use Rattle.machine.proofs.Sane.{no-fault}
 use Rattle.machine.proofs.Sweep.{left-held}
 use Rattle.machine.proofs.Read.{bare-all, whole-all}
+use Rattle.machine.proofs.Parts.{freshSeen}
+use Rattle.machine.proofs.Afresh.{joined}
 
 -- ---- a reading that needs no work does not look at volumes
 zero-not : lt +0 +0 ≡ false
@@ -112,7 +114,7 @@ module _ (wd : ℕ) (fm : Width wd) (m : Mesh) (ss : List Slot) (v : Valid m ss)
   verts-held = refl
 
   body-held : bodyVolume (held wd FS WS (vertsOf WS) (facesOf WS)) (facesOf WS) ≡ bodyVolume (triangles m) (m .faces)
-  body-held = rw (verts-held, faces-held, coords-held wd fm m ss (v .slots) xs (v .coords), corners-held wd fm m ss (v .slots) ys (v .corners)) refl
+  body-held = rw (verts-held, faces-held, coords-held wd fm m ss (v .slots) xs (v .mesh .coords), corners-held wd fm m ss (v .slots) ys (v .mesh .corners)) refl
 
   -- with nothing left a reading sees what is worked afresh
   whole-seen : leftSum m ss ≡ 0 → heldSeen wd FS WS ≡ freshSeen m ss
@@ -124,11 +126,14 @@ module _ (wd : ℕ) (fm : Width wd) (m : Mesh) (ss : List Slot) (v : Valid m ss)
   unfolding heldSeen freshSeen
   bare-seen = bare-all wd fm m ss v xs ys
 
-  pub read-held : (r : Reading) → readStep wd FS WS r ≡ readingOf r (leftSum m ss) (freshSeen m ss)
+  read-parts : (r : Reading) → readStep wd FS WS r ≡ readingOf r (leftSum m ss) (freshSeen m ss)
   unfolding readStep
-  read-held r = rw (no-fault wd fm m ss v xs ys, faces-held, left-held wd fm m ss v ys) (go (needsWork r) refl (ltb 0 (leftSum m ss)) refl)
+  read-parts r = rw (no-fault wd fm m ss v xs ys, faces-held, left-held wd fm m ss v ys) (go (needsWork r) refl (ltb 0 (leftSum m ss)) refl)
     where
       go : (b : Bool) → needsWork r ≡ b → (c : Bool) → ltb 0 (leftSum m ss) ≡ c → cond (b && c) (refusing r Unfinished) (answerOf r (heldSeen wd FS WS)) ≡ cond (b && c) (refusing r Unfinished) (answerOf r (freshSeen m ss))
       go false n c e = blind r n (heldSeen wd FS WS) (freshSeen m ss) bare-seen
       go true n true e = refl
       go true n false e = ap (answerOf r) (whole-seen (let z = ltb-false 0 (leftSum m ss) e in omega arith))
+
+  pub read-held : (r : Reading) → readStep wd FS WS r ≡ cond (needsWork r && ltb 0 (leftSum m ss)) (refusing r Unfinished) (workedAfresh m ss r)
+  read-held r = read-parts r ∙ ap (cond (needsWork r && ltb 0 (leftSum m ss)) (refusing r Unfinished)) (joined m (v .mesh) ss r)

@@ -15,7 +15,7 @@ use Rattle.store.specs.Calls.{after, openCheck, openFloats, openWords, openStep
 use Rattle.store.specs.OpenLaws.{open-passes}
 use Rattle.machine.specs.Machine.{Mesh, Slot, empty, meshOf}
 use Rattle.machine.specs.Holding.{Width, width3, flat, placeRow, floats7, floats48, floatsOf, wordsOf, excessF, excessW}
-use Rattle.machine.proofs.Valid.{Within, Valid}
+use Rattle.machine.specs.Valid.{Within, Valid}
 
 -- ---- zeros
 flat-same : {A : Type 0} (g : Slot → List A) (k : ℕ) (z : A) → g empty ≡ replicate k z → (n : ℕ) → flat (map g (replicate n empty)) ≡ replicate (k * n) z
@@ -81,11 +81,7 @@ module _ (wd : ℕ) (fm : Width wd) (r : Float) (xs : List Float) (ks : List ℕ
       let x = div-add-mod' (length xs) 3 in
       let y = div-add-mod' (length ks) 3 in
       record {
+        mesh = record { coords = omega (arith, g .coords, x); corners = omega (arith, g .corners, y); verts = g .verts; faces = g .faces; below = g .below };
         slots = length-replicate 32 empty;
-        coords = omega (arith, g .coords, x);
-        corners = omega (arith, g .corners, y);
-        verts = g .verts;
-        faces = g .faces;
-        below = g .below;
         within = λ i. subst (Within M) (sym (none-at 32 i)) (tt {0});
       }

@@ -14,15 +14,15 @@ use Rattle.pieces.specs.declared.pieces.Pieces.{Pieces}
 use Rattle.readings.specs.Readings.{Part, bare, heldPart, heldAt, heldAll}
 use Rattle.machine.specs.Machine.{Mesh, Slot, empty, full, need, leftSlot, leftSum}
 use Rattle.machine.specs.Holding.{Width, triangles, cells, placeRow, floatsOf, wordsOf}
-use Rattle.machine.specs.Fresh.{freshPart, freshAt, freshSlot, freshAll}
-use Rattle.machine.proofs.Valid.{Within, Valid}
+use Rattle.machine.proofs.Parts.{freshPart, freshAt, freshSlot, freshAll}
+use Rattle.machine.specs.Valid.{Within, Valid}
 use Rattle.machine.proofs.Held.{get7, get48, status-held}
 
 pub map-id : {A : Type 0} (l : List A) → map (λ (x : A). x) l ≡ l
 map-id [] = refl
 map-id (x ∷ l) = ap (λ (t : List _). x ∷ t) (map-id l)
 
-map-append : {A B : Type 0} (f : A → B) (l r : List A) → map f (l ++ r) ≡ map f l ++ map f r
+pub map-append : {A B : Type 0} (f : A → B) (l r : List A) → map f (l ++ r) ≡ map f l ++ map f r
 map-append f [] r = refl
 map-append f (x ∷ l) r = ap (λ (t : List _). f x ∷ t) (map-append f l r)
 

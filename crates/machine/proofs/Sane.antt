@@ -15,7 +15,7 @@ use Rattle.layout.specs.Layout.{coordsFrom, cornersFrom, facesOf}
 use Rattle.layout.specs.Soundness.{every, longEnough, slotSound, slotSoundAt, sound, storeCheck}
 use Rattle.machine.specs.Machine.{Mesh, Slot, empty, full}
 use Rattle.machine.specs.Holding.{Width, placeRow, floatsOf, wordsOf}
-use Rattle.machine.proofs.Valid.{Within, Valid}
+use Rattle.machine.specs.Valid.{Within, Valid}
 use Rattle.machine.proofs.Held.{status-held, finished-held, done-held, words-long, floats-long, corners-held}
 
 -- the words of n pieces, f faces and p steps are sound
@@ -70,11 +70,11 @@ module _ (wd : ℕ) (fm : Width wd) (m : Mesh) (ss : List Slot) (v : Valid m ss)
   unfolding storeCheck longEnough sound wordsOf
   no-fault =
       rw (
-        le-leb (cornersFrom wd + 3 * m .faces) (length (wordsOf m ss ys)) (words-long wd fm m ss (v .slots) ys (v .corners)),
-        le-leb (coordsFrom + 3 * m .verts) (length (floatsOf m ss xs)) (floats-long wd fm m ss (v .slots) xs (v .coords)),
-        le-leb (m .verts) vertexLimit (v .verts),
-        le-leb (m .faces) faceLimit (v .faces),
+        le-leb (cornersFrom wd + 3 * m .faces) (length (wordsOf m ss ys)) (words-long wd fm m ss (v .slots) ys (v .mesh .corners)),
+        le-leb (coordsFrom + 3 * m .verts) (length (floatsOf m ss xs)) (floats-long wd fm m ss (v .slots) xs (v .mesh .coords)),
+        le-leb (m .verts) vertexLimit (v .mesh .verts),
+        le-leb (m .faces) faceLimit (v .mesh .faces),
         slots-sound 32 (omega arith),
-        corners-held wd fm m ss (v .slots) ys (v .corners),
-        v .below,
+        corners-held wd fm m ss (v .slots) ys (v .mesh .corners),
+        v .mesh .below,
       ) refl

@@ -1,10 +1,10 @@
 -- A squeezed mesh: what the runs hold of it, that it is valid, and that the work left is the same. Assumes nothing.
 use mathlib.Core.Path.{_≡_, refl, sym, ap, _∙_}
 use mathlib.Core.List.{List, [], _∷_, _++_, map, append-assoc}
-use Prim.Native.Nat.{ℕ, zero, suc, _+_, _*_, _-_, _≤_, _<_, min}
+use Prim.Native.Nat.{ℕ, zero, suc, _+_, _-_, _≤_, _<_, min}
 use native.Mathlib.Nat.{add-zero}
 use native.Mathlib.Omega.{arith}
-use lib.ListN.{length, getD, set, drop, replicate, length-append, length-map, replicate-append-replicate}
+use lib.ListN.{length, getD, set, replicate, length-append, length-map, replicate-append-replicate}
 use lib.Seq.{drop-append-seam}
 use lib.Ieee.{Float, nan}
 use Rattle.base.specs.Floats.{+0}
@@ -25,7 +25,8 @@ use Rattle.squeeze.specs.SqueezeLaws.{kept-length, squeezed-length}
 use Rattle.squeeze.specs.TriangleLaws.{same-triangle, still-below}
 use Rattle.machine.specs.Machine.{Mesh, Slot, empty, full, leftSlot, leftSum, slim, freedBy}
 use Rattle.machine.specs.Holding.{Width, triangles, flat, floats7, floats48, cells, placeRow, floatsOf, wordsOf}
-use Rattle.machine.proofs.Valid.{Within, Valid}
+use Rattle.machine.specs.Valid.{Within, Shape, Valid}
+use Rattle.machine.proofs.Unused.{okay}
 use Rattle.machine.proofs.Slim.{thinned, slim-is, freed-is}
 use Rattle.machine.proofs.Rows.{flat-length, map-length, write-append-add}
 use Rattle.machine.proofs.Held.{each3, each7, each48}
@@ -71,6 +72,17 @@ module _ (m : Mesh) (xs : List Float) (ks : List ℕ) (w : ℕ) where
     floats48-same empty = refl
     floats48-same (full k fit p) = cells-same k fit 16 0 p
 
+-- squeezed once more
+pub squeezed-shape : (m : Mesh) (xs : List Float) (ks : List ℕ) (w : ℕ) → Shape (remesh m xs ks w) → Shape (remesh m (keptTo ks xs w) (renumbered ks) (rank ks w))
+squeezed-shape m xs ks w g =
+    record {
+      coords = kept-length ks xs w;
+      corners = length-map ks (rank ks) ∙ g .corners;
+      verts = omega (arith, rank-le ks w, g .verts);
+      faces = g .faces;
+      below = still-below ks xs w (record { corner = below-each w ks (g .below) });
+    }
+
 -- ---- the mesh of a machine, squeezed
 left-thin : (m : Mesh) (ss : List Slot) → leftSum (thinned m) ss ≡ leftSum m ss
 left-thin m ss = left-sum-same m (keptTo (m .corners) (m .coords) (m .verts)) (renumbered (m .corners)) (rank (m .corners) (m .verts)) ss
@@ -83,24 +95,20 @@ module _ (m : Mesh) (ss : List Slot) (v : Valid m ss) where
   fewer = rank (m .corners) (m .verts)
 
   below : Below (m .verts) (m .corners)
-  below = record { corner = below-each (m .verts) (m .corners) (v .below) }
+  below = record { corner = below-each (m .verts) (m .corners) (v .mesh .below) }
 
   thin-triangles : (f : ℕ) → f < m .faces → triangleAt kept (renumbered (m .corners)) f ≡ triangles m f
-  thin-triangles f h = same-triangle (m .corners) (m .coords) (m .verts) below f (omega (arith, v .corners))
+  thin-triangles f h = same-triangle (m .corners) (m .coords) (m .verts) below f (omega (arith, v .mesh .corners))
 
   within-thin : (s : Slot) → Within m s → Within (thinned m) s
   within-thin empty h = h
-  within-thin (full k fit p) h = record { steps = h .steps; few = h .few; fitted = h .fitted }
+  within-thin (full k fit p) h = okay (thinned m) k fit p (h .fitted) (h .steps)
 
   thin-valid : Valid (thinned m) ss
   thin-valid =
       record {
+        mesh = squeezed-shape m (m .coords) (m .corners) (m .verts) (v .mesh);
         slots = v .slots;
-        coords = kept-length (m .corners) (m .coords) (m .verts);
-        corners = length-map (m .corners) (rank (m .corners)) ∙ v .corners;
-        verts = omega (arith, rank-le (m .corners) (m .verts), v .verts);
-        faces = v .faces;
-        below = still-below (m .corners) (m .coords) (m .verts) below;
         within = λ i. within-thin (getD ss i empty) (v .within i);
       }
 
@@ -131,7 +139,7 @@ module _ (wd : ℕ) (fm : Width wd) (m : Mesh) (ss : List Slot) (v : Valid m ss)
       let k = kept m ss v in
       let past = replicate (freedOf (m .corners) (m .verts) + g) +0 ++ xs in
       let n : length p ≡ coordsFrom = rw (length-append, flat-length 7 (map floats7 ss) (each7 wd fm m ss), flat-length 48 (map (floats48 m) ss) (each48 wd fm m ss), map-length, map-length, v .slots) refl in
-      let l : length vs ≡ length (m .coords) = squeezed-length (m .corners) (m .coords) (m .verts) ∙ sym (v .coords) in
+      let l : length vs ≡ length (m .coords) = squeezed-length (m .corners) (m .coords) (m .verts) ∙ sym (v .mesh .coords) in
       let s : map (floats48 (thinned m)) ss ≡ map (floats48 m) ss = map-same (floats48 (thinned m)) (floats48 m) (floats48-same m k (renumbered (m .corners)) (fewer m ss v) (thin-triangles m ss v)) ss in
       ap (λ (t : List Float). write t coordsFrom vs) (sym (append-assoc a b (m .coords ++ rest)))
       ∙ (write-mid p (m .coords) vs rest coordsFrom n l

@@ -21,9 +21,15 @@ use Rattle.layout.specs.Left.{leftOf}
 use Rattle.advance.proofs.Steps.{idle}
 use Rattle.machine.specs.Machine.{Mesh, Slot, empty, full, need, leftSlot, leftSum, adv, bump}
 use Rattle.machine.specs.Holding.{Width, triangles, finished, placeRow, floatsOf, wordsOf}
-use Rattle.machine.proofs.Valid.{Within, Valid, spread}
+use Rattle.machine.specs.Valid.{Within, Valid}
 use Rattle.machine.proofs.Held.{get7, status-held, finished-held, done-held, two-words}
 use Rattle.machine.proofs.Step.{run-steps}
+use Rattle.machine.proofs.Unused.{okay}
+
+-- n steps, the first places first
+abbrev pub spread : Mesh → ℕ → List Slot → List Slot
+spread m n [] = []
+spread m n (s ∷ ss) = adv (min n (leftSlot m s)) s ∷ spread m (n - leftSlot m s) ss
 
 module _ (wd : ℕ) (fm : Width wd) where
   module _ (m : Mesh) (ss : List Slot) (hs : length ss ≡ 32) (xs : List Float) (ys : List ℕ) (i : ℕ) (h : i < 32) where
@@ -230,5 +236,5 @@ module _ (m : Mesh) where
   pub within-spread : (n : ℕ) (ss : List Slot) → ((i : ℕ) → Within m (getD ss i empty)) → (i : ℕ) → Within m (getD (spread m n ss) i empty)
   within-spread n [] h i = h i
   within-spread n (empty ∷ ss) h zero = h zero
-  within-spread n (full k fit p ∷ ss) h zero = let z = h zero in record { steps = omega arith; few = z .few; fitted = z .fitted }
+  within-spread n (full k fit p ∷ ss) h zero = let z = h zero in okay m k fit (p + min n (need m fit - p)) (z .fitted) (omega arith)
   within-spread n (s ∷ ss) h (suc i) = within-spread (n - leftSlot m s) ss (λ j. h (suc j)) i

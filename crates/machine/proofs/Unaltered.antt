@@ -1,35 +1,37 @@
 -- 02, L12: with squeezes or without them, the other calls of a list answer and write the same. Assumes nothing.
 use mathlib.Core.Path.{_≡_, refl, sym, ap, subst, _∙_}
 use mathlib.Core.Bool.{Bool, true, false, cond}
-use mathlib.Core.List.{List, [], _∷_, _++_}
-use Prim.Native.Nat.{ℕ, zero, suc, _+_, _*_, _≤_, _<_}
+use mathlib.Core.List.{List, [], _∷_}
+use Prim.Native.Nat.{ℕ, zero, suc, _+_, _<_}
 use native.Mathlib.Omega.{arith}
 use lib.Dec.{ltb}
-use lib.ListN.{length, getD, length-map}
+use lib.ListN.{getD}
 use lib.Ieee.{Float, nan}
-use Rattle.base.specs.Floats.{+0, greater}
+use Rattle.base.specs.Floats.{+0}
 use Rattle.base.specs.Loops.{iterate}
 use Rattle.base.specs.Answers.{Outcome, outcome, refused}
 use Rattle.base.specs.declared.refusal.Refusal.the-variants.{NoPlace}
 use Rattle.mesh.specs.Triangles.{triangleAt}
 use Rattle.mesh.specs.CheckLaws.{below-each}
-use Rattle.volume.specs.Volume.{kernelVolume, bodyVolume, origin}
+use Rattle.volume.specs.Volume.{origin}
 use Rattle.field.specs.Field.{centreOf}
 use Rattle.kernel.specs.declared.kernel.Kernel.{Kernel}
 use Rattle.pieces.specs.declared.pieces.Pieces.{Pieces}
 use Rattle.pieces.specs.Pieces.{decomposed}
 use Rattle.layout.specs.Layout.{slotLimit}
-use Rattle.readings.specs.Readings.{Reading, Part, Seen, seeing, readingOf}
+use Rattle.readings.specs.Readings.{Reading, Part, seeing, answerOf}
 use Rattle.squeeze.specs.Squeeze.{rank, renumbered, keptTo}
 use Rattle.squeeze.specs.Marks.{Below}
-use Rattle.squeeze.specs.TriangleLaws.{same-triangle, rank-below, corner-at}
-use Rattle.machine.specs.Machine.{Mesh, Slot, empty, full, leftSum, bump, Machine, Turn, turn, freedBy, stepsOf, putTurn, clearTurn, reweighTurn, advanceTurn}
+use Rattle.squeeze.specs.TriangleLaws.{same-triangle}
+use Rattle.machine.specs.Machine.{Mesh, Slot, empty, full, bump, Machine, Turn, turn, freedBy, stepsOf, putTurn, clearTurn, reweighTurn}
 use Rattle.machine.specs.Holding.{Width, triangles}
-use Rattle.machine.specs.Fresh.{freshPart, freshAt, freshSlot, freshAll, freshFilled, worseOne, worstFrom, freshSeen}
-use Rattle.machine.specs.Calls.{Call, put, clear, reweigh, advance, squeeze, read, machine, Result, holding, shown, without, others, heard}
-use Rattle.machine.proofs.Valid.{Valid}
+use Rattle.machine.specs.Fresh.{worseOne, worstFrom, workedAfresh}
+use Rattle.machine.specs.Calls.{Call, put, clear, reweigh, advance, squeeze, read, machine, holding, without, others, heard}
+use Rattle.machine.specs.Valid.{Shape, Valid}
+use Rattle.machine.proofs.Parts.{freshPart, freshAt, freshSlot, freshAll, freshSeen}
+use Rattle.machine.proofs.Afresh.{joined}
 use Rattle.machine.proofs.Slim.{slim-is}
-use Rattle.machine.proofs.Squeezing.{remesh, left-same, left-sum-same, volume-same}
+use Rattle.machine.proofs.Squeezing.{remesh, squeezed-shape, left-same, left-sum-same, volume-same}
 use Rattle.machine.proofs.Claim.{one-call, kept}
 
 same-seen : {p p′ : List Part} {b b′ : Float} {n : ℕ} {e e′ : Float} → p ≡ p′ → b ≡ b′ → e ≡ e′ → seeing p b n e ≡ seeing p′ b′ n e′
@@ -72,9 +74,12 @@ module _ (m : Mesh) (xs : List Float) (ks : List ℕ) (w : ℕ) where
     all-same [] = refl
     all-same (s ∷ ss) = rw (slot-same s, all-same ss) refl
 
-    pub seen-same : (ss : List Slot) → freshSeen n ss ≡ freshSeen m ss
+    seen-same : (ss : List Slot) → freshSeen n ss ≡ freshSeen m ss
     unfolding freshSeen
     seen-same ss = same-seen (all-same ss) (volume-same m xs ks w same origin +0 (m .faces) (omega arith)) (worst-same +0 ss)
+
+    pub afresh-same : Shape n → Shape m → (ss : List Slot) (r : Reading) → workedAfresh n ss r ≡ workedAfresh m ss r
+    afresh-same g h ss r = sym (joined n g ss r) ∙ (ap (answerOf r) (seen-same ss) ∙ joined m h ss r)
 
 -- ---- a machine on another mesh
 abbrev remade : Machine → List Float → List ℕ → ℕ → ℕ → Machine
@@ -85,8 +90,8 @@ lifted t xs ks w g = record { next = remade (t .next) xs ks w g; reply = t .repl
 
 -- a mesh with the triangles of a machine's
 record Alike (m : Mesh) (xs : List Float) (ks : List ℕ) (w : ℕ) : Type 0 where
-  below : Below w ks
-  long : length ks ≡ 3 * m .faces
+  shape : Shape (remesh m xs ks w)
+  was : Shape m
   same : (f : ℕ) → f < m .faces → triangleAt xs ks f ≡ triangles m f
 
 -- one call that is no squeeze
@@ -149,21 +154,25 @@ module _ (m : Machine) (xs : List Float) (ks : List ℕ) (w g : ℕ) where
 
   read-goes : Alike (m .mesh) xs ks w → (r : Reading) → Goes m (read r) xs ks w g
   unfolding machine
-  read-goes a r = record { lift = rw (left-sum-same (m .mesh) xs ks w (m .slots), seen-same (m .mesh) xs ks w (a .same) (m .slots)) refl; mesh = refl }
+  read-goes a r = record { lift = rw (left-sum-same (m .mesh) xs ks w (m .slots), afresh-same (m .mesh) xs ks w (a .same) (a .shape) (a .was) (m .slots) r) refl; mesh = refl }
 
 -- ---- a list of calls
 abbrev heardBy : Machine → List Call → List Outcome
 heardBy m [] = []
 heardBy m (c ∷ cs) = others c (outcome (machine m c .reply) (machine m c .out)) (heardBy (machine m c .next) cs)
 
+corners-below : (m : Mesh) → Shape m → Below (m .verts) (m .corners)
+corners-below m g = record { corner = below-each (m .verts) (m .corners) (g .below) }
+
 -- one squeeze more
 squeezed-alike : (m : Mesh) (xs : List Float) (ks : List ℕ) (w : ℕ) → Alike m xs ks w → Alike m (keptTo ks xs w) (renumbered ks) (rank ks w)
 squeezed-alike m xs ks w a =
-    let n = length-map ks (rank ks) in
+    let g = a .shape in
+    let b : Below w ks = record { corner = below-each w ks (g .below) } in
     record {
-      below = record { corner = λ j h. rw (corner-at ks j) (rank-below ks xs w (a .below) j (omega arith)) };
-      long = n ∙ a .long;
-      same = λ f h. same-triangle ks xs w (a .below) f (omega (arith, a .long)) ∙ a .same f h;
+      shape = squeezed-shape m xs ks w g;
+      was = a .was;
+      same = λ f h. same-triangle ks xs w b f (omega (arith, g .corners)) ∙ a .same f h;
     }
 
 module _ (m : Machine) (c : Call) (cs : List Call) (xs : List Float) (ks : List ℕ) (w g : ℕ) where
@@ -183,8 +192,35 @@ same-heard (reweigh i x ∷ cs) m xs ks w g a = one-heard m (reweigh i x) cs xs 
 same-heard (advance k ∷ cs) m xs ks w g a = one-heard m (advance k) cs xs ks w g (advance-goes m xs ks w g k) a (same-heard cs (machine m (advance k) .next) xs ks w g)
 same-heard (squeeze ∷ cs) m xs ks w g a =
     let n = remesh (m .mesh) xs ks w in
-    rw (slim-is n (a .below)) (same-heard cs m (keptTo ks xs w) (renumbered ks) (rank ks w) (freedBy n + g) (squeezed-alike (m .mesh) xs ks w a))
+    rw (slim-is n (corners-below n (a .shape))) (same-heard cs m (keptTo ks xs w) (renumbered ks) (rank ks w) (freedBy n + g) (squeezed-alike (m .mesh) xs ks w a))
 same-heard (read r ∷ cs) m xs ks w g a = one-heard m (read r) cs xs ks w g (read-goes m xs ks w g a r) a (same-heard cs (machine m (read r) .next) xs ks w g)
+
+-- ---- a reading of the machine's mesh is one of the mesh opened
+pub record From (o m : Mesh) : Type 0 where
+  radius : m .radius ≡ o .radius
+  faces : m .faces ≡ o .faces
+  alike : Alike o (m .coords) (m .corners) (m .verts)
+
+pub from-start : (m : Mesh) → Shape m → From m m
+from-start m g = record { radius = refl; faces = refl; alike = record { shape = g; was = g; same = λ f h. refl } }
+
+pub from-next : (o : Mesh) (m : Machine) (c : Call) → From o (m .mesh) → From o (machine m c .next .mesh)
+unfolding machine
+from-next o m (put i k) f = subst (From o) (sym (put-goes m [] [] 0 0 i k .mesh)) f
+from-next o m (clear i) f = subst (From o) (sym (clear-goes m [] [] 0 0 i .mesh)) f
+from-next o m (reweigh i x) f = subst (From o) (sym (reweigh-goes m [] [] 0 0 i x .mesh)) f
+from-next o m (advance n) f = f
+from-next o m squeeze f =
+    rw (slim-is (m .mesh) (corners-below (remesh o (m .mesh .coords) (m .mesh .corners) (m .mesh .verts)) (f .alike .shape)))
+    (record { radius = f .radius; faces = f .faces; alike = squeezed-alike o (m .mesh .coords) (m .mesh .corners) (m .mesh .verts) (f .alike) })
+from-next o m (read r) f = f
+
+pub on-opened : (o m : Mesh) → From o m → (ss : List Slot) (r : Reading) → workedAfresh m ss r ≡ workedAfresh o ss r
+on-opened o m f ss r =
+    let e : m ≡ remesh o (m .coords) (m .corners) (m .verts)
+    = ap (λ (x : Float). record { radius = x; coords = m .coords; corners = m .corners; verts = m .verts; faces = m .faces }) (f .radius)
+    ∙ ap (λ (n : ℕ). record { radius = o .radius; coords = m .coords; corners = m .corners; verts = m .verts; faces = n }) (f .faces) in
+    ap (λ (x : Mesh). workedAfresh x ss r) e ∙ afresh-same o (m .coords) (m .corners) (m .verts) (f .alike .same) (f .alike .shape) (f .alike .was) ss r
 
 module _ (wd : ℕ) (fm : Width wd) (exF : List Float) (exW : List ℕ) where
   store-heard : (cs : List Call) (m : Machine) → Valid (m .mesh) (m .slots) → heard wd (holding m exF exW) cs ≡ heardBy m cs
@@ -195,5 +231,5 @@ module _ (wd : ℕ) (fm : Width wd) (exF : List Float) (exW : List ℕ) where
   pub unaltered : (m : Machine) → Valid (m .mesh) (m .slots) → (cs : List Call) → heard wd (holding m exF exW) cs ≡ heard wd (holding m exF exW) (without cs)
   unaltered m v cs =
       let a : Alike (m .mesh) (m .mesh .coords) (m .mesh .corners) (m .mesh .verts)
-      = record { below = record { corner = below-each (m .mesh .verts) (m .mesh .corners) (v .below) }; long = v .corners; same = λ f h. refl } in
+      = record { shape = v .mesh; was = v .mesh; same = λ f h. refl } in
       store-heard cs m v ∙ (same-heard cs m (m .mesh .coords) (m .mesh .corners) (m .mesh .verts) (m .freed) a ∙ sym (store-heard (without cs) m v))

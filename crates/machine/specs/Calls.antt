@@ -1,5 +1,5 @@
 -- Demand 3: the calls of a list, what the machine does at each, the store's calls by their contracts, and the sums over a list. Definitions only.
-use mathlib.Core.Bool.{cond}
+use mathlib.Core.Bool.{_&&_, cond}
 use mathlib.Core.List.{List, [], _∷_, _++_}
 use Prim.Native.Nat.{ℕ, _+_}
 use lib.Dec.{ltb}
@@ -7,18 +7,18 @@ use lib.ListN.{getD, replicate}
 use lib.Ieee.{Float}
 use Rattle.base.specs.Floats.{+0}
 use Rattle.base.specs.Answers.{Answer, refused, Outcome, outcome}
-use Rattle.base.specs.declared.refusal.Refusal.the-variants.{NoPlace}
+use Rattle.base.specs.declared.refusal.Refusal.the-variants.{NoPlace, Unfinished}
 use Rattle.kernel.specs.declared.kernel.Kernel.{Kernel}
 use Rattle.pieces.specs.Pieces.{decomposed}
 use Rattle.layout.specs.Layout.{slotLimit}
 use Rattle.store.specs.Calls.{After, clearStep, reweighStep}
 use Rattle.advance.specs.Steps.{advanceStep}
 use Rattle.put.specs.Puts.{putStep}
-use Rattle.readings.specs.Readings.{Reading, readingOf, readStep}
+use Rattle.readings.specs.Readings.{Reading, needsWork, refusing, readStep}
 use Rattle.squeeze.specs.Squeeze.{squeezeStep}
 use Rattle.machine.specs.Machine.{empty, leftSum, Machine, Turn, turn, putTurn, clearTurn, reweighTurn, advanceTurn, squeezeTurn}
 use Rattle.machine.specs.Holding.{floatsOf, wordsOf}
-use Rattle.machine.specs.Fresh.{freshSeen}
+use Rattle.machine.specs.Fresh.{workedAfresh}
 
 -- the calls of demand 3's list
 pub data Call : Type 0 where
@@ -39,7 +39,8 @@ machine m (clear i) = cond (ltb i slotLimit) (clearTurn m i (getD (m .slots) i e
 machine m (reweigh i v) = cond (ltb i slotLimit) (reweighTurn m i v (getD (m .slots) i empty)) (turn m (refused NoPlace))
 machine m (advance n) = advanceTurn m n
 machine m squeeze = squeezeTurn m
-machine m (read r) = given m (readingOf r (leftSum (m .mesh) (m .slots)) (freshSeen (m .mesh) (m .slots)))
+machine m (read r) =
+    given m (cond (needsWork r && ltb 0 (leftSum (m .mesh) (m .slots))) (refusing r Unfinished) (workedAfresh (m .mesh) (m .slots) r))
 
 -- ---- the store
 
@@ -71,17 +72,9 @@ store q s squeeze = result (squeezeStep q (s .floats) (s .words))
 store q s (read r) = seen s (readStep q (s .floats) (s .words) r)
 
 -- ---- a list of calls: each gets what the call before it left
-abbrev pub results : ℕ → Store → List Call → List Result
-results q s [] = []
-results q s (c ∷ cs) = store q s c ∷ results q (store q s c .left) cs
-
 abbrev pub leaves : ℕ → Store → List Call → Store
 leaves q s [] = s
 leaves q s (c ∷ cs) = leaves q (store q s c .left) cs
-
-abbrev pub turns : Machine → List Call → List Turn
-turns m [] = []
-turns m (c ∷ cs) = machine m c ∷ turns (machine m c .next) cs
 
 abbrev pub after-all : Machine → List Call → Machine
 after-all m [] = m

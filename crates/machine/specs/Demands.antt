@@ -2,19 +2,23 @@
 use mathlib.Core.Path.{_≡_}
 use mathlib.Core.Bool.{true}
 use mathlib.Core.List.{List, [], _∷_}
-use Prim.Native.Nat.{ℕ, _+_, _/_, _≤_, _<_}
+use Prim.Native.Nat.{ℕ, _+_, _*_, _/_, _≤_, _<_}
 use lib.ListN.{length}
 use lib.Ieee.{Float}
-use Rattle.base.specs.Answers.{refused, counted}
+use Rattle.base.specs.Answers.{refused, counted, outcome}
 use Rattle.base.specs.Refusals.{number}
 use Rattle.base.specs.declared.refusal.Refusal.{Refusal}
 use Rattle.base.specs.declared.refusal.Refusal.the-variants.{Unfinished}
 use Rattle.base.specs.declared.refusal.Checked.the-variants.{Passed, Failed}
+use Rattle.base.specs.Floats.{+0}
+use Rattle.runs.specs.Runs.{write}
+use Rattle.pieces.specs.Lists.{fittedAll, listDecomposition}
 use Rattle.store.specs.Calls.{After, after, openCheck, openStep}
-use Rattle.readings.specs.Readings.{Reading, needsWork, answerOf}
-use Rattle.machine.specs.Machine.{leftSum, Machine, opened}
+use Rattle.readings.specs.Readings.{Reading, needsWork, sixes}
+use Rattle.machine.specs.Machine.{Mesh, Slot, leftSum, Machine, opened}
 use Rattle.machine.specs.Holding.{excessF, excessW}
-use Rattle.machine.specs.Fresh.{freshSeen}
+use Rattle.machine.specs.Valid.{Valid}
+use Rattle.machine.specs.Fresh.{kernelsOf, allPieces, freshFilled, worstFrom, workedAfresh}
 use Rattle.machine.specs.Calls.{Call, advance, read, machine, Store, store, leaves, after-all, holding, leftIn, chargedIn, doneIn, without, heard}
 
 abbrev pub leaving : After → Store
@@ -31,25 +35,39 @@ pub record Same (q : ℕ) (exF : List Float) (exW : List ℕ) (m : Machine) (s :
   -- 01's fields for mesh, radius, places and steps, volumes so far included, the freed words zero, and the excess as the opening found it
   pub fields : store q s c .left ≡ holding (machine m c .next) exF exW
 
--- a reading: unfinished exactly where the machine has work left that it needs; any other as worked afresh
-pub record Read (q : ℕ) (m : Machine) (s : Store) (r : Reading) : Type 0 where
+-- a reading: unfinished exactly where the machine has work left that it needs; any other as demand 2's functions give it, worked afresh on the mesh opened and
+-- the kernels then in the machine's places
+pub record Read (q : ℕ) (mesh : Mesh) (m : Machine) (s : Store) (r : Reading) : Type 0 where
   pub unfinished : needsWork r ≡ true → 0 < leftSum (m .mesh) (m .slots) → store q s (read r) .reply ≡ refused Unfinished
   pub only-then : store q s (read r) .reply ≡ refused Unfinished → (needsWork r ≡ true) × (0 < leftSum (m .mesh) (m .slots))
   pub afresh : (store q s (read r) .reply ≡ refused Unfinished → ⊥)
-      → (store q s (read r) .reply ≡ answerOf r (freshSeen (m .mesh) (m .slots)) .reply) × (store q s (read r) .out ≡ answerOf r (freshSeen (m .mesh) (m .slots)) .out)
+      → (store q s (read r) .reply ≡ workedAfresh mesh (m .slots) r .reply) × (store q s (read r) .out ≡ workedAfresh mesh (m .slots) r .out)
   -- no reading changes the store
   pub kept : store q s (read r) .left ≡ s
 
 -- every call of a list: the first gets the opening's runs, each later one those that the call before it left, whole
-pub data Each (q : ℕ) (exF : List Float) (exW : List ℕ) : Machine → Store → List Call → Type 0 where
-  end : {m : Machine} {s : Store} → Each q exF exW m s []
-  next : {m : Machine} {s : Store} {c : Call} {cs : List Call} → Same q exF exW m s c → ((r : Reading) → Read q m s r)
-      → Each q exF exW (machine m c .next) (store q s c .left) cs → Each q exF exW m s (c ∷ cs)
+pub data Each (q : ℕ) (exF : List Float) (exW : List ℕ) (mesh : Mesh) : Machine → Store → List Call → Type 0 where
+  end : {m : Machine} {s : Store} → Each q exF exW mesh m s []
+  next : {m : Machine} {s : Store} {c : Call} {cs : List Call} → Same q exF exW m s c → ((r : Reading) → Read q mesh m s r)
+      → Each q exF exW mesh (machine m c .next) (store q s c .left) cs → Each q exF exW mesh m s (c ∷ cs)
 
+-- the filled places' kernels as a list of six floats each, decomposed by the call on such a list: filled count, pieces and greatest error are what it answers, and
+-- the pieces what it writes
+pub record Decomposed (mesh : Mesh) (ss : List Slot) : Type 0 where
+  pub listed : (run : List Float) → 6 * length (allPieces (mesh .radius) ss) ≤ length run
+      → listDecomposition (sixes (kernelsOf ss)) (mesh .radius) run
+      ≡ outcome (fittedAll (freshFilled ss) (length (allPieces (mesh .radius) ss)) (worstFrom mesh +0 ss)) (write run 0 (sixes (allPieces (mesh .radius) ss)))
+
+-- from a machine that was just opened
 pub record Follows (q : ℕ) (exF : List Float) (exW : List ℕ) (m : Machine) (s : Store) (cs : List Call) : Type 0 where
-  pub calls : Each q exF exW m s cs
+  pub calls : Each q exF exW (m .mesh) m s cs
+  -- the machine that the list leads to, and so every one on the way: its pieces, steps and unused fields
+  pub valid : Valid (after-all m cs .mesh) (after-all m cs .slots)
+  pub pieces : Decomposed (m .mesh) (after-all m cs .slots)
   -- done + left + dropped = charged, left being what an advance of 0 then answers
   pub sums : doneIn q s cs + leftIn (store q (leaves q s cs) (advance 0) .reply) + after-all m cs .dropped ≡ chargedIn q s cs
+  -- and the machine's charged is that sum
+  pub charged : after-all m cs .charged ≡ chargedIn q s cs
 
 pub record Demand3 (q : ℕ) (r : Float) (xs : List Float) (ks : List ℕ) (fs : List Float) (ws : List ℕ) : Type 0 where
   -- an opening is refused exactly when one of 1 to 4 applies, and then nothing is changed

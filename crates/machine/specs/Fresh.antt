@@ -1,46 +1,48 @@
 -- 01, "The store": "Afresh: the machine's filled places in order, on the opening's mesh and radius, each decomposed, `kernel_volume` of every piece over
--- all F faces, then the reading's functions by its convention; nothing comes from the runs". Definitions only.
-use mathlib.Core.List.{List, [], _∷_, _++_}
-use Prim.Native.Nat.{ℕ, zero, suc, _+_}
-use lib.ListN.{getD}
+-- all F faces, then the reading's functions by its convention; nothing comes from the runs". Said with demand 2's functions alone: `decomposed`,
+-- `fieldMassCall`, `densitized`, `bodyVolumeCall` are what the contracts of the calls of these names cite. Definitions only.
+use mathlib.Core.List.{List, [], _∷_, _++_, map}
+use Prim.Native.Nat.{ℕ, zero, suc, _+_, _*_}
+use lib.ListN.{length, getD}
 use lib.Ieee.{Float, nan}
-use Rattle.base.specs.Floats.{_⊗_, +0, greater}
-use Rattle.volume.specs.Volume.{kernelVolume}
-use Rattle.volume.specs.Volume.{bodyVolume}
-use Rattle.field.specs.Field.{centreOf}
+use Rattle.base.specs.Floats.{+0, greater}
+use Rattle.base.specs.Answers.{Answer, counted, Outcome, outcome, guardedRun, roomCheck}
+use Rattle.runs.specs.Runs.{write}
 use Rattle.kernel.specs.declared.kernel.Kernel.{Kernel}
 use Rattle.pieces.specs.declared.pieces.Pieces.{Pieces}
-use Rattle.pieces.specs.Pieces.{decomposed, pieceAlpha}
-use Rattle.readings.specs.Readings.{Part, Seen, seeing}
+use Rattle.pieces.specs.Pieces.{decomposed}
+use Rattle.pieces.specs.Kernels.{pieceAt}
+use Rattle.mass.specs.Calls.{bodyVolumeCall, fieldMassCall}
+use Rattle.density.specs.declared.convention.Convention.{Convention}
+use Rattle.density.specs.Densitize.{densitized}
+use Rattle.density.specs.Conventions.{bulkOf, rho0Scale, appliedScale}
+use Rattle.density.specs.Reports.{reportOf}
+use Rattle.readings.specs.Readings.{Reading, density, report, list, origin, rescaled, sixes, reported}
 use Rattle.machine.specs.Machine.{Mesh, Slot, empty, full}
-use Rattle.machine.specs.Holding.{triangles}
 
--- piece j of a fit
-abbrev pub freshPart : Mesh → Kernel → Pieces → ℕ → Part
-freshPart m k fit j =
-    record {
-      kernel = record {
-        c = getD (k .c) 0 nan ∷ getD (k .c) 1 nan ∷ getD (k .c) 2 nan ∷ [];
-        sigma = getD (fit .sigma) j nan;
-        w = k .w ⊗ getD (fit .coefficient) j nan;
-        alpha = pieceAlpha (k .alpha);
-      };
-      volume = kernelVolume (triangles m) (m .faces) (centreOf k) (getD (fit .sigma) j nan);
-    }
+-- ---- "filled places in order, .. each decomposed"
 
--- its first n pieces
-abbrev pub freshAt : Mesh → Kernel → Pieces → ℕ → List Part
-freshAt m k fit zero = []
-freshAt m k fit (suc n) = freshAt m k fit n ++ (freshPart m k fit n ∷ [])
+-- a fit's first n pieces, each a kernel of its own
+abbrev pub piecesTo : Kernel → Pieces → ℕ → List Kernel
+piecesTo k fit zero = []
+piecesTo k fit (suc n) = piecesTo k fit n ++ (pieceAt k fit n ∷ [])
 
--- a place, "decomposed"
-abbrev pub freshSlot : Mesh → Slot → List Part
-freshSlot m empty = []
-freshSlot m (full k fit p) = freshAt m k (decomposed k (m .radius)) (decomposed k (m .radius) .count)
+abbrev pub piecesOf : Float → Slot → List Kernel
+piecesOf radius empty = []
+piecesOf radius (full k fit p) = piecesTo k (decomposed k radius) (decomposed k radius .count)
 
-abbrev pub freshAll : Mesh → List Slot → List Part
-freshAll m [] = []
-freshAll m (s ∷ ss) = freshSlot m s ++ freshAll m ss
+abbrev pub allPieces : Float → List Slot → List Kernel
+allPieces radius [] = []
+allPieces radius (s ∷ ss) = piecesOf radius s ++ allPieces radius ss
+
+-- the kernels as they stand in the places
+abbrev pub kernelOf : Slot → List Kernel
+kernelOf empty = []
+kernelOf (full k fit p) = k ∷ []
+
+abbrev pub kernelsOf : List Slot → List Kernel
+kernelsOf [] = []
+kernelsOf (s ∷ ss) = kernelOf s ++ kernelsOf ss
 
 -- how many are filled, and the greatest error
 abbrev pub filledOne : Slot → ℕ
@@ -59,5 +61,32 @@ abbrev pub worstFrom : Mesh → Float → List Slot → Float
 worstFrom m e [] = e
 worstFrom m e (s ∷ ss) = worstFrom m (worseOne m e s) ss
 
-unfoldable pub freshSeen : Mesh → List Slot → Seen
-freshSeen m ss = seeing (freshAll m ss) (bodyVolume (triangles m) (m .faces)) (freshFilled ss) (worstFrom m +0 ss)
+-- ---- "then the reading's functions by its convention", on a mesh m and pieces ks
+
+-- the float that a call answers
+abbrev pub valueOf : Answer → Float
+valueOf a = getD (a .floats) 0 nan
+
+-- `kernel_field_mass`, `densitize` at the origin, `body_volume`
+abbrev pub massOf : Mesh → List Kernel → Float
+massOf m ks = valueOf (fieldMassCall (m .coords) (m .corners) (sixes ks))
+
+abbrev pub originOf : List Kernel → Float
+originOf ks = valueOf (densitized (sixes ks) origin)
+
+abbrev pub bodyOf : Mesh → Float
+bodyOf m = valueOf (bodyVolumeCall (m .coords) (m .corners))
+
+-- the pieces rescaled, six floats each
+abbrev pub scaledList : Convention → Mesh → List Kernel → List Float
+scaledList v m ks = sixes (map (rescaled (appliedScale v (massOf m ks) (rho0Scale (bulkOf v) (originOf ks)))) ks)
+
+-- "Density is `densitize` on rescaled pieces"; the report; "List writes c, sigma, rescaled w, alpha per piece and answers the piece count", row 9
+abbrev pub readingOn : Mesh → List Kernel → ℕ → Float → Reading → Outcome
+readingOn m ks filled worst (density v x) = outcome (densitized (scaledList v m ks) x) []
+readingOn m ks filled worst (report v) = outcome (reported (reportOf v (massOf m ks) (originOf ks) (bodyOf m)) filled (length ks) worst) []
+readingOn m ks filled worst (list v out) =
+    guardedRun (roomCheck (6 * length ks) (length out)) out (outcome (counted (length ks ∷ [])) (write out 0 (scaledList v m ks)))
+
+unfoldable pub workedAfresh : Mesh → List Slot → Reading → Outcome
+workedAfresh m ss r = readingOn m (allPieces (m .radius) ss) (freshFilled ss) (worstFrom m +0 ss) r

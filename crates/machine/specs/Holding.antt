@@ -26,7 +26,7 @@ abbrev pub triangles : Mesh → ℕ → Triangle
 triangles m = triangleAt (m .coords) (m .corners)
 
 -- "its 16 pieces (sigma, coefficient, volume so far, which is `kernel_volume`'s running sum over that piece's faces done)": n pieces from j on. t steps
--- were made on them: min(F, t) on piece j, the others on those after it. Past the last piece none was made, and all is +0 (Unused.antt)
+-- were made on them: min(F, t) on piece j, the others on those after it. Past the last piece none was made, and all is +0 (`unused` of Valid.antt)
 abbrev pub cells : Mesh → Kernel → Pieces → ℕ → ℕ → ℕ → List Float
 cells m k fit zero j t = []
 cells m k fit (suc n) j t =

@@ -1,6 +1,7 @@
 pub mod Readings
 pub mod Folds
 pub mod FoldLaws
+pub mod SixLaws
 pub mod Counts
 pub mod Lists
 pub mod Checks

@@ -1,5 +1,5 @@
--- 01, "The store": "Unused fields are zero". Past a kernel's last piece the runs that hold a machine are +0, whatever was done. Assumes nothing.
-use mathlib.Core.Path.{_≡_, refl, ap, _∙_}
+-- Past a kernel's last piece the fields that hold a place are +0, whatever was done. Assumes nothing.
+use mathlib.Core.Path.{_≡_, refl, sym, ap, subst, _∙_}
 use mathlib.Core.List.{List, _++_}
 use Prim.Native.Nat.{ℕ, zero, suc, _+_, _*_, _-_, _≤_, min}
 use native.Mathlib.Nat.{suc-mul, zero-mul, suc-add, zero-add, add-zero, sub-zero}
@@ -16,6 +16,7 @@ use Rattle.pieces.specs.Pieces.{decomposed}
 use Rattle.pieces.specs.PieceLaws.{Clean, clean, at-most-16}
 use Rattle.machine.specs.Machine.{Mesh, need}
 use Rattle.machine.specs.Holding.{triangles, cells}
+use Rattle.machine.specs.Valid.{Okay}
 
 module _ (m : Mesh) (k : Kernel) (fit : Pieces) where
   -- no step, no volume
@@ -40,15 +41,19 @@ module _ (m : Mesh) (k : Kernel) (fit : Pieces) where
       let r = cells-split a b (suc j) (t - m .faces) in
       rw (suc-add a b, r, e, f) refl
 
--- the 16 pieces of a place: those of its kernel, and then +0
-pub unused-zero : (m : Mesh) (k : Kernel) (p : ℕ) → let fit = decomposed k (m .radius) in p ≤ need m fit
-    → cells m k fit 16 0 p ≡ cells m k fit (fit .count) 0 p ++ replicate ((16 - fit .count) * 3) +0
-unused-zero m k p h =
-    let fit = decomposed k (m .radius) in
+-- a filled place whose pieces are its kernel's and whose steps are within its need
+pub okay : (m : Mesh) (k : Kernel) (fit : Pieces) (p : ℕ) → fit ≡ decomposed k (m .radius) → p ≤ need m fit → Okay m k fit p
+okay m k fit p f h =
     let n = fit .count in
-    let few : n ≤ 16 = at-most-16 k (m .radius) in
+    let few : n ≤ 16 = subst (λ (x : Pieces). x .count ≤ 16) (sym f) (at-most-16 k (m .radius)) in
     let e : 16 ≡ n + (16 - n) = omega arith in
     let z : p - n * m .faces ≡ 0 = omega (arith, h) in
-    ap (λ (c : ℕ). cells m k fit c 0 p) e
-    ∙ cells-split m k fit n (16 - n) 0 p
-    ∙ ap (λ (l : List Float). cells m k fit n 0 p ++ l) (cells-zero m k fit (clean k (m .radius)) (16 - n) (0 + n) (p - n * m .faces) (omega arith) (omega arith) z)
+    let q : (16 - n) * 3 ≡ 48 - 3 * n = omega arith in
+    record {
+      fitted = f;
+      few = few;
+      steps = h;
+      unused = ap (λ (c : ℕ). cells m k fit c 0 p) e
+          ∙ cells-split m k fit n (16 - n) 0 p
+          ∙ ap (λ (l : List Float). cells m k fit n 0 p ++ l) (cells-zero m k fit (subst Clean (sym f) (clean k (m .radius))) (16 - n) (0 + n) (p - n * m .faces) (omega arith) (omega arith) z ∙ ap (λ (c : ℕ). replicate c +0) q);
+    }

@@ -1,0 +1,97 @@
+-- What a reading makes of the machine's pieces is what demand 2's functions answer on the list of them, six floats each. Assumes nothing.
+use mathlib.Core.Path.{_≡_, refl, sym, ap, _∙_}
+use mathlib.Core.List.{List, [], _∷_, map}
+use Prim.Native.Nat.{ℕ, zero, suc, _/_, _%_}
+use native.Mathlib.Omega.{arith}
+use lib.ListN.{length, length-map}
+use lib.Ieee.{Float}
+use borrow.Author.Tests.{le-ltb}
+use Rattle.base.specs.Floats.{+0}
+use Rattle.base.specs.Answers.{Answer, accepted, outcome}
+use Rattle.base.specs.declared.refusal.Checked.the-variants.{Passed}
+use Rattle.mesh.specs.Checks.{vertexLimit, faceLimit, meshCheck}
+use Rattle.field.specs.Field.{centreOf, fieldCheck}
+use Rattle.volume.specs.Volume.{bodyVolume}
+use Rattle.kernel.specs.declared.kernel.Kernel.{Kernel}
+use Rattle.pieces.specs.declared.pieces.Pieces.{Pieces}
+use Rattle.pieces.specs.Pieces.{decomposed}
+use Rattle.pieces.specs.Kernels.{pieceAt}
+use Rattle.mass.specs.Total.{fieldMass}
+use Rattle.mass.specs.Calls.{bodyVolumeCall, fieldMassCall}
+use Rattle.density.specs.declared.convention.Convention.{Convention}
+use Rattle.density.specs.Conventions.{bulkOf, rho0Scale, appliedScale}
+use Rattle.readings.specs.Readings.{Reading, density, report, list, Part, bare, densityAt, rawMass, origin, applied, rescaled, sixes, seeing, answerOf}
+use Rattle.readings.specs.SixLaws.{whole, list-sound, sixes-whole, whole-rescaled, densitized-on, sized, mass-on}
+use Rattle.machine.specs.Machine.{Mesh, Slot, empty, full}
+use Rattle.machine.specs.Holding.{triangles}
+use Rattle.machine.specs.Fresh.{piecesTo, piecesOf, allPieces, freshFilled, worstFrom, valueOf, massOf, originOf, readingOn, workedAfresh}
+use Rattle.machine.proofs.Parts.{freshAt, freshSlot, freshAll, freshSeen}
+use Rattle.machine.specs.Valid.{Shape}
+use Rattle.machine.proofs.Read.{map-append}
+
+abbrev partOf : Mesh → Kernel → Part
+partOf m k = sized (triangles m) (m .faces) k
+
+-- ---- the parts are the pieces with their volumes
+module _ (m : Mesh) where
+  parts-to : (k : Kernel) (fit : Pieces) (n : ℕ) → freshAt m k fit n ≡ map (partOf m) (piecesTo k fit n)
+  unfolding pieceAt centreOf
+  parts-to k fit zero = refl
+  parts-to k fit (suc n) = rw (parts-to k fit n, map-append (partOf m) (piecesTo k fit n) (pieceAt k fit n ∷ [])) refl
+
+  parts-of : (s : Slot) → freshSlot m s ≡ map (partOf m) (piecesOf (m .radius) s)
+  parts-of empty = refl
+  parts-of (full k fit p) = parts-to k (decomposed k (m .radius)) (decomposed k (m .radius) .count)
+
+  parts-all : (ss : List Slot) → freshAll m ss ≡ map (partOf m) (allPieces (m .radius) ss)
+  parts-all [] = refl
+  parts-all (s ∷ ss) = rw (parts-of s, parts-all ss, map-append (partOf m) (piecesOf (m .radius) s) (allPieces (m .radius) ss)) refl
+
+  bare-parts : (ks : List Kernel) → map bare (map (partOf m) ks) ≡ map whole ks
+  bare-parts [] = refl
+  bare-parts (k ∷ ks) = rw (bare-parts ks) refl
+
+-- ---- on a mesh that its check passes
+module _ (m : Mesh) (g : Shape m) where
+  face-count : length (m .corners) / 3 ≡ m .faces
+  face-count = omega arith
+
+  mesh-sound : meshCheck (length (m .coords)) (m .corners) ≡ Passed
+  unfolding meshCheck
+  mesh-sound =
+      let a : length (m .coords) % 3 ≡ 0 = omega arith in
+      let b : length (m .corners) % 3 ≡ 0 = omega arith in
+      let c : length (m .coords) / 3 ≡ m .verts = omega arith in
+      rw (a, b, c, face-count, le-ltb vertexLimit (m .verts) (g .verts), le-ltb faceLimit (m .faces) (g .faces), g .below) refl
+
+  mass-call : (ks : List Kernel) → fieldMassCall (m .coords) (m .corners) (sixes ks) ≡ accepted (fieldMass (triangles m) (m .faces) (sixes ks) ∷ [])
+  unfolding fieldMassCall fieldCheck
+  mass-call ks = rw (mesh-sound, list-sound ks, face-count) refl
+
+  body-call : bodyVolumeCall (m .coords) (m .corners) ≡ accepted (bodyVolume (triangles m) (m .faces) ∷ [])
+  unfolding bodyVolumeCall
+  body-call = rw (mesh-sound, face-count) refl
+
+  module _ (ks : List Kernel) where
+    raw-on : rawMass (map (partOf m) ks) ≡ massOf m ks
+    raw-on = mass-on (triangles m) (m .faces) ks ∙ ap valueOf (sym (mass-call ks))
+
+    origin-on : densityAt (map bare (map (partOf m) ks)) origin ≡ originOf ks
+    origin-on = ap (λ (l : List Kernel). densityAt l origin) (bare-parts m ks) ∙ ap valueOf (sym (densitized-on ks origin))
+
+    scale-on : (v : Convention) → applied v (map (partOf m) ks) ≡ appliedScale v (massOf m ks) (rho0Scale (bulkOf v) (originOf ks))
+    scale-on v = rw (raw-on, origin-on) refl
+
+    answer-on : (filled : ℕ) (worst : Float) (r : Reading) → answerOf r (seeing (map (partOf m) ks) (bodyVolume (triangles m) (m .faces)) filled worst) ≡ readingOn m ks filled worst r
+    answer-on filled worst (density v x) =
+        let s = appliedScale v (massOf m ks) (rho0Scale (bulkOf v) (originOf ks)) in
+        rw (scale-on v, bare-parts m ks, whole-rescaled s ks) (ap (λ (a : Answer). outcome a []) (sym (densitized-on (map (rescaled s) ks) x)))
+    answer-on filled worst (report v) =
+        rw (raw-on, origin-on, length-map ks (partOf m), body-call) refl
+    answer-on filled worst (list v out) =
+        let s = appliedScale v (massOf m ks) (rho0Scale (bulkOf v) (originOf ks)) in
+        rw (scale-on v, bare-parts m ks, length-map ks whole, whole-rescaled s ks, sixes-whole (map (rescaled s) ks)) refl
+
+  pub joined : (ss : List Slot) (r : Reading) → answerOf r (freshSeen m ss) ≡ workedAfresh m ss r
+  unfolding freshSeen workedAfresh
+  joined ss r = rw (parts-all m ss) (answer-on (allPieces (m .radius) ss) (freshFilled ss) (worstFrom m +0 ss) r)

@@ -1,0 +1,173 @@
+-- The pieces worked afresh are those that the call on a list of kernels writes of the filled places' kernels. Assumes nothing.
+use mathlib.Core.Path.{_≡_, refl, sym, ap, _∙_}
+use mathlib.Core.List.{List, [], _∷_, _++_, append-assoc, append-nil}
+use Prim.Native.Nat.{ℕ, zero, suc, _+_, _*_, _≤_, _<_}
+use native.Mathlib.Nat.{zero-add}
+use native.Mathlib.Omega.{arith}
+use lib.ListN.{length, getD, take, length-append}
+use lib.Seq.{take-suc, take-all}
+use lib.Ieee.{Float, nan}
+use borrow.Author.Tests.{le-leb}
+use Rattle.base.specs.Floats.{+0, greater}
+use Rattle.base.specs.Loops.{times}
+use Rattle.base.specs.LoopLaws.{times-suc}
+use Rattle.base.specs.Answers.{outcome}
+use Rattle.runs.specs.Runs.{write}
+use Rattle.runs.specs.RunLaws.{length-write, write-more, write-none}
+use Rattle.kernel.specs.declared.kernel.Kernel.{Kernel}
+use Rattle.kernel.specs.Kernels.{kernelAt, kernelSet}
+use Rattle.pieces.specs.declared.pieces.Pieces.{Pieces}
+use Rattle.pieces.specs.Pieces.{decomposed}
+use Rattle.pieces.specs.PieceLaws.{same-pieces}
+use Rattle.pieces.specs.Kernels.{pieceAt, layAt, laid}
+use Rattle.pieces.specs.Lists.{pieceCount, greatestError, spread, fittedAll, listDecomposition}
+use Rattle.readings.specs.Readings.{noKernel, six, sixes}
+use Rattle.readings.specs.Lists.{set6-write}
+use Rattle.readings.specs.SixLaws.{whole, sixes-length, next-kernel, list-sound, count-of}
+use Rattle.machine.specs.Machine.{Mesh, Slot, empty, full}
+use Rattle.machine.specs.Fresh.{piecesTo, allPieces, kernelsOf, freshFilled, worstFrom}
+
+-- ---- by kernels, with no places
+abbrev fits : Float → Kernel → List Kernel
+fits r k = piecesTo k (decomposed k r) (decomposed k r .count)
+
+abbrev every : Float → List Kernel → List Kernel
+every r [] = []
+every r (k ∷ ks) = fits r k ++ every r ks
+
+abbrev worst : Float → Float → List Kernel → Float
+worst r e [] = e
+worst r e (k ∷ ks) = worst r (greater e (decomposed k r .error)) ks
+
+every-of : (r : Float) (ss : List Slot) → allPieces r ss ≡ every r (kernelsOf ss)
+every-of r [] = refl
+every-of r (empty ∷ ss) = every-of r ss
+every-of r (full k fit p ∷ ss) = rw (every-of r ss) refl
+
+filled-of : (ss : List Slot) → freshFilled ss ≡ length (kernelsOf ss)
+filled-of [] = refl
+filled-of (empty ∷ ss) = omega (arith, filled-of ss)
+filled-of (full k fit p ∷ ss) = omega (arith, filled-of ss)
+
+worst-of : (m : Mesh) (e : Float) (ss : List Slot) → worstFrom m e ss ≡ worst (m .radius) e (kernelsOf ss)
+worst-of m e [] = refl
+worst-of m e (empty ∷ ss) = worst-of m e ss
+worst-of m e (full k fit p ∷ ss) = worst-of m (greater e (decomposed k (m .radius) .error)) ss
+
+-- one kernel more, behind
+every-snoc : (r : Float) (ks : List Kernel) (k : Kernel) → every r (ks ++ (k ∷ [])) ≡ every r ks ++ fits r k
+every-snoc r [] k = append-nil (fits r k)
+every-snoc r (x ∷ ks) k = ap (λ (l : List Kernel). fits r x ++ l) (every-snoc r ks k) ∙ sym (append-assoc (fits r x) (every r ks) (fits r k))
+
+worst-snoc : (r e : Float) (ks : List Kernel) (k : Kernel) → worst r e (ks ++ (k ∷ [])) ≡ greater (worst r e ks) (decomposed k r .error)
+worst-snoc r e [] k = refl
+worst-snoc r e (x ∷ ks) k = worst-snoc r (greater e (decomposed x r .error)) ks k
+
+sixes-append : (a b : List Kernel) → sixes (a ++ b) ≡ sixes a ++ sixes b
+sixes-append [] b = refl
+sixes-append (k ∷ a) b = ap (λ (l : List Float). six k ++ l) (sixes-append a b) ∙ sym (append-assoc (six k) (sixes a) (sixes b))
+
+pieces-length : (k : Kernel) (fit : Pieces) (n : ℕ) → length (piecesTo k fit n) ≡ n
+pieces-length k fit zero = refl
+pieces-length k fit (suc n) = length-append (piecesTo k fit n) (pieceAt k fit n ∷ []) ∙ omega (arith, pieces-length k fit n)
+
+-- ---- a kernel written is six floats written
+set-write : (xs : List Float) (i : ℕ) (k : Kernel) → 6 * i + 6 ≤ length xs → kernelSet xs i k ≡ write xs (6 * i) (six k)
+unfolding kernelSet
+set-write xs i k h = set6-write xs (6 * i) (getD (k .c) 0 nan) (getD (k .c) 1 nan) (getD (k .c) 2 nan) (k .sigma) (k .w) (k .alpha) h
+
+module _ (n : ℕ) (k : Kernel) (fit : Pieces) (xs : List Float) where
+  lay-to : (j : ℕ) → 6 * (n + j) ≤ length xs → times (layAt n k fit) j 0 xs ≡ write xs (6 * n) (sixes (piecesTo k fit j))
+  unfolding times
+  lay-to zero h = sym (write-none xs (6 * n))
+  lay-to (suc j) h =
+      let s = sixes (piecesTo k fit j) in
+      let l : length s ≡ 6 * j = sixes-length (piecesTo k fit j) ∙ ap (λ (t : ℕ). 6 * t) (pieces-length k fit j) in
+      let w = length-write xs (6 * n) s (omega arith) in
+      let e : 6 * (n + j) ≡ 6 * n + length s = omega arith in
+      times-suc (layAt n k fit) j 0 xs
+      ∙ (ap (λ (i : ℕ). layAt n k fit i (times (layAt n k fit) j 0 xs)) (zero-add j)
+      ∙ (ap (layAt n k fit j) (lay-to j (omega arith))
+      ∙ (set-write (write xs (6 * n) s) (n + j) (pieceAt k fit j) (omega arith)
+      ∙ (ap (λ (i : ℕ). write (write xs (6 * n) s) i (six (pieceAt k fit j))) e
+      ∙ (write-more xs (6 * n) s (six (pieceAt k fit j)) (omega arith)
+      ∙ ap (write xs (6 * n)) (sym (sixes-append (piecesTo k fit j) (pieceAt k fit j ∷ []))))))))
+
+-- ---- a list of kernels as six floats each
+at-whole : (ks : List Kernel) (i : ℕ) → i < length ks → kernelAt (sixes ks) i ≡ whole (getD ks i noKernel)
+unfolding kernelAt
+at-whole [] i h = absurd (omega arith)
+at-whole (k ∷ ks) zero h = refl
+at-whole (k ∷ ks) (suc i) h = next-kernel (getD (k .c) 0 nan) (getD (k .c) 1 nan) (getD (k .c) 2 nan) (k .sigma) (k .w) (k .alpha) (sixes ks) i ∙ at-whole ks i (omega arith)
+
+same-fit : (k : Kernel) (r : Float) → decomposed (whole k) r ≡ decomposed k r
+same-fit k r = same-pieces (getD (k .c) 0 nan ∷ getD (k .c) 1 nan ∷ getD (k .c) 2 nan ∷ []) (k .c) (k .sigma) (k .w) (k .w) (k .alpha) r
+
+same-sixes : (k : Kernel) (fit : Pieces) (n : ℕ) → sixes (piecesTo (whole k) fit n) ≡ sixes (piecesTo k fit n)
+unfolding pieceAt
+same-sixes k fit zero = refl
+same-sixes k fit (suc n) =
+    sixes-append (piecesTo (whole k) fit n) (pieceAt (whole k) fit n ∷ [])
+    ∙ (ap (λ (l : List Float). l ++ six (pieceAt k fit n)) (same-sixes k fit n) ∙ sym (sixes-append (piecesTo k fit n) (pieceAt k fit n ∷ [])))
+
+module _ (ks : List Kernel) (r : Float) where
+  abbrev L : List Float
+  L = sixes ks
+
+  fit-at : (n : ℕ) → n < length ks → decomposed (kernelAt L n) r ≡ decomposed (getD ks n noKernel) r
+  fit-at n h = ap (λ (k : Kernel). decomposed k r) (at-whole ks n h) ∙ same-fit (getD ks n noKernel) r
+
+  every-more : (n : ℕ) → n < length ks → every r (take (suc n) ks) ≡ every r (take n ks) ++ fits r (getD ks n noKernel)
+  every-more n h = ap (every r) (take-suc ks n noKernel h) ∙ every-snoc r (take n ks) (getD ks n noKernel)
+
+  length-more : (n : ℕ) → n < length ks → length (every r (take (suc n) ks)) ≡ length (every r (take n ks)) + decomposed (getD ks n noKernel) r .count
+  length-more n h =
+      let k = getD ks n noKernel in
+      ap length (every-more n h) ∙ (length-append (every r (take n ks)) (fits r k) ∙ ap (λ (c : ℕ). length (every r (take n ks)) + c) (pieces-length k (decomposed k r) (decomposed k r .count)))
+
+  count-to : (n : ℕ) → n ≤ length ks → pieceCount L r n ≡ length (every r (take n ks))
+  unfolding pieceCount
+  count-to zero h = refl
+  count-to (suc n) h = rw (count-to n (omega arith), fit-at n h) (sym (length-more n h))
+
+  error-to : (n : ℕ) → n ≤ length ks → greatestError L r n ≡ worst r +0 (take n ks)
+  unfolding greatestError
+  error-to zero h = refl
+  error-to (suc n) h = rw (error-to n (omega arith), fit-at n h, take-suc ks n noKernel h) (sym (worst-snoc r +0 (take n ks) (getD ks n noKernel)))
+
+  spread-to : (xs : List Float) (n : ℕ) → n ≤ length ks → 6 * length (every r (take n ks)) ≤ length xs → spread L r n xs ≡ write xs 0 (sixes (every r (take n ks)))
+  unfolding spread laid
+  spread-to xs zero h room = sym (write-none xs 0)
+  spread-to xs (suc n) h room =
+      let k = getD ks n noKernel in
+      let fit = decomposed k r in
+      let done = every r (take n ks) in
+      let more = length-more n h in
+      let l = sixes-length done in
+      let ys = write xs 0 (sixes done) in
+      let w = length-write xs 0 (sixes done) (omega arith) in
+      let e : 6 * length done ≡ 0 + length (sixes done) = omega arith in
+      rw (count-to n (omega arith), fit-at n h, at-whole ks n h, spread-to xs n (omega arith) (omega arith))
+      (lay-to (length done) (whole k) fit ys (fit .count) (omega arith)
+      ∙ (ap (write ys (6 * length done)) (same-sixes k fit (fit .count))
+      ∙ (ap (λ (i : ℕ). write ys i (sixes (fits r k))) e
+      ∙ (write-more xs 0 (sixes done) (sixes (fits r k)) (omega arith)
+      ∙ ap (write xs 0) (sym (sixes-append done (fits r k)) ∙ ap sixes (sym (every-more n h)))))))
+
+  all-listed : (xs : List Float) → 6 * length (every r ks) ≤ length xs
+      → listDecomposition L r xs ≡ outcome (fittedAll (length ks) (length (every r ks)) (worst r +0 ks)) (write xs 0 (sixes (every r ks)))
+  unfolding listDecomposition
+  all-listed xs room =
+      let n = length ks in
+      let t : take n ks ≡ ks = take-all n ks (omega arith) in
+      let c : pieceCount L r n ≡ length (every r ks) = count-to n (omega arith) ∙ ap (λ (l : List Kernel). length (every r l)) t in
+      let e : greatestError L r n ≡ worst r +0 ks = error-to n (omega arith) ∙ ap (worst r +0) t in
+      let s : spread L r n xs ≡ write xs 0 (sixes (every r ks)) = spread-to xs n (omega arith) (rw t room) ∙ ap (λ (l : List Kernel). write xs 0 (sixes (every r l))) t in
+      rw (list-sound ks, count-of ks, c, e, s, le-leb (6 * length (every r ks)) (length xs) room) refl
+
+pub listed : (m : Mesh) (ss : List Slot) (run : List Float) → 6 * length (allPieces (m .radius) ss) ≤ length run
+    → listDecomposition (sixes (kernelsOf ss)) (m .radius) run
+    ≡ outcome (fittedAll (freshFilled ss) (length (allPieces (m .radius) ss)) (worstFrom m +0 ss)) (write run 0 (sixes (allPieces (m .radius) ss)))
+listed m ss run h =
+    let room = rw (every-of (m .radius) ss) at h in
+    rw (every-of (m .radius) ss, filled-of ss, worst-of m +0 ss) (all-listed (kernelsOf ss) (m .radius) run room)

@@ -1,0 +1,45 @@
+-- The machine's pieces as a reading sums them: each with its volume over all F faces. Definitions only.
+use mathlib.Core.List.{List, [], _∷_, _++_}
+use Prim.Native.Nat.{ℕ, zero, suc}
+use lib.ListN.{getD}
+use lib.Ieee.{nan}
+use Rattle.base.specs.Floats.{_⊗_, +0}
+use Rattle.volume.specs.Volume.{kernelVolume, bodyVolume}
+use Rattle.field.specs.Field.{centreOf}
+use Rattle.kernel.specs.declared.kernel.Kernel.{Kernel}
+use Rattle.pieces.specs.declared.pieces.Pieces.{Pieces}
+use Rattle.pieces.specs.Pieces.{decomposed, pieceAlpha}
+use Rattle.readings.specs.Readings.{Part, Seen, seeing}
+use Rattle.machine.specs.Machine.{Mesh, Slot, empty, full}
+use Rattle.machine.specs.Holding.{triangles}
+use Rattle.machine.specs.Fresh.{freshFilled, worstFrom}
+
+-- piece j of a fit
+abbrev pub freshPart : Mesh → Kernel → Pieces → ℕ → Part
+freshPart m k fit j =
+    record {
+      kernel = record {
+        c = getD (k .c) 0 nan ∷ getD (k .c) 1 nan ∷ getD (k .c) 2 nan ∷ [];
+        sigma = getD (fit .sigma) j nan;
+        w = k .w ⊗ getD (fit .coefficient) j nan;
+        alpha = pieceAlpha (k .alpha);
+      };
+      volume = kernelVolume (triangles m) (m .faces) (centreOf k) (getD (fit .sigma) j nan);
+    }
+
+-- its first n pieces
+abbrev pub freshAt : Mesh → Kernel → Pieces → ℕ → List Part
+freshAt m k fit zero = []
+freshAt m k fit (suc n) = freshAt m k fit n ++ (freshPart m k fit n ∷ [])
+
+-- a place, "decomposed"
+abbrev pub freshSlot : Mesh → Slot → List Part
+freshSlot m empty = []
+freshSlot m (full k fit p) = freshAt m k (decomposed k (m .radius)) (decomposed k (m .radius) .count)
+
+abbrev pub freshAll : Mesh → List Slot → List Part
+freshAll m [] = []
+freshAll m (s ∷ ss) = freshSlot m s ++ freshAll m ss
+
+unfoldable pub freshSeen : Mesh → List Slot → Seen
+freshSeen m ss = seeing (freshAll m ss) (bodyVolume (triangles m) (m .faces)) (freshFilled ss) (worstFrom m +0 ss)
