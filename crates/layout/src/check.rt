@@ -6,11 +6,14 @@ ghost use Rattle.layout.specs.Layout.{width, slotLimit, cornersFrom, fac
 ghost use Rattle.layout.specs.Soundness.{every, longEnough, slotSound, slotSoundAt, sound, storeCheck, slotCheck, filledCheck};
 use crate::offsets::COORDS;
 use crate::offsets::CORNERS;
+use crate::offsets::PIECES;
 use crate::offsets::SLOTS;
 use crate::offsets::STATE;
 use crate::offsets::WIDTH;
 use base::refusal::Checked;
 use base::refusal::Refusal;
+use mesh::check::FACE_LIMIT;
+use mesh::check::VERTEX_LIMIT;
 
 // Whether both runs are as long as the counts of vertices and faces ask. The counts may be anything up to 2^32 - 1.
 fn long_enough(f: &[f64], w: &[u32]) -> bool
@@ -28,7 +31,7 @@ fn long_enough(f: &[f64], w: &[u32]) -> bool
 fn slot_sound(status: u32, finished: u32, done: u32, faces: u32) -> bool
     ensures { λ r. ⌜ r ≡ slotSound status finished done faces ⌝ }
 {
-    if status > 17 {
+    if status as usize > 1 + PIECES {
         return false;
     }
     if status == 0 {
@@ -69,7 +72,7 @@ fn words_sound(w: &[u32]) -> bool
 {
     let verts = w[0];
     let faces = w[1];
-    let few = (verts <= 1_048_576) & (faces <= 2_097_152);
+    let few = (verts <= VERTEX_LIMIT) & (faces <= FACE_LIMIT);
     if few {
         if slots_sound(w) {
             let end = CORNERS + 3 * (faces as usize);
@@ -103,7 +106,7 @@ pub fn check_slot(f: &[f64], w: &[u32], slot: u32) -> Checked
 {
     match check_store(f, w) {
         Checked::Failed(r) => Checked::Failed(r),
-        Checked::Passed => if slot < 32 {
+        Checked::Passed => if (slot as usize) < SLOTS {
             Checked::Passed
         } else {
             Checked::Failed(Refusal::NoPlace)

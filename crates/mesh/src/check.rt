@@ -5,6 +5,11 @@ ghost use Rattle.mesh.specs.Checks.{allBelow, meshCheck};
 use base::refusal::Checked;
 use base::refusal::Refusal;
 
+// The limits of 01, "The store": V vertices and F faces, as `vertexLimit` and `faceLimit` say.
+pub const VERTEX_LIMIT: u32 = 1_048_576;
+
+pub const FACE_LIMIT: u32 = 2_097_152;
+
 // Whether each word is below v. It reads all of them, so that it runs at the memory's speed.
 pub fn all_below(words: &[u32], v: u32) -> bool
     ensures { λ r. ⌜ r ≡ allBelow v (now (words .entry)) ⌝ }
@@ -27,7 +32,7 @@ pub fn check_mesh(xyz: &[f64], faces: &[u32]) -> Checked
         return Checked::Failed(Refusal::Ragged);
     }
     let v = xyz.len() / 3;
-    let oversize = (v > 1_048_576) | (faces.len() / 3 > 2_097_152);
+    let oversize = (v > VERTEX_LIMIT as usize) | (faces.len() / 3 > FACE_LIMIT as usize);
     if oversize {
         return Checked::Failed(Refusal::Oversize);
     }

@@ -34,4 +34,4 @@ returns-5 c =
     simp (le-leb (a .status) 17 (omega arith), ne-eqb (a .status) 0 (omega arith), le-leb (a .finished) (a .status - 1) (omega arith), ne-eqb (a .finished) (a .status - 1) (omega arith))
 
 pub slot-sound-spec : {M : Type 1} → statement M
-slot-sound-spec = tie.close (tie.spec returns returns-2 (λ c. search needs) returns-3 returns-4 returns-5)
+slot-sound-spec = tie.close (tie.spec (λ c. search needs) returns returns-2 (λ c. search needs) returns-3 returns-4 returns-5)

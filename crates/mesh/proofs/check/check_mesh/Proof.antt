@@ -30,4 +30,4 @@ returns-4 c = rw (c .before .before .before .if1 .left, c .before .before .if2 .
 
 pub check-mesh-spec : {M : Type 1} → statement M
 check-mesh-spec =
-    tie.close (tie.spec returns returns-2 cast-all-below (λ c κs. search needs) returns-3 returns-4)
+    tie.close (tie.spec returns (λ c. search needs) (λ c. search needs) returns-2 cast-all-below (λ c κs. search needs) returns-3 returns-4)
