@@ -1,6 +1,6 @@
 -- What a reading makes of the machine's pieces is what demand 2's functions answer on the list of them, six floats each. Assumes nothing.
 use mathlib.Core.Path.{_≡_, refl, sym, ap, _∙_}
-use mathlib.Core.List.{List, [], _∷_, map}
+use mathlib.Core.List.{List, [], _∷_, map, map-append}
 use Prim.Native.Nat.{ℕ, zero, suc, _/_, _%_}
 use native.Mathlib.Omega.{arith}
 use lib.ListN.{length, length-map}
@@ -27,7 +27,6 @@ use Rattle.machine.specs.Holding.{triangles}
 use Rattle.machine.specs.Fresh.{piecesTo, piecesOf, allPieces, freshFilled, worstFrom, valueOf, massOf, originOf, readingOn, workedAfresh}
 use Rattle.machine.proofs.Parts.{freshAt, freshSlot, freshAll, freshSeen}
 use Rattle.machine.specs.Valid.{Shape}
-use Rattle.machine.proofs.Read.{map-append}
 
 abbrev partOf : Mesh → Kernel → Part
 partOf m k = sized (triangles m) (m .faces) k
@@ -94,4 +93,4 @@ module _ (m : Mesh) (g : Shape m) where
 
   pub joined : (ss : List Slot) (r : Reading) → answerOf r (freshSeen m ss) ≡ workedAfresh m ss r
   unfolding freshSeen workedAfresh
-  joined ss r = rw (parts-all m ss) (answer-on (allPieces (m .radius) ss) (freshFilled ss) (worstFrom m +0 ss) r)
+  joined ss r = rw (parts-all m ss) (answer-on (allPieces (m .radius) ss) (freshFilled ss) (worstFrom (m .radius) +0 ss) r)

@@ -31,11 +31,12 @@ use Rattle.advance.specs.Steps.{advanceStep}
 use Rattle.squeeze.specs.Squeeze.{squeezeStep}
 use Rattle.put.specs.Puts.{fresh, atFirst, putFloats, putWords, putStep}
 use Rattle.machine.specs.Machine.{Mesh, Slot, empty, full, need, leftSlot, leftSum, Machine, Turn, turn, putTurn, clearTurn, weighed, reweighTurn}
-use Rattle.machine.specs.Holding.{Width, width3, placeRow, floats48, cells, floatsOf, wordsOf}
+use Rattle.machine.specs.Holding.{placeRow, cells, wordsOf}
 use Rattle.readings.specs.Readings.{Reading}
-use Rattle.machine.specs.Calls.{Call, put, clear, reweigh, advance, squeeze, read, machine, result, seen, store, after-all, past, holding, shown, chargedBy, doneBy, chargedIn, doneIn}
+use Rattle.machine.specs.Calls.{Call, put, clear, reweigh, advance, squeeze, read, machine, Store, Result, result, seen, store, after-all, past, holding, chargedBy, doneBy, chargedIn, doneIn}
 use Rattle.machine.specs.Valid.{Within, Valid}
-use Rattle.machine.proofs.Unused.{okay}
+use Rattle.machine.proofs.Rows.{Width, width3}
+use Rattle.machine.proofs.Sixteen.{sixteen, laidOut, okay, laid-out}
 use Rattle.machine.proofs.Held.{status-held, write-words, write-floats, set-seven, coords-held, corners-held}
 use Rattle.machine.proofs.Sane.{no-fault}
 use Rattle.machine.proofs.Look.{read-held}
@@ -43,9 +44,16 @@ use Rattle.machine.proofs.Squeezing.{floats-squeezed, words-squeezed, s
 use Rattle.machine.proofs.Slim.{freed-is}
 use Rattle.machine.proofs.Sweep.{spread, all-held, left-held, lowest-first, spread-length, within-spread, left-spread}
 
+-- the runs by sixteen pieces to a filled place, and what a turn leaves in them
+abbrev inner : Machine → List Float → List ℕ → Store
+inner m xs ys = record { floats = laidOut (m .mesh) (m .slots) (past m xs); words = wordsOf (m .mesh) (m .slots) ys }
+
+abbrev shownIn : List Float → List ℕ → Turn → Result
+shownIn xs ys t = record { left = inner (t .next) xs ys; reply = t .reply; out = t .out }
+
 module _ (wd : ℕ) (fm : Width wd) (m : Machine) (v : Valid (m .mesh) (m .slots)) (xs : List Float) (ys : List ℕ) where
   abbrev FS : List Float
-  FS = floatsOf (m .mesh) (m .slots) (past m xs)
+  FS = laidOut (m .mesh) (m .slots) (past m xs)
 
   abbrev WS : List ℕ
   WS = wordsOf (m .mesh) (m .slots) ys
@@ -84,17 +92,17 @@ module _ (wd : ℕ) (fm : Width wd) (m : Machine) (v : Valid (m .mesh) (m .slots
       go : {w : ℕ} → Width w → replicate w 0 ≡ placeRow (m .mesh) empty
       go width3 = refl
 
-  clear-in : (i : ℕ) → i < 32 → (s : Slot) → getD (m .slots) i empty ≡ s → result (clearStep wd FS WS i) ≡ shown xs ys (clearTurn m i s)
+  clear-in : (i : ℕ) → i < 32 → (s : Slot) → getD (m .slots) i empty ≡ s → result (clearStep wd FS WS i) ≡ shownIn xs ys (clearTurn m i s)
   unfolding clearStep
   clear-in i h empty e = rw (filled-none i h e) refl
   clear-in i h (full k fit p) e =
       rw (filled-in i h k fit p e, write-floats wd fm (m .mesh) (m .slots) (v .slots) (past m xs) i h empty, zeros-row, write-words wd fm (m .mesh) (m .slots) (v .slots) ys i h empty) refl
 
-  clear-held : (i : ℕ) → store wd (holding m xs ys) (clear i) ≡ shown xs ys (machine m (clear i))
+  clear-held : (i : ℕ) → store wd (inner m xs ys) (clear i) ≡ shownIn xs ys (machine m (clear i))
   unfolding store machine clearStep
   clear-held i = go (decLt i 32)
     where
-      go : Dec (i < 32) → result (clearStep wd FS WS i) ≡ shown xs ys (cond (ltb i slotLimit) (clearTurn m i (getD (m .slots) i empty)) (turn m (refused NoPlace)))
+      go : Dec (i < 32) → result (clearStep wd FS WS i) ≡ shownIn xs ys (cond (ltb i slotLimit) (clearTurn m i (getD (m .slots) i empty)) (turn m (refused NoPlace)))
       go (yes h) = clear-in i h (getD (m .slots) i empty) refl ∙ rw (lt-ltb i 32 h) refl
       go (no h) = rw (filled-out i (omega arith), le-ltb i 32 (omega arith)) refl
 
@@ -104,11 +112,11 @@ module _ (wd : ℕ) (fm : Width wd) (m : Machine) (v : Valid (m .mesh) (m .slots
       sym (write-words wd fm (m .mesh) (m .slots) (v .slots) ys i h (getD (m .slots) i empty) ∙ ap (λ (t : List Slot). wordsOf (m .mesh) t ys) (set-getD (m .slots) i empty))
       ∙ (ap (write WS (2 + wd * i)) e ∙ write-words wd fm (m .mesh) (m .slots) (v .slots) ys i h s)
 
-  same-volumes : (k : Kernel) (fit : Pieces) (w : Float) (p : ℕ) → floats48 (m .mesh) (full (weighed k w) fit p) ≡ floats48 (m .mesh) (full k fit p)
+  same-volumes : (k : Kernel) (fit : Pieces) (w : Float) (p : ℕ) → sixteen (m .mesh) (full (weighed k w) fit p) ≡ sixteen (m .mesh) (full k fit p)
   unfolding centreOf
   same-volumes k fit w p = refl
 
-  reweigh-in : (i : ℕ) (w : Float) → i < 32 → (s : Slot) → getD (m .slots) i empty ≡ s → result (reweighStep wd FS WS i w) ≡ shown xs ys (reweighTurn m i w s)
+  reweigh-in : (i : ℕ) (w : Float) → i < 32 → (s : Slot) → getD (m .slots) i empty ≡ s → result (reweighStep wd FS WS i w) ≡ shownIn xs ys (reweighTurn m i w s)
   unfolding reweighStep
   reweigh-in i w h empty e = rw (filled-none i h e) refl
   reweigh-in i w h (full k fit p) e =
@@ -117,19 +125,19 @@ module _ (wd : ℕ) (fm : Width wd) (m : Machine) (v : Valid (m .mesh) (m .slots
       let f = set-seven wd fm (m .mesh) (m .slots) (v .slots) (past m xs) i h s 4 w (omega arith) (rw e refl) (rw e (same-volumes k fit w p)) in
       let g : WS ≡ wordsOf (m .mesh) (set (m .slots) i s) ys = same-place i h s (rw e refl) in
       rw (filled-in i h k fit p e, n, f)
-      (ap (λ (t : List ℕ). record { left = record { floats = floatsOf (m .mesh) (set (m .slots) i s) (past m xs); words = t }; reply = done; out = [] }) g)
+      (ap (λ (t : List ℕ). record { left = record { floats = laidOut (m .mesh) (set (m .slots) i s) (past m xs); words = t }; reply = done; out = [] }) g)
 
-  reweigh-held : (i : ℕ) (w : Float) → store wd (holding m xs ys) (reweigh i w) ≡ shown xs ys (machine m (reweigh i w))
+  reweigh-held : (i : ℕ) (w : Float) → store wd (inner m xs ys) (reweigh i w) ≡ shownIn xs ys (machine m (reweigh i w))
   unfolding store machine reweighStep
   reweigh-held i w = go (decLt i 32)
     where
-      go : Dec (i < 32) → result (reweighStep wd FS WS i w) ≡ shown xs ys (cond (ltb i slotLimit) (reweighTurn m i w (getD (m .slots) i empty)) (turn m (refused NoPlace)))
+      go : Dec (i < 32) → result (reweighStep wd FS WS i w) ≡ shownIn xs ys (cond (ltb i slotLimit) (reweighTurn m i w (getD (m .slots) i empty)) (turn m (refused NoPlace)))
       go (yes h) = reweigh-in i w h (getD (m .slots) i empty) refl ∙ rw (lt-ltb i 32 h) refl
       go (no h) = rw (filled-out i (omega arith), le-ltb i 32 (omega arith)) refl
 
   -- ---- put
   radius-held : radiusOf FS ≡ m .mesh .radius
-  unfolding floatsOf
+  unfolding laidOut
   radius-held = refl
 
   faces-held : facesOf WS ≡ m .mesh .faces
@@ -149,23 +157,23 @@ module _ (wd : ℕ) (fm : Width wd) (m : Machine) (v : Valid (m .mesh) (m .slots
       rw (a, b) (ap (λ (t : List Float). getD (fit .sigma) j nan ∷ getD (fit .coefficient) j nan ∷ +0 ∷ t) (fresh-cells k fit n (suc j)))
 
   put-in : (i : ℕ) (k : Kernel) (fit : Pieces) → i < 32
-      → result (record { reply = counted (fit .count ∷ need (m .mesh) fit ∷ []); floats = putFloats FS i k fit; words = putWords wd WS i fit }) ≡ shown xs ys (putTurn m i k fit)
+      → result (record { reply = counted (fit .count ∷ need (m .mesh) fit ∷ []); floats = putFloats FS i k fit; words = putWords wd WS i fit }) ≡ shownIn xs ys (putTurn m i k fit)
   unfolding putFloats putWords atFirst
   put-in i k fit h =
       let f = write-floats wd fm (m .mesh) (m .slots) (v .slots) (past m xs) i h (full k fit 0) in
       let g = rw (zero-div, zero-mod) at (write-words wd fm (m .mesh) (m .slots) (v .slots) ys i h (full k fit 0)) in
       rw (faces-held, fresh-cells k fit 16 0, f, g) refl
 
-  put-held : (i : ℕ) (k : Kernel) → store wd (holding m xs ys) (put i k) ≡ shown xs ys (machine m (put i k))
+  put-held : (i : ℕ) (k : Kernel) → store wd (inner m xs ys) (put i k) ≡ shownIn xs ys (machine m (put i k))
   unfolding store machine putStep
   put-held i k = go (decLt i 32)
     where
-      go : Dec (i < 32) → store wd (holding m xs ys) (put i k) ≡ shown xs ys (machine m (put i k))
+      go : Dec (i < 32) → store wd (inner m xs ys) (put i k) ≡ shownIn xs ys (machine m (put i k))
       go (yes h) = rw (slot-in i h, lt-ltb i 32 h, radius-held, faces-held) (put-in i k (decomposed k (m .mesh .radius)) h)
       go (no h) = rw (slot-out i (omega arith), le-ltb i 32 (omega arith)) refl
 
   -- ---- advance
-  advance-held : (n : ℕ) → store wd (holding m xs ys) (advance n) ≡ shown xs ys (machine m (advance n))
+  advance-held : (n : ℕ) → store wd (inner m xs ys) (advance n) ≡ shownIn xs ys (machine m (advance n))
   unfolding store machine advanceStep
   advance-held n =
       let l = leftSum (m .mesh) (m .slots) in
@@ -184,12 +192,12 @@ module _ (wd : ℕ) (fm : Width wd) (m : Machine) (v : Valid (m .mesh) (m .slots
       ) refl
 
   -- ---- a reading
-  reading-held : (r : Reading) → store wd (holding m xs ys) (read r) ≡ shown xs ys (machine m (read r))
+  reading-held : (r : Reading) → store wd (inner m xs ys) (read r) ≡ shownIn xs ys (machine m (read r))
   unfolding store machine
-  reading-held r = ap (seen (holding m xs ys)) (read-held wd fm (m .mesh) (m .slots) v (past m xs) ys r)
+  reading-held r = ap (seen (inner m xs ys)) (read-held wd fm (m .mesh) (m .slots) v (past m xs) ys r)
 
   -- ---- squeeze
-  squeeze-held : store wd (holding m xs ys) squeeze ≡ shown xs ys (machine m squeeze)
+  squeeze-held : store wd (inner m xs ys) squeeze ≡ shownIn xs ys (machine m squeeze)
   unfolding store machine squeezeStep
   squeeze-held =
       rw (
@@ -203,13 +211,13 @@ module _ (wd : ℕ) (fm : Width wd) (m : Machine) (v : Valid (m .mesh) (m .slots
         freed-is (m .mesh),
       ) refl
 
-  pub one-call : (c : Call) → store wd (holding m xs ys) c ≡ shown xs ys (machine m c)
-  one-call (put i k) = put-held i k
-  one-call (clear i) = clear-held i
-  one-call (reweigh i w) = reweigh-held i w
-  one-call (advance n) = advance-held n
-  one-call squeeze = squeeze-held
-  one-call (read r) = reading-held r
+  one-in : (c : Call) → store wd (inner m xs ys) c ≡ shownIn xs ys (machine m c)
+  one-in (put i k) = put-held i k
+  one-in (clear i) = clear-held i
+  one-in (reweigh i w) = reweigh-held i w
+  one-in (advance n) = advance-held n
+  one-in squeeze = squeeze-held
+  one-in (read r) = reading-held r
 
 -- ---- what every turn keeps
 all-set : (P : Slot → Type 0) (ss : List Slot) (i : ℕ) (s : Slot) → P s → ((j : ℕ) → P (getD ss j empty)) → (j : ℕ) → P (getD (set ss i s) j empty)
@@ -295,6 +303,19 @@ module _ (m : Machine) (v : Valid (m .mesh) (m .slots)) where
       })
   kept squeeze = record { valid = slim-valid (m .mesh) (m .slots) v; balance = rw (left-slim (m .mesh) (m .slots) v) refl; charged = omega arith }
   kept (read r) = record { valid = v; balance = refl; charged = omega arith }
+
+-- ---- one call, on the runs that hold the machine
+abbrev pub shown : List Float → List ℕ → Turn → Result
+shown xs ys t = record { left = holding (t .next) xs ys; reply = t .reply; out = t .out }
+
+held-in : (m : Machine) → Valid (m .mesh) (m .slots) → (xs : List Float) (ys : List ℕ) → holding m xs ys ≡ inner m xs ys
+held-in m v xs ys = ap (λ (fs : List Float). record { floats = fs; words = wordsOf (m .mesh) (m .slots) ys }) (laid-out (m .mesh) (m .slots) v (past m xs))
+
+pub one-call : (wd : ℕ) → Width wd → (m : Machine) → Valid (m .mesh) (m .slots) → (xs : List Float) (ys : List ℕ) (c : Call) → store wd (holding m xs ys) c ≡ shown xs ys (machine m c)
+one-call wd fm m v xs ys c =
+    let t = machine m c in
+    ap (λ (s : Store). store wd s c) (held-in m v xs ys)
+    ∙ (one-in wd fm m v xs ys c ∙ ap (λ (s : Store). record { left = s; reply = t .reply; out = t .out }) (sym (held-in (t .next) (kept m v c .valid) xs ys)))
 
 -- ---- every list of calls
 module _ (wd : ℕ) (fm : Width wd) where

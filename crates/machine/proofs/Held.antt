@@ -4,7 +4,7 @@ use mathlib.Core.List.{List, [], _∷_, _++_, map, append-assoc}
 use Prim.Native.Nat.{ℕ, zero, suc, _+_, _*_, _-_, _≤_, _<_}
 use native.Mathlib.Nat.{mul-suc}
 use native.Mathlib.Omega.{arith}
-use lib.ListN.{length-set, length, take, drop, getD, set, length-append}
+use lib.ListN.{length, take, drop, getD, set, length-append, length-map, length-set}
 use lib.Seq.{getD-append-add, drop-at, take-at, set-set, set-getD, getD-set-same}
 use lib.Ieee.{Float, nan}
 use Rattle.runs.specs.Runs.{write}
@@ -12,8 +12,9 @@ use Rattle.layout.specs.Layout.{cornersFrom, statusOf, finishedOf, doneOf}
 use Rattle.kernel.specs.declared.kernel.Kernel.{Kernel}
 use Rattle.pieces.specs.declared.pieces.Pieces.{Pieces}
 use Rattle.machine.specs.Machine.{Mesh, Slot, empty, full}
-use Rattle.machine.specs.Holding.{Width, width3, placeRow, floats7, floats48, cells, flat, floatsOf, wordsOf}
-use Rattle.machine.proofs.Rows.{Each, row-get, row-set, row-write, flat-length, map-set, map-getD, each-map, map-length, set-append-add, write-append-add, each-set}
+use Rattle.machine.specs.Holding.{placeRow, floats7, cells, flat, wordsOf}
+use Rattle.machine.proofs.Sixteen.{sixteen, laidOut}
+use Rattle.machine.proofs.Rows.{Width, width3, Each, row-get, row-set, row-write, flat-length, map-set, map-getD, each-map, set-append-add, write-append-add, each-set}
 
 -- a form has at least three words per place
 pub at-least : {w : ℕ} → Width w → 3 ≤ w
@@ -42,7 +43,7 @@ module _ (wd : ℕ) (fm : Width wd) where
     len7 empty = refl
     len7 (full k fit p) = refl
 
-    pub len48 : (s : Slot) → length (floats48 m s) ≡ 48
+    pub len48 : (s : Slot) → length (sixteen m s) ≡ 48
     len48 empty = refl
     len48 (full k fit p) = cells-length m k fit 16 0 p
 
@@ -52,12 +53,12 @@ module _ (wd : ℕ) (fm : Width wd) where
     pub each7 : (ss : List Slot) → Each 7 (map floats7 ss)
     each7 ss = each-map 7 floats7 len7 ss
 
-    pub each48 : (ss : List Slot) → Each 48 (map (floats48 m) ss)
-    each48 ss = each-map 48 (floats48 m) len48 ss
+    pub each48 : (ss : List Slot) → Each 48 (map (sixteen m) ss)
+    each48 ss = each-map 48 (sixteen m) len48 ss
 
     module _ (ss : List Slot) (hs : length ss ≡ 32) where
       in-map : {B : Type 0} (g : Slot → B) (i : ℕ) → i < 32 → i < length (map g ss)
-      in-map g i h = rw (map-length, hs) h
+      in-map g i h = rw (length-map, hs) h
 
       module _ (ys : List ℕ) (i : ℕ) (h : i < 32) where
         abbrev rest3 : List ℕ
@@ -92,25 +93,25 @@ module _ (wd : ℕ) (fm : Width wd) where
         rest48 = m .coords ++ xs
 
         abbrev rest7 : List Float
-        rest7 = flat (map (floats48 m) ss) ++ rest48
+        rest7 = flat (map (sixteen m) ss) ++ rest48
 
         head48 : length (m .radius ∷ flat (map floats7 ss)) ≡ 225
-        head48 = rw (flat-length 7 (map floats7 ss) (each7 ss), map-length, hs) refl
+        head48 = rw (flat-length 7 (map floats7 ss) (each7 ss), length-map, hs) refl
 
-        pub get7 : (j : ℕ) → j < 7 → getD (floatsOf m ss xs) (1 + (7 * i + j)) nan ≡ getD (floats7 (getD ss i empty)) j nan
-        unfolding floatsOf
+        pub get7 : (j : ℕ) → j < 7 → getD (laidOut m ss xs) (1 + (7 * i + j)) nan ≡ getD (floats7 (getD ss i empty)) j nan
+        unfolding laidOut
         get7 j hj =
             getD-append-add (m .radius ∷ []) (flat (map floats7 ss) ++ rest7) (7 * i + j) nan
             ∙ (row-get 7 (map floats7 ss) (each7 ss) rest7 i j nan (in-map floats7 i h) hj
             ∙ ap (λ (r : List Float). getD r j nan) (map-getD floats7 ss i empty [] (rw hs h)))
 
-        pub get48 : (j : ℕ) → j < 48 → getD (floatsOf m ss xs) (225 + (48 * i + j)) nan ≡ getD (floats48 m (getD ss i empty)) j nan
-        unfolding floatsOf
+        pub get48 : (j : ℕ) → j < 48 → getD (laidOut m ss xs) (225 + (48 * i + j)) nan ≡ getD (sixteen m (getD ss i empty)) j nan
+        unfolding laidOut
         get48 j hj =
             ap (λ (n : ℕ). getD (m .radius ∷ (flat (map floats7 ss) ++ rest7)) (n + (48 * i + j)) nan) (sym head48)
             ∙ (getD-append-add (m .radius ∷ flat (map floats7 ss)) rest7 (48 * i + j) nan
-            ∙ (row-get 48 (map (floats48 m) ss) (each48 ss) rest48 i j nan (in-map (floats48 m) i h) hj
-            ∙ ap (λ (r : List Float). getD r j nan) (map-getD (floats48 m) ss i empty [] (rw hs h))))
+            ∙ (row-get 48 (map (sixteen m) ss) (each48 ss) rest48 i j nan (in-map (sixteen m) i h) hj
+            ∙ ap (λ (r : List Float). getD r j nan) (map-getD (sixteen m) ss i empty [] (rw hs h))))
 
   -- a float run by its rows
   abbrev raw : Float → List (List Float) → List (List Float) → List Float → List Float
@@ -144,63 +145,63 @@ module _ (wd : ℕ) (fm : Width wd) where
 
   module _ (m : Mesh) (ss : List Slot) (hs : length ss ≡ 32) (xs : List Float) (i : ℕ) (h : i < 32) where
     l7 : length (map floats7 ss) ≡ 32
-    l7 = map-length floats7 ss ∙ hs
+    l7 = length-map ss floats7 ∙ hs
 
-    l48 : length (map (floats48 m) ss) ≡ 32
-    l48 = map-length (floats48 m) ss ∙ hs
+    l48 : length (map (sixteen m) ss) ≡ 32
+    l48 = length-map ss (sixteen m) ∙ hs
 
     -- place i's floats written anew
-    pub write-floats : (s : Slot) → write (write (floatsOf m ss xs) (1 + 7 * i) (floats7 s)) (225 + 48 * i) (floats48 m s) ≡ floatsOf m (set ss i s) xs
-    unfolding floatsOf
+    pub write-floats : (s : Slot) → write (write (laidOut m ss xs) (1 + 7 * i) (floats7 s)) (225 + 48 * i) (sixteen m s) ≡ laidOut m (set ss i s) xs
+    unfolding laidOut
     write-floats s =
         let a = map floats7 ss in
-        let b = map (floats48 m) ss in
-        ap (λ (l : List Float). write l (225 + 48 * i) (floats48 m s)) (raw-write7 (m .radius) a b (each7 m ss) (each48 m ss) l7 l48 (m .coords ++ xs) i h (floats7 s) (len7 m s))
-        ∙ (raw-write48 (m .radius) (set a i (floats7 s)) b (each-set 7 a (each7 m ss) i (floats7 s) (len7 m s)) (each48 m ss) (length-set a i (floats7 s) ∙ l7) l48 (m .coords ++ xs) i h (floats48 m s) (len48 m s)
-        ∙ rw (map-set floats7 ss i s, map-set (floats48 m) ss i s) refl)
+        let b = map (sixteen m) ss in
+        ap (λ (l : List Float). write l (225 + 48 * i) (sixteen m s)) (raw-write7 (m .radius) a b (each7 m ss) (each48 m ss) l7 l48 (m .coords ++ xs) i h (floats7 s) (len7 m s))
+        ∙ (raw-write48 (m .radius) (set a i (floats7 s)) b (each-set 7 a (each7 m ss) i (floats7 s) (len7 m s)) (each48 m ss) (length-set a i (floats7 s) ∙ l7) l48 (m .coords ++ xs) i h (sixteen m s) (len48 m s)
+        ∙ rw (map-set floats7 ss i s, map-set (sixteen m) ss i s) refl)
 
     -- one float of place i's seven, where the pieces stay
-    pub set-seven : (s : Slot) (j : ℕ) (v : Float) → j < 7 → set (floats7 (getD ss i empty)) j v ≡ floats7 s → floats48 m s ≡ floats48 m (getD ss i empty) → set (floatsOf m ss xs) (1 + (7 * i + j)) v ≡ floatsOf m (set ss i s) xs
-    unfolding floatsOf
+    pub set-seven : (s : Slot) (j : ℕ) (v : Float) → j < 7 → set (floats7 (getD ss i empty)) j v ≡ floats7 s → sixteen m s ≡ sixteen m (getD ss i empty) → set (laidOut m ss xs) (1 + (7 * i + j)) v ≡ laidOut m (set ss i s) xs
+    unfolding laidOut
     set-seven s j v hj e q =
         let a = map floats7 ss in
-        let b = map (floats48 m) ss in
+        let b = map (sixteen m) ss in
         raw-set7 (m .radius) a b (each7 m ss) (each48 m ss) l7 l48 (m .coords ++ xs) i h j v hj
-        ∙ rw (map-getD floats7 ss i empty [] (rw hs h), e, map-set floats7 ss i s, map-set (floats48 m) ss i s, q, ← map-getD (floats48 m) ss i empty [] (rw hs h), set-getD b i []) refl
+        ∙ rw (map-getD floats7 ss i empty [] (rw hs h), e, map-set floats7 ss i s, map-set (sixteen m) ss i s, q, ← map-getD (sixteen m) ss i empty [] (rw hs h), set-getD b i []) refl
 
     -- one float of its forty-eight, where the seven stay
-    pub set-piece : (s : Slot) (j : ℕ) (v : Float) → j < 48 → set (floats48 m (getD ss i empty)) j v ≡ floats48 m s → floats7 s ≡ floats7 (getD ss i empty) → set (floatsOf m ss xs) (225 + (48 * i + j)) v ≡ floatsOf m (set ss i s) xs
-    unfolding floatsOf
+    pub set-piece : (s : Slot) (j : ℕ) (v : Float) → j < 48 → set (sixteen m (getD ss i empty)) j v ≡ sixteen m s → floats7 s ≡ floats7 (getD ss i empty) → set (laidOut m ss xs) (225 + (48 * i + j)) v ≡ laidOut m (set ss i s) xs
+    unfolding laidOut
     set-piece s j v hj e q =
         let a = map floats7 ss in
-        let b = map (floats48 m) ss in
+        let b = map (sixteen m) ss in
         raw-set48 (m .radius) a b (each7 m ss) (each48 m ss) l7 l48 (m .coords ++ xs) i h j v hj
-        ∙ rw (map-getD (floats48 m) ss i empty [] (rw hs h), e, map-set floats7 ss i s, map-set (floats48 m) ss i s, q, ← map-getD floats7 ss i empty [] (rw hs h), set-getD a i []) refl
+        ∙ rw (map-getD (sixteen m) ss i empty [] (rw hs h), e, map-set floats7 ss i s, map-set (sixteen m) ss i s, q, ← map-getD floats7 ss i empty [] (rw hs h), set-getD a i []) refl
 
   -- the mesh part
   module _ (m : Mesh) (ss : List Slot) (hs : length ss ≡ 32) where
-    pub coords-held : (xs : List Float) → length (m .coords) ≡ 3 * m .verts → take (3 * m .verts) (drop 1761 (floatsOf m ss xs)) ≡ m .coords
-    unfolding floatsOf
+    pub coords-held : (xs : List Float) → length (m .coords) ≡ 3 * m .verts → take (3 * m .verts) (drop 1761 (laidOut m ss xs)) ≡ m .coords
+    unfolding laidOut
     coords-held xs e =
-        let p = (m .radius ∷ flat (map floats7 ss)) ++ flat (map (floats48 m) ss) in
-        let n : length p ≡ 1761 = rw (length-append, flat-length 7 (map floats7 ss) (each7 m ss), flat-length 48 (map (floats48 m) ss) (each48 m ss), map-length, map-length, hs) refl in
-        ap (λ (l : List Float). take (3 * m .verts) (drop 1761 l)) (sym (append-assoc (m .radius ∷ flat (map floats7 ss)) (flat (map (floats48 m) ss)) (m .coords ++ xs)))
+        let p = (m .radius ∷ flat (map floats7 ss)) ++ flat (map (sixteen m) ss) in
+        let n : length p ≡ 1761 = rw (length-append, flat-length 7 (map floats7 ss) (each7 m ss), flat-length 48 (map (sixteen m) ss) (each48 m ss), length-map, length-map, hs) refl in
+        ap (λ (l : List Float). take (3 * m .verts) (drop 1761 l)) (sym (append-assoc (m .radius ∷ flat (map floats7 ss)) (flat (map (sixteen m) ss)) (m .coords ++ xs)))
         ∙ (ap (take (3 * m .verts)) (drop-at p (m .coords ++ xs) 1761 n) ∙ take-at (m .coords) xs (3 * m .verts) e)
 
     pub corners-held : (ys : List ℕ) → length (m .corners) ≡ 3 * m .faces → take (3 * m .faces) (drop (cornersFrom wd) (wordsOf m ss ys)) ≡ m .corners
     unfolding wordsOf
     corners-held ys e =
         let p = m .verts ∷ m .faces ∷ flat (map (placeRow m) ss) in
-        let n : length p ≡ cornersFrom wd = rw (flat-length wd (map (placeRow m) ss) (each3 m ss), map-length, hs) (omega arith) in
+        let n : length p ≡ cornersFrom wd = rw (flat-length wd (map (placeRow m) ss) (each3 m ss), length-map, hs) (omega arith) in
         ap (take (3 * m .faces)) (drop-at p (m .corners ++ ys) (cornersFrom wd) n) ∙ take-at (m .corners) ys (3 * m .faces) e
 
     pub words-long : (ys : List ℕ) → length (m .corners) ≡ 3 * m .faces → cornersFrom wd + 3 * m .faces ≤ length (wordsOf m ss ys)
     unfolding wordsOf
-    words-long ys e = rw (length-append, flat-length wd (map (placeRow m) ss) (each3 m ss), map-length, hs, length-append) (omega arith)
+    words-long ys e = rw (length-append, flat-length wd (map (placeRow m) ss) (each3 m ss), length-map, hs, length-append) (omega arith)
 
-    pub floats-long : (xs : List Float) → length (m .coords) ≡ 3 * m .verts → 1761 + 3 * m .verts ≤ length (floatsOf m ss xs)
-    unfolding floatsOf
-    floats-long xs e = rw (length-append, flat-length 7 (map floats7 ss) (each7 m ss), map-length, hs, length-append, flat-length 48 (map (floats48 m) ss) (each48 m ss), map-length, hs, length-append) (omega arith)
+    pub floats-long : (xs : List Float) → length (m .coords) ≡ 3 * m .verts → 1761 + 3 * m .verts ≤ length (laidOut m ss xs)
+    unfolding laidOut
+    floats-long xs e = rw (length-append, flat-length 7 (map floats7 ss) (each7 m ss), length-map, hs, length-append, flat-length 48 (map (sixteen m) ss) (each48 m ss), length-map, hs, length-append) (omega arith)
 
   -- two of place i's words, where the first stays
   module _ (m : Mesh) (ss : List Slot) (hs : length ss ≡ 32) (ys : List ℕ) (i : ℕ) (h : i < 32) where
@@ -215,7 +216,7 @@ module _ (wd : ℕ) (fm : Width wd) where
     two-words s x y e =
         let a = map (placeRow m) ss in
         let b = set a i (set (getD a i []) 1 x) in
-        let la : length a ≡ 32 = map-length (placeRow m) ss ∙ hs in
+        let la : length a ≡ 32 = length-map ss (placeRow m) ∙ hs in
         let g : getD a i [] ≡ placeRow m (getD ss i empty) = map-getD (placeRow m) ss i empty [] (rw hs h) in
         let lr : length (set (getD a i []) 1 x) ≡ wd = length-set (getD a i []) 1 x ∙ (ap length g ∙ len3 m (getD ss i empty)) in
         let i1 : 3 + wd * i ≡ 2 + (wd * i + 1) = omega arith in

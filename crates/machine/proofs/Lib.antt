@@ -1,4 +1,4 @@
-pub mod Unused
+pub mod Sixteen
 pub mod Rows
 pub mod Held
 pub mod Sane
@@ -13,5 +13,6 @@ pub mod Squeezing
 pub mod Claim
 pub mod Unaltered
 pub mod Opened
+pub mod Refused
 pub mod Listed
 pub mod Demand

@@ -24,8 +24,9 @@ use Rattle.pieces.specs.Lists.{pieceCount, greatestError, spread, fittedAll, li
 use Rattle.readings.specs.Readings.{noKernel, six, sixes}
 use Rattle.readings.specs.Lists.{set6-write}
 use Rattle.readings.specs.SixLaws.{whole, sixes-length, next-kernel, list-sound, count-of}
-use Rattle.machine.specs.Machine.{Mesh, Slot, empty, full}
+use Rattle.machine.specs.Machine.{Slot, empty, full}
 use Rattle.machine.specs.Fresh.{piecesTo, allPieces, kernelsOf, freshFilled, worstFrom}
+use Rattle.machine.specs.Demands.{Decomposed}
 
 -- ---- by kernels, with no places
 abbrev fits : Float → Kernel → List Kernel
@@ -49,10 +50,10 @@ filled-of [] = refl
 filled-of (empty ∷ ss) = omega (arith, filled-of ss)
 filled-of (full k fit p ∷ ss) = omega (arith, filled-of ss)
 
-worst-of : (m : Mesh) (e : Float) (ss : List Slot) → worstFrom m e ss ≡ worst (m .radius) e (kernelsOf ss)
-worst-of m e [] = refl
-worst-of m e (empty ∷ ss) = worst-of m e ss
-worst-of m e (full k fit p ∷ ss) = worst-of m (greater e (decomposed k (m .radius) .error)) ss
+worst-of : (r e : Float) (ss : List Slot) → worstFrom r e ss ≡ worst r e (kernelsOf ss)
+worst-of r e [] = refl
+worst-of r e (empty ∷ ss) = worst-of r e ss
+worst-of r e (full k fit p ∷ ss) = worst-of r (greater e (decomposed k r .error)) ss
 
 -- one kernel more, behind
 every-snoc : (r : Float) (ks : List Kernel) (k : Kernel) → every r (ks ++ (k ∷ [])) ≡ every r ks ++ fits r k
@@ -165,9 +166,10 @@ module _ (ks : List Kernel) (r : Float) where
       let s : spread L r n xs ≡ write xs 0 (sixes (every r ks)) = spread-to xs n (omega arith) (rw t room) ∙ ap (λ (l : List Kernel). write xs 0 (sixes (every r l))) t in
       rw (list-sound ks, count-of ks, c, e, s, le-leb (6 * length (every r ks)) (length xs) room) refl
 
-pub listed : (m : Mesh) (ss : List Slot) (run : List Float) → 6 * length (allPieces (m .radius) ss) ≤ length run
-    → listDecomposition (sixes (kernelsOf ss)) (m .radius) run
-    ≡ outcome (fittedAll (freshFilled ss) (length (allPieces (m .radius) ss)) (worstFrom m +0 ss)) (write run 0 (sixes (allPieces (m .radius) ss)))
-listed m ss run h =
-    let room = rw (every-of (m .radius) ss) at h in
-    rw (every-of (m .radius) ss, filled-of ss, worst-of m +0 ss) (all-listed (kernelsOf ss) (m .radius) run room)
+pub listed : (r : Float) (ss : List Slot) → Decomposed r ss
+listed r ss =
+    record {
+      listed = λ run h.
+          let room = rw (every-of r ss) at h in
+          rw (every-of r ss, filled-of ss, worst-of r +0 ss) (all-listed (kernelsOf ss) r run room);
+    }

@@ -22,9 +22,11 @@ use Rattle.layout.specs.Left.{held}
 use Rattle.base.specs.Answers.{outcome}
 use Rattle.readings.specs.Readings.{Reading, density, report, list, byMass, needsWork, Part, bare, densityAt, rawMass, origin, applied, rescaled, Seen, seeing, listing, answerOf, refusing, readingOf, heldFilled, heldWorst, heldSeen, readStep}
 use Rattle.machine.specs.Machine.{Mesh, Slot, empty, full, leftSum}
-use Rattle.machine.specs.Holding.{Width, triangles, placeRow, floatsOf, wordsOf}
+use Rattle.machine.specs.Holding.{triangles, placeRow, wordsOf}
 use Rattle.machine.specs.Fresh.{filledOne, freshFilled, worseOne, worstFrom, workedAfresh}
 use Rattle.machine.specs.Valid.{Within, Valid}
+use Rattle.machine.proofs.Rows.{Width}
+use Rattle.machine.proofs.Sixteen.{laidOut}
 use Rattle.machine.proofs.Held.{get7, status-held, coords-held, corners-held}
 use Rattle.machine.proofs.Sane.{no-fault}
 use Rattle.machine.proofs.Sweep.{left-held}
@@ -57,13 +59,13 @@ blind (list v out) n s t e =
     ap (λ (a : Float). listing a (map bare (s .parts)) out) (applied-blind v n (s .parts) (t .parts) e)
     ∙ ap (λ (ks : List Kernel). listing (applied v (t .parts)) ks out) e
 
-same-seen : {p p′ : List Part} {b b′ : Float} {n n′ : ℕ} {e e′ : Float} → p ≡ p′ → b ≡ b′ → n ≡ n′ → e ≡ e′
+pub same-seen : {p p′ : List Part} {b b′ : Float} {n n′ : ℕ} {e e′ : Float} → p ≡ p′ → b ≡ b′ → n ≡ n′ → e ≡ e′
     → seeing p b n e ≡ seeing p′ b′ n′ e′
 same-seen hp hb hn he = rw (hp, hb, hn, he) refl
 
 module _ (wd : ℕ) (fm : Width wd) (m : Mesh) (ss : List Slot) (v : Valid m ss) (xs : List Float) (ys : List ℕ) where
   abbrev FS : List Float
-  FS = floatsOf m ss xs
+  FS = laidOut m ss xs
 
   abbrev WS : List ℕ
   WS = wordsOf m ss ys
@@ -73,9 +75,9 @@ module _ (wd : ℕ) (fm : Width wd) (m : Mesh) (ss : List Slot) (v : Valid m ss)
   filled-snoc [] s = omega arith
   filled-snoc (x ∷ l) s = omega (arith, filled-snoc l s)
 
-  worst-snoc : (e : Float) (l : List Slot) (s : Slot) → worstFrom m e (l ++ (s ∷ [])) ≡ worseOne m (worstFrom m e l) s
+  worst-snoc : (e : Float) (l : List Slot) (s : Slot) → worstFrom (m .radius) e (l ++ (s ∷ [])) ≡ worseOne (m .radius) (worstFrom (m .radius) e l) s
   worst-snoc e [] s = refl
-  worst-snoc e (x ∷ l) s = worst-snoc (worseOne m e x) l s
+  worst-snoc e (x ∷ l) s = worst-snoc (worseOne (m .radius) e x) l s
 
   not-empty : (fit : Pieces) → eqb (1 + fit .count) 0 ≡ false
   not-empty fit = ne-eqb (1 + fit .count) 0 (λ e. omega arith)
@@ -84,7 +86,7 @@ module _ (wd : ℕ) (fm : Width wd) (m : Mesh) (ss : List Slot) (v : Valid m ss)
   filled-one empty = refl
   filled-one (full k fit p) = rw (not-empty fit) refl
 
-  worst-one : (i : ℕ) → i < 32 → (e : Float) (s : Slot) → getD ss i empty ≡ s → Within m s → cond (eqb (getD (placeRow m s) 0 0) 0) e (greater e (getD FS (7 + 7 * i) nan)) ≡ worseOne m e s
+  worst-one : (i : ℕ) → i < 32 → (e : Float) (s : Slot) → getD ss i empty ≡ s → Within m s → cond (eqb (getD (placeRow m s) 0 0) 0) e (greater e (getD FS (7 + 7 * i) nan)) ≡ worseOne (m .radius) e s
   worst-one i h e empty q w = refl
   worst-one i h e (full k fit p) q w =
       let a : 7 + 7 * i ≡ 1 + (7 * i + 6) = omega arith in
@@ -96,11 +98,11 @@ module _ (wd : ℕ) (fm : Width wd) (m : Mesh) (ss : List Slot) (v : Valid m ss)
   filled-to (suc n) h =
       rw (status-held wd fm m ss (v .slots) ys n h, filled-one (getD ss n empty), filled-to n (omega arith), take-suc ss n empty (rw (v .slots) h), filled-snoc (take n ss) (getD ss n empty)) refl
 
-  worst-to : (n : ℕ) → n ≤ 32 → heldWorst wd FS WS n ≡ worstFrom m +0 (take n ss)
+  worst-to : (n : ℕ) → n ≤ 32 → heldWorst wd FS WS n ≡ worstFrom (m .radius) +0 (take n ss)
   unfolding heldWorst
   worst-to zero h = refl
   worst-to (suc n) h =
-      rw (status-held wd fm m ss (v .slots) ys n h, worst-to n (omega arith), worst-one n h (worstFrom m +0 (take n ss)) (getD ss n empty) refl (v .within n), take-suc ss n empty (rw (v .slots) h), worst-snoc +0 (take n ss) (getD ss n empty)) refl
+      rw (status-held wd fm m ss (v .slots) ys n h, worst-to n (omega arith), worst-one n h (worstFrom (m .radius) +0 (take n ss)) (getD ss n empty) refl (v .within n), take-suc ss n empty (rw (v .slots) h), worst-snoc +0 (take n ss) (getD ss n empty)) refl
 
   all : take 32 ss ≡ ss
   all = take-all 32 ss (rw (v .slots) (omega arith))
@@ -120,7 +122,7 @@ module _ (wd : ℕ) (fm : Width wd) (m : Mesh) (ss : List Slot) (v : Valid m ss)
   whole-seen : leftSum m ss ≡ 0 → heldSeen wd FS WS ≡ freshSeen m ss
   unfolding heldSeen freshSeen
   whole-seen z =
-      same-seen (whole-all wd fm m ss v xs ys z) body-held (filled-to 32 (omega arith) ∙ ap freshFilled all) (worst-to 32 (omega arith) ∙ ap (worstFrom m +0) all)
+      same-seen (whole-all wd fm m ss v xs ys z) body-held (filled-to 32 (omega arith) ∙ ap freshFilled all) (worst-to 32 (omega arith) ∙ ap (worstFrom (m .radius) +0) all)
 
   bare-seen : map bare (heldSeen wd FS WS .parts) ≡ map bare (freshSeen m ss .parts)
   unfolding heldSeen freshSeen

@@ -14,8 +14,9 @@ use Rattle.layout.specs.Layout.{coordsFrom, cornersFrom}
 use Rattle.store.specs.Calls.{after, openCheck, openFloats, openWords, openStep}
 use Rattle.store.specs.OpenLaws.{open-passes}
 use Rattle.machine.specs.Machine.{Mesh, Slot, empty, meshOf}
-use Rattle.machine.specs.Holding.{Width, width3, flat, placeRow, floats7, floats48, floatsOf, wordsOf, excessF, excessW}
+use Rattle.machine.specs.Holding.{flat, placeRow, floats7, floats48, floatsOf, wordsOf, excessF, excessW}
 use Rattle.machine.specs.Valid.{Within, Valid}
+use Rattle.machine.proofs.Rows.{Width, width3}
 
 -- ---- zeros
 flat-same : {A : Type 0} (g : Slot → List A) (k : ℕ) (z : A) → g empty ≡ replicate k z → (n : ℕ) → flat (map g (replicate n empty)) ≡ replicate (k * n) z

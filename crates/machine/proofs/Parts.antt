@@ -42,4 +42,4 @@ freshAll m [] = []
 freshAll m (s ∷ ss) = freshSlot m s ++ freshAll m ss
 
 unfoldable pub freshSeen : Mesh → List Slot → Seen
-freshSeen m ss = seeing (freshAll m ss) (bodyVolume (triangles m) (m .faces)) (freshFilled ss) (worstFrom m +0 ss)
+freshSeen m ss = seeing (freshAll m ss) (bodyVolume (triangles m) (m .faces)) (freshFilled ss) (worstFrom (m .radius) +0 ss)

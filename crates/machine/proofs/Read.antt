@@ -1,6 +1,6 @@
 -- What a store holds is what working afresh gives: but for volumes at all times, and with no work left whole. Assumes nothing.
 use mathlib.Core.Path.{_≡_, refl, sym, ap, subst, _∙_}
-use mathlib.Core.List.{List, [], _∷_, _++_, map, append-assoc, append-nil}
+use mathlib.Core.List.{List, [], _∷_, _++_, map, map-id, map-append, append-assoc, append-nil}
 use Prim.Native.Nat.{ℕ, zero, suc, _+_, _*_, _-_, _≤_, _<_, min}
 use native.Mathlib.Nat.{zero-mul, suc-mul, le-refl, mul-le-mul}
 use native.Mathlib.Omega.{arith}
@@ -13,18 +13,12 @@ use Rattle.kernel.specs.declared.kernel.Kernel.{Kernel}
 use Rattle.pieces.specs.declared.pieces.Pieces.{Pieces}
 use Rattle.readings.specs.Readings.{Part, bare, heldPart, heldAt, heldAll}
 use Rattle.machine.specs.Machine.{Mesh, Slot, empty, full, need, leftSlot, leftSum}
-use Rattle.machine.specs.Holding.{Width, triangles, cells, placeRow, floatsOf, wordsOf}
+use Rattle.machine.specs.Holding.{triangles, cells, placeRow, wordsOf}
+use Rattle.machine.proofs.Rows.{Width}
+use Rattle.machine.proofs.Sixteen.{laidOut}
 use Rattle.machine.proofs.Parts.{freshPart, freshAt, freshSlot, freshAll}
 use Rattle.machine.specs.Valid.{Within, Valid}
 use Rattle.machine.proofs.Held.{get7, get48, status-held}
-
-pub map-id : {A : Type 0} (l : List A) → map (λ (x : A). x) l ≡ l
-map-id [] = refl
-map-id (x ∷ l) = ap (λ (t : List _). x ∷ t) (map-id l)
-
-pub map-append : {A B : Type 0} (f : A → B) (l r : List A) → map f (l ++ r) ≡ map f l ++ map f r
-map-append f [] r = refl
-map-append f (x ∷ l) r = ap (λ (t : List _). f x ∷ t) (map-append f l r)
 
 -- ---- a place's cells: n pieces from j on, with t steps; u counts from j
 module _ (m : Mesh) (k : Kernel) (fit : Pieces) where
@@ -64,7 +58,7 @@ module _ (m : Mesh) (k : Kernel) (fit : Pieces) where
 
 module _ (wd : ℕ) (fm : Width wd) (m : Mesh) (ss : List Slot) (v : Valid m ss) (xs : List Float) (ys : List ℕ) where
   abbrev FS : List Float
-  FS = floatsOf m ss xs
+  FS = laidOut m ss xs
 
   abbrev WS : List ℕ
   WS = wordsOf m ss ys

@@ -9,6 +9,10 @@ use lib.Seq.{getD-append-add, set-append-left, take-append-add, drop-append-add,
 use Rattle.runs.specs.Runs.{write}
 use Rattle.machine.specs.Holding.{flat}
 
+-- the words to a place for which the proofs stand: three, as `placeRow` has them
+pub data Width : ℕ → Type 0 where
+  width3 : Width 3
+
 module _ {A : Type 0} where
   pub set-append-add : (xs ys : List A) (n : ℕ) (v : A) → set (xs ++ ys) (length xs + n) v ≡ xs ++ set ys n v
   set-append-add [] ys n v = rw zero-add refl
@@ -65,10 +69,6 @@ module _ {A B : Type 0} where
 pub each-map : {A C : Type 0} (k : ℕ) (g : A → List C) → ((a : A) → length (g a) ≡ k) → (l : List A) → Each k (map g l)
 each-map k g h [] = none
 each-map k g h (x ∷ l) = more (h x) (each-map k g h l)
-
-pub map-length : {A B : Type 0} (g : A → B) (l : List A) → length (map g l) ≡ length l
-map-length g [] = refl
-map-length g (x ∷ l) = ap suc (map-length g l)
 
 pub each-set : {A : Type 0} (k : ℕ) (rs : List (List A)) → Each k rs → (i : ℕ) (v : List A) → length v ≡ k → Each k (set rs i v)
 each-set k [] none i v h = none

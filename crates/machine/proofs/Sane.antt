@@ -14,8 +14,10 @@ use Rattle.mesh.specs.Checks.{vertexLimit, faceLimit}
 use Rattle.layout.specs.Layout.{coordsFrom, cornersFrom, facesOf}
 use Rattle.layout.specs.Soundness.{every, longEnough, slotSound, slotSoundAt, sound, storeCheck}
 use Rattle.machine.specs.Machine.{Mesh, Slot, empty, full}
-use Rattle.machine.specs.Holding.{Width, placeRow, floatsOf, wordsOf}
+use Rattle.machine.specs.Holding.{placeRow, wordsOf}
 use Rattle.machine.specs.Valid.{Within, Valid}
+use Rattle.machine.proofs.Rows.{Width}
+use Rattle.machine.proofs.Sixteen.{laidOut}
 use Rattle.machine.proofs.Held.{status-held, finished-held, done-held, words-long, floats-long, corners-held}
 
 -- the words of n pieces, f faces and p steps are sound
@@ -66,12 +68,12 @@ module _ (wd : ℕ) (fm : Width wd) (m : Mesh) (ss : List Slot) (v : Valid m ss)
       rw (slots-sound n (omega arith), status-held wd fm m ss (v .slots) ys n h, finished-held wd fm m ss (v .slots) ys n h, done-held wd fm m ss (v .slots) ys n h, faces-held)
       (slot-sound m (getD ss n empty) (v .within n))
 
-  pub no-fault : storeCheck wd (floatsOf m ss xs) (wordsOf m ss ys) ≡ Passed
+  pub no-fault : storeCheck wd (laidOut m ss xs) (wordsOf m ss ys) ≡ Passed
   unfolding storeCheck longEnough sound wordsOf
   no-fault =
       rw (
         le-leb (cornersFrom wd + 3 * m .faces) (length (wordsOf m ss ys)) (words-long wd fm m ss (v .slots) ys (v .mesh .corners)),
-        le-leb (coordsFrom + 3 * m .verts) (length (floatsOf m ss xs)) (floats-long wd fm m ss (v .slots) xs (v .mesh .coords)),
+        le-leb (coordsFrom + 3 * m .verts) (length (laidOut m ss xs)) (floats-long wd fm m ss (v .slots) xs (v .mesh .coords)),
         le-leb (m .verts) vertexLimit (v .mesh .verts),
         le-leb (m .faces) faceLimit (v .mesh .faces),
         slots-sound 32 (omega arith),

@@ -1,6 +1,6 @@
 -- A squeezed mesh: what the runs hold of it, that it is valid, and that the work left is the same. Assumes nothing.
 use mathlib.Core.Path.{_≡_, refl, sym, ap, _∙_}
-use mathlib.Core.List.{List, [], _∷_, _++_, map, append-assoc}
+use mathlib.Core.List.{List, [], _∷_, _++_, map, map-congr-left, append-assoc}
 use Prim.Native.Nat.{ℕ, zero, suc, _+_, _-_, _≤_, _<_, min}
 use native.Mathlib.Nat.{add-zero}
 use native.Mathlib.Omega.{arith}
@@ -24,16 +24,12 @@ use Rattle.squeeze.specs.MarkLaws.{rank-le}
 use Rattle.squeeze.specs.SqueezeLaws.{kept-length, squeezed-length}
 use Rattle.squeeze.specs.TriangleLaws.{same-triangle, still-below}
 use Rattle.machine.specs.Machine.{Mesh, Slot, empty, full, leftSlot, leftSum, slim, freedBy}
-use Rattle.machine.specs.Holding.{Width, triangles, flat, floats7, floats48, cells, placeRow, floatsOf, wordsOf}
+use Rattle.machine.specs.Holding.{triangles, flat, floats7, cells, placeRow, wordsOf}
 use Rattle.machine.specs.Valid.{Within, Shape, Valid}
-use Rattle.machine.proofs.Unused.{okay}
+use Rattle.machine.proofs.Sixteen.{sixteen, laidOut, okay}
 use Rattle.machine.proofs.Slim.{thinned, slim-is, freed-is}
-use Rattle.machine.proofs.Rows.{flat-length, map-length, write-append-add}
+use Rattle.machine.proofs.Rows.{Width, flat-length, write-append-add}
 use Rattle.machine.proofs.Held.{each3, each7, each48}
-
-map-same : {A B : Type 0} (f g : A → B) → ((a : A) → f a ≡ g a) → (l : List A) → map f l ≡ map g l
-map-same f g h [] = refl
-map-same f g h (x ∷ l) = rw (h x, map-same f g h l) refl
 
 front : {A : Type 0} (q vs rest : List A) → length vs ≡ length q → write (q ++ rest) 0 vs ≡ vs ++ rest
 unfolding write
@@ -68,9 +64,9 @@ module _ (m : Mesh) (xs : List Float) (ks : List ℕ) (w : ℕ) where
     cells-same k fit zero j t = refl
     cells-same k fit (suc n) j t = rw (volume-same (centreOf k) (getD (fit .sigma) j nan) (min (m .faces) t) (omega arith), cells-same k fit n (suc j) (t - m .faces)) refl
 
-    floats48-same : (s : Slot) → floats48 (remesh m xs ks w) s ≡ floats48 m s
-    floats48-same empty = refl
-    floats48-same (full k fit p) = cells-same k fit 16 0 p
+    sixteen-same : (s : Slot) → sixteen (remesh m xs ks w) s ≡ sixteen m s
+    sixteen-same empty = refl
+    sixteen-same (full k fit p) = cells-same k fit 16 0 p
 
 -- squeezed once more
 pub squeezed-shape : (m : Mesh) (xs : List Float) (ks : List ℕ) (w : ℕ) → Shape (remesh m xs ks w) → Shape (remesh m (keptTo ks xs w) (renumbered ks) (rank ks w))
@@ -127,20 +123,20 @@ module _ (wd : ℕ) (fm : Width wd) (m : Mesh) (ss : List Slot) (v : Valid m ss)
       append-assoc a (replicate n +0) (replicate g +0 ++ xs)
       ∙ ap (λ (l : List Float). a ++ l) (sym (append-assoc (replicate n +0) (replicate g +0) xs) ∙ ap (λ (l : List Float). l ++ xs) (replicate-append-replicate n g +0))
 
-  floats-thinned : (g : ℕ) (xs : List Float) → write (floatsOf m ss (replicate g +0 ++ xs)) coordsFrom (squeezed (m .corners) (m .coords) (m .verts))
-      ≡ floatsOf (thinned m) ss (replicate (freedOf (m .corners) (m .verts) + g) +0 ++ xs)
-  unfolding floatsOf
+  floats-thinned : (g : ℕ) (xs : List Float) → write (laidOut m ss (replicate g +0 ++ xs)) coordsFrom (squeezed (m .corners) (m .coords) (m .verts))
+      ≡ laidOut (thinned m) ss (replicate (freedOf (m .corners) (m .verts) + g) +0 ++ xs)
+  unfolding laidOut
   floats-thinned g xs =
       let a = m .radius ∷ flat (map floats7 ss) in
-      let b = flat (map (floats48 m) ss) in
+      let b = flat (map (sixteen m) ss) in
       let p = a ++ b in
       let rest = replicate g +0 ++ xs in
       let vs = squeezed (m .corners) (m .coords) (m .verts) in
       let k = kept m ss v in
       let past = replicate (freedOf (m .corners) (m .verts) + g) +0 ++ xs in
-      let n : length p ≡ coordsFrom = rw (length-append, flat-length 7 (map floats7 ss) (each7 wd fm m ss), flat-length 48 (map (floats48 m) ss) (each48 wd fm m ss), map-length, map-length, v .slots) refl in
+      let n : length p ≡ coordsFrom = rw (length-append, flat-length 7 (map floats7 ss) (each7 wd fm m ss), flat-length 48 (map (sixteen m) ss) (each48 wd fm m ss), length-map, length-map, v .slots) refl in
       let l : length vs ≡ length (m .coords) = squeezed-length (m .corners) (m .coords) (m .verts) ∙ sym (v .mesh .coords) in
-      let s : map (floats48 (thinned m)) ss ≡ map (floats48 m) ss = map-same (floats48 (thinned m)) (floats48 m) (floats48-same m k (renumbered (m .corners)) (fewer m ss v) (thin-triangles m ss v)) ss in
+      let s : map (sixteen (thinned m)) ss ≡ map (sixteen m) ss = map-congr-left {l = ss} (λ t h. sixteen-same m k (renumbered (m .corners)) (fewer m ss v) (thin-triangles m ss v) t) in
       ap (λ (t : List Float). write t coordsFrom vs) (sym (append-assoc a b (m .coords ++ rest)))
       ∙ (write-mid p (m .coords) vs rest coordsFrom n l
       ∙ (ap (λ (t : List Float). p ++ t) (regroup k (freedOf (m .corners) (m .verts)) g xs)
@@ -150,14 +146,14 @@ module _ (wd : ℕ) (fm : Width wd) (m : Mesh) (ss : List Slot) (v : Valid m ss)
   unfolding wordsOf
   words-thinned ys =
       let p = m .verts ∷ m .faces ∷ flat (map (placeRow m) ss) in
-      let n : length p ≡ cornersFrom wd = rw (flat-length wd (map (placeRow m) ss) (each3 wd fm m ss), map-length, v .slots) (omega arith) in
-      let s : map (placeRow (thinned m)) ss ≡ map (placeRow m) ss = map-same (placeRow (thinned m)) (placeRow m) (row-same m (kept m ss v) (renumbered (m .corners)) (fewer m ss v)) ss in
+      let n : length p ≡ cornersFrom wd = rw (flat-length wd (map (placeRow m) ss) (each3 wd fm m ss), length-map, v .slots) (omega arith) in
+      let s : map (placeRow (thinned m)) ss ≡ map (placeRow m) ss = map-congr-left {l = ss} (λ t h. row-same m (kept m ss v) (renumbered (m .corners)) (fewer m ss v) t) in
       ap (λ (t : List ℕ). set t 0 (rank (m .corners) (m .verts))) (write-mid p (m .corners) (renumbered (m .corners)) ys (cornersFrom wd) n (length-map (m .corners) (rank (m .corners))))
       ∙ ap (λ (r : List (List ℕ)). rank (m .corners) (m .verts) ∷ m .faces ∷ (flat r ++ (renumbered (m .corners) ++ ys))) (sym s)
 
   -- what the store's squeeze writes holds the machine's slim mesh
-  pub floats-squeezed : (g : ℕ) (xs : List Float) → write (floatsOf m ss (replicate g +0 ++ xs)) coordsFrom (squeezed (m .corners) (m .coords) (m .verts))
-      ≡ floatsOf (slim m) ss (replicate (freedBy m + g) +0 ++ xs)
+  pub floats-squeezed : (g : ℕ) (xs : List Float) → write (laidOut m ss (replicate g +0 ++ xs)) coordsFrom (squeezed (m .corners) (m .coords) (m .verts))
+      ≡ laidOut (slim m) ss (replicate (freedBy m + g) +0 ++ xs)
   floats-squeezed g xs = rw (same-mesh m ss v, freed-is m) (floats-thinned g xs)
 
   pub words-squeezed : (ys : List ℕ) → set (write (wordsOf m ss ys) (cornersFrom wd) (renumbered (m .corners))) 0 (rank (m .corners) (m .verts)) ≡ wordsOf (slim m) ss ys

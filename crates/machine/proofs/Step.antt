@@ -20,8 +20,9 @@ use Rattle.kernel.specs.declared.kernel.Kernel.{Kernel}
 use Rattle.pieces.specs.declared.pieces.Pieces.{Pieces}
 use Rattle.advance.specs.Steps.{Work, work, oneFace}
 use Rattle.machine.specs.Machine.{Mesh, Slot, empty, full, need}
-use Rattle.machine.specs.Holding.{Width, triangles, finished, cells, floatsOf}
-use Rattle.machine.proofs.Rows.{set-append-add}
+use Rattle.machine.specs.Holding.{triangles, finished, cells}
+use Rattle.machine.proofs.Sixteen.{laidOut}
+use Rattle.machine.proofs.Rows.{Width, set-append-add}
 use Rattle.machine.proofs.Held.{get48, set-piece}
 
 module _ (m : Mesh) (k : Kernel) (fit : Pieces) (hf : 0 < m .faces) where
@@ -107,7 +108,7 @@ module _ (wd : ℕ) (fm : Width wd) where
         go (suc f) e = omega arith
 
     pub one-step : (q n : ℕ) → getD ss i empty ≡ full k fit q → q < need m fit → 0 < n
-        → stepAt (work (floatsOf m ss xs) (finished m fit q) (q % m .faces) n) ≡ work (floatsOf m (set ss i (full k fit (q + 1))) xs) (finished m fit (q + 1)) ((q + 1) % m .faces) (n - 1)
+        → stepAt (work (laidOut m ss xs) (finished m fit q) (q % m .faces) n) ≡ work (laidOut m (set ss i (full k fit (q + 1))) xs) (finished m fit (q + 1)) ((q + 1) % m .faces) (n - 1)
     unfolding oneFace
     one-step q n e l hn =
         let f = m .faces in
@@ -143,9 +144,9 @@ module _ (wd : ℕ) (fm : Width wd) where
 
   module _ (m : Mesh) (ss : List Slot) (hs : length ss ≡ 32) (xs : List Float) (i : ℕ) (h : i < 32) (k : Kernel) (fit : Pieces) (p : ℕ) (e : getD ss i empty ≡ full k fit p) (fw : fit .count ≤ 16) (hp : p ≤ need m fit) (n : ℕ) where
     abbrev at : ℕ → Work
-    at u = work (floatsOf m (set ss i (full k fit (p + u))) xs) (finished m fit (p + u)) ((p + u) % m .faces) (n - u)
+    at u = work (laidOut m (set ss i (full k fit (p + u))) xs) (finished m fit (p + u)) ((p + u) % m .faces) (n - u)
 
-    at-zero : work (floatsOf m ss xs) (finished m fit p) (p % m .faces) n ≡ at 0
+    at-zero : work (laidOut m ss xs) (finished m fit p) (p % m .faces) n ≡ at 0
     at-zero =
         let z : set ss i (full k fit p) ≡ ss = ap (set ss i) (sym e) ∙ set-getD ss i empty in
         let s : n - 0 ≡ n = omega arith in
@@ -168,7 +169,7 @@ module _ (wd : ℕ) (fm : Width wd) where
         let q : p + (need m fit - p) ≡ need m fit = omega arith in
         rw (q, finished-all m ss hs xs i h k fit fw, le-ltb (fit .count) (fit .count) (omega arith)) refl
 
-    pub run-steps : (t : ℕ) → t ≤ n → iterate stepK t (work (floatsOf m ss xs) (finished m fit p) (p % m .faces) n) ≡ at (min t (need m fit - p))
+    pub run-steps : (t : ℕ) → t ≤ n → iterate stepK t (work (laidOut m ss xs) (finished m fit p) (p % m .faces) n) ≡ at (min t (need m fit - p))
     run-steps zero ht = let z : min 0 (need m fit - p) ≡ 0 = omega arith in rw z at-zero
     run-steps (suc t) ht = ap stepK (run-steps t (omega arith)) ∙ go (decLt t (need m fit - p))
       where

@@ -20,11 +20,12 @@ use Rattle.advance.specs.Steps.{work, Whole, whole, slotWork, stored, slotsRun}
 use Rattle.layout.specs.Left.{leftOf}
 use Rattle.advance.proofs.Steps.{idle}
 use Rattle.machine.specs.Machine.{Mesh, Slot, empty, full, need, leftSlot, leftSum, adv, bump}
-use Rattle.machine.specs.Holding.{Width, triangles, finished, placeRow, floatsOf, wordsOf}
+use Rattle.machine.specs.Holding.{triangles, finished, placeRow, wordsOf}
 use Rattle.machine.specs.Valid.{Within, Valid}
+use Rattle.machine.proofs.Rows.{Width}
 use Rattle.machine.proofs.Held.{get7, status-held, finished-held, done-held, two-words}
 use Rattle.machine.proofs.Step.{run-steps}
-use Rattle.machine.proofs.Unused.{okay}
+use Rattle.machine.proofs.Sixteen.{laidOut, okay}
 
 -- n steps, the first places first
 abbrev pub spread : Mesh → ℕ → List Slot → List Slot
@@ -33,7 +34,7 @@ spread m n (s ∷ ss) = adv (min n (leftSlot m s)) s ∷ spread m (n - leftSlot 
 
 module _ (wd : ℕ) (fm : Width wd) where
   module _ (m : Mesh) (ss : List Slot) (hs : length ss ≡ 32) (xs : List Float) (ys : List ℕ) (i : ℕ) (h : i < 32) where
-    pub centre-held : (k : Kernel) (fit : Pieces) (p : ℕ) → getD ss i empty ≡ full k fit p → centreAt (floatsOf m ss xs) i ≡ centreOf k
+    pub centre-held : (k : Kernel) (fit : Pieces) (p : ℕ) → getD ss i empty ≡ full k fit p → centreAt (laidOut m ss xs) i ≡ centreOf k
     unfolding centreOf
     centre-held k fit p e =
         let z : 1 + 7 * i ≡ 1 + (7 * i + 0) = omega arith in
@@ -42,10 +43,10 @@ module _ (wd : ℕ) (fm : Width wd) where
         rw (a, b, z, get7 wd fm m ss hs xs i h 0 (omega arith), get7 wd fm m ss hs xs i h 1 (omega arith), get7 wd fm m ss hs xs i h 2 (omega arith), e) refl
 
     abbrev spent : ℕ → Whole
-    spent n = stored wd (wordsOf m ss ys) i (slotWork wd (triangles m) (m .faces) i (whole (floatsOf m ss xs) (wordsOf m ss ys) n))
+    spent n = stored wd (wordsOf m ss ys) i (slotWork wd (triangles m) (m .faces) i (whole (laidOut m ss xs) (wordsOf m ss ys) n))
 
     abbrev moved : ℕ → Slot → Whole
-    moved n s = whole (floatsOf m (set ss i (adv (min n (leftSlot m s)) s)) xs) (wordsOf m (set ss i (adv (min n (leftSlot m s)) s)) ys) (n - leftSlot m s)
+    moved n s = whole (laidOut m (set ss i (adv (min n (leftSlot m s)) s)) xs) (wordsOf m (set ss i (adv (min n (leftSlot m s)) s)) ys) (n - leftSlot m s)
 
     place : (n : ℕ) (s : Slot) → getD ss i empty ≡ s → Within m s → spent n ≡ moved n s
     unfolding slotWork
@@ -57,7 +58,7 @@ module _ (wd : ℕ) (fm : Width wd) where
           finished-held wd fm m ss hs ys i h,
           done-held wd fm m ss hs ys i h,
           e,
-          idle (triangles m) (centreAt (floatsOf m ss xs) i) (m .faces) (225 + 48 * i) 0 n (work (floatsOf m ss xs) 0 0 n) refl,
+          idle (triangles m) (centreAt (laidOut m ss xs) i) (m .faces) (225 + 48 * i) 0 n (work (laidOut m ss xs) 0 0 n) refl,
           two-words wd fm m ss hs ys i h empty 0 0 (rw e refl),
           d,
           z,
@@ -102,7 +103,7 @@ module _ (wd : ℕ) (fm : Width wd) where
       prefix k = spread m n (take k ss) ++ drop k ss
 
       abbrev swept : ℕ → Whole
-      swept k = whole (floatsOf m (prefix k) xs) (wordsOf m (prefix k) ys) (n - leftSum m (take k ss))
+      swept k = whole (laidOut m (prefix k) xs) (wordsOf m (prefix k) ys) (n - leftSum m (take k ss))
 
       prefix-split : (k : ℕ) → k < 32 → prefix k ≡ spread m n (take k ss) ++ (getD ss k empty ∷ drop (suc k) ss)
       prefix-split k h = ap (λ (t : List Slot). spread m n (take k ss) ++ t) (drop-cons ss k empty (rw (v .slots) h))
@@ -122,7 +123,7 @@ module _ (wd : ℕ) (fm : Width wd) where
           let a = adv (min (n - leftSum m (take k ss)) (leftSlot m s)) s in
           rw (prefix-split k h, set-at (spread m n (take k ss)) s (drop (suc k) ss) a k (head-length k (omega arith)), take-suc ss k empty (rw (v .slots) h), spread-snoc n (take k ss) s, append-assoc) refl
 
-      pub run-held : (k : ℕ) → k ≤ 32 → slotsRun wd (triangles m) (m .faces) k (whole (floatsOf m ss xs) (wordsOf m ss ys) n) ≡ swept k
+      pub run-held : (k : ℕ) → k ≤ 32 → slotsRun wd (triangles m) (m .faces) k (whole (laidOut m ss xs) (wordsOf m ss ys) n) ≡ swept k
       unfolding slotsRun
       run-held zero h = let e : n - 0 ≡ n = omega arith in rw e refl
       run-held (suc k) h =
@@ -132,7 +133,7 @@ module _ (wd : ℕ) (fm : Width wd) where
           rw (run-held k (omega arith))
           (place-held m (prefix k) (prefix-length k h) xs ys k h (n - leftSum m (take k ss)) (rw g (v .within k)) ∙ rw (g, prefix-next k h, q) refl)
 
-      pub all-held : slotsRun wd (triangles m) (m .faces) 32 (whole (floatsOf m ss xs) (wordsOf m ss ys) n) ≡ whole (floatsOf m (spread m n ss) xs) (wordsOf m (spread m n ss) ys) (n - leftSum m ss)
+      pub all-held : slotsRun wd (triangles m) (m .faces) 32 (whole (laidOut m ss xs) (wordsOf m ss ys) n) ≡ whole (laidOut m (spread m n ss) xs) (wordsOf m (spread m n ss) ys) (n - leftSum m ss)
       all-held =
           let t : take 32 ss ≡ ss = take-all 32 ss (rw (v .slots) (omega arith)) in
           let d : drop 32 ss ≡ [] = drop-of-length-le ss {i = 32} (rw (v .slots) (omega arith)) in

@@ -19,23 +19,22 @@ use Rattle.kernel.specs.declared.kernel.Kernel.{Kernel}
 use Rattle.pieces.specs.declared.pieces.Pieces.{Pieces}
 use Rattle.pieces.specs.Pieces.{decomposed}
 use Rattle.layout.specs.Layout.{slotLimit}
-use Rattle.readings.specs.Readings.{Reading, Part, seeing, answerOf}
+use Rattle.readings.specs.Readings.{Reading, answerOf}
 use Rattle.squeeze.specs.Squeeze.{rank, renumbered, keptTo}
 use Rattle.squeeze.specs.Marks.{Below}
 use Rattle.squeeze.specs.TriangleLaws.{same-triangle}
 use Rattle.machine.specs.Machine.{Mesh, Slot, empty, full, bump, Machine, Turn, turn, freedBy, stepsOf, putTurn, clearTurn, reweighTurn}
-use Rattle.machine.specs.Holding.{Width, triangles}
-use Rattle.machine.specs.Fresh.{worseOne, worstFrom, workedAfresh}
+use Rattle.machine.specs.Holding.{triangles}
+use Rattle.machine.specs.Fresh.{workedAfresh}
 use Rattle.machine.specs.Calls.{Call, put, clear, reweigh, advance, squeeze, read, machine, holding, without, others, heard}
 use Rattle.machine.specs.Valid.{Shape, Valid}
+use Rattle.machine.proofs.Rows.{Width}
 use Rattle.machine.proofs.Parts.{freshPart, freshAt, freshSlot, freshAll, freshSeen}
 use Rattle.machine.proofs.Afresh.{joined}
 use Rattle.machine.proofs.Slim.{slim-is}
+use Rattle.machine.proofs.Look.{same-seen}
 use Rattle.machine.proofs.Squeezing.{remesh, squeezed-shape, left-same, left-sum-same, volume-same}
 use Rattle.machine.proofs.Claim.{one-call, kept}
-
-same-seen : {p p′ : List Part} {b b′ : Float} {n : ℕ} {e e′ : Float} → p ≡ p′ → b ≡ b′ → e ≡ e′ → seeing p b n e ≡ seeing p′ b′ n e′
-same-seen hp hb he = rw (hp, hb, he) refl
 
 -- ---- on another mesh of the same radius, faces and triangles
 module _ (m : Mesh) (xs : List Float) (ks : List ℕ) (w : ℕ) where
@@ -49,14 +48,6 @@ module _ (m : Mesh) (xs : List Float) (ks : List ℕ) (w : ℕ) where
   bumps-same : (k : ℕ) (ss : List Slot) → iterate (bump n) k ss ≡ iterate (bump m) k ss
   bumps-same zero ss = refl
   bumps-same (suc k) ss = ap (bump n) (bumps-same k ss) ∙ bump-same (iterate (bump m) k ss)
-
-  worse-same : (e : Float) (s : Slot) → worseOne n e s ≡ worseOne m e s
-  worse-same e empty = refl
-  worse-same e (full k fit p) = refl
-
-  worst-same : (e : Float) (ss : List Slot) → worstFrom n e ss ≡ worstFrom m e ss
-  worst-same e [] = refl
-  worst-same e (s ∷ ss) = ap (λ (x : Float). worstFrom n x ss) (worse-same e s) ∙ worst-same (worseOne m e s) ss
 
   module _ (same : (f : ℕ) → f < m .faces → triangleAt xs ks f ≡ triangles m f) where
     part-same : (k : Kernel) (fit : Pieces) (j : ℕ) → freshPart n k fit j ≡ freshPart m k fit j
@@ -76,7 +67,7 @@ module _ (m : Mesh) (xs : List Float) (ks : List ℕ) (w : ℕ) where
 
     seen-same : (ss : List Slot) → freshSeen n ss ≡ freshSeen m ss
     unfolding freshSeen
-    seen-same ss = same-seen (all-same ss) (volume-same m xs ks w same origin +0 (m .faces) (omega arith)) (worst-same +0 ss)
+    seen-same ss = same-seen (all-same ss) (volume-same m xs ks w same origin +0 (m .faces) (omega arith)) refl refl
 
     pub afresh-same : Shape n → Shape m → (ss : List Slot) (r : Reading) → workedAfresh n ss r ≡ workedAfresh m ss r
     afresh-same g h ss r = sym (joined n g ss r) ∙ (ap (answerOf r) (seen-same ss) ∙ joined m h ss r)

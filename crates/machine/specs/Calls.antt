@@ -1,4 +1,5 @@
--- Demand 3: the calls of a list, what the machine does at each, the store's calls by their contracts, and the sums over a list. Definitions only.
+-- Demand 3: the calls of a list, what the machine does at each, the store's calls by their contracts, and the sums
+-- over a list. Definitions only.
 use mathlib.Core.Bool.{_&&_, cond}
 use mathlib.Core.List.{List, [], _∷_, _++_}
 use Prim.Native.Nat.{ℕ, _+_}
@@ -16,7 +17,7 @@ use Rattle.advance.specs.Steps.{advanceStep}
 use Rattle.put.specs.Puts.{putStep}
 use Rattle.readings.specs.Readings.{Reading, needsWork, refusing, readStep}
 use Rattle.squeeze.specs.Squeeze.{squeezeStep}
-use Rattle.machine.specs.Machine.{empty, leftSum, Machine, Turn, turn, putTurn, clearTurn, reweighTurn, advanceTurn, squeezeTurn}
+use Rattle.machine.specs.Machine.{empty, Machine, workLeft, Turn, turn, putTurn, clearTurn, reweighTurn, advanceTurn, squeezeTurn}
 use Rattle.machine.specs.Holding.{floatsOf, wordsOf}
 use Rattle.machine.specs.Fresh.{workedAfresh}
 
@@ -30,17 +31,25 @@ pub data Call : Type 0 where
   read : Reading → Call
 
 -- ---- the machine: "It refuses by the table below as its own places stand; a refused call changes nothing."
+
+-- row 6: "place ≥ 32"
+abbrev pub inPlace : Machine → ℕ → Turn → Turn
+inPlace m i t = cond (ltb i slotLimit) t (turn m (refused NoPlace))
+
+-- row 8: "left > 0", for a reading that needs the work; else it is worked afresh. No reading changes the machine
+abbrev pub readTurn : Machine → Reading → Outcome
+readTurn m r = cond (needsWork r && ltb 0 (workLeft m)) (refusing r Unfinished) (workedAfresh (m .mesh) (m .slots) r)
+
 abbrev pub given : Machine → Outcome → Turn
 given m a = record { next = m; reply = a .reply; out = a .out }
 
 unfoldable pub machine : Machine → Call → Turn
-machine m (put i k) = cond (ltb i slotLimit) (putTurn m i k (decomposed k (m .mesh .radius))) (turn m (refused NoPlace))
-machine m (clear i) = cond (ltb i slotLimit) (clearTurn m i (getD (m .slots) i empty)) (turn m (refused NoPlace))
-machine m (reweigh i v) = cond (ltb i slotLimit) (reweighTurn m i v (getD (m .slots) i empty)) (turn m (refused NoPlace))
+machine m (put i k) = inPlace m i (putTurn m i k (decomposed k (m .mesh .radius)))
+machine m (clear i) = inPlace m i (clearTurn m i (getD (m .slots) i empty))
+machine m (reweigh i v) = inPlace m i (reweighTurn m i v (getD (m .slots) i empty))
 machine m (advance n) = advanceTurn m n
 machine m squeeze = squeezeTurn m
-machine m (read r) =
-    given m (cond (needsWork r && ltb 0 (leftSum (m .mesh) (m .slots))) (refusing r Unfinished) (workedAfresh (m .mesh) (m .slots) r))
+machine m (read r) = given m (readTurn m r)
 
 -- ---- the store
 
@@ -85,10 +94,8 @@ abbrev pub past : Machine → List Float → List Float
 past m xs = replicate (m .freed) +0 ++ xs
 
 abbrev pub holding : Machine → List Float → List ℕ → Store
-holding m xs ys = record { floats = floatsOf (m .mesh) (m .slots) (past m xs); words = wordsOf (m .mesh) (m .slots) ys }
-
-abbrev pub shown : List Float → List ℕ → Turn → Result
-shown xs ys t = record { left = holding (t .next) xs ys; reply = t .reply; out = t .out }
+holding m xs ys =
+    record { floats = floatsOf (m .mesh) (m .slots) (past m xs); words = wordsOf (m .mesh) (m .slots) ys }
 
 -- ---- the sums: "charged is the need summed over accepted puts' answers"; a refused call answers no count
 abbrev pub chargedBy : Call → Answer → ℕ

@@ -1,6 +1,7 @@
--- 01, "The store": "Afresh: the machine's filled places in order, on the opening's mesh and radius, each decomposed, `kernel_volume` of every piece over
--- all F faces, then the reading's functions by its convention; nothing comes from the runs". Said with demand 2's functions alone: `decomposed`,
--- `fieldMassCall`, `densitized`, `bodyVolumeCall` are what the contracts of the calls of these names cite. Definitions only.
+-- 01, "The store": "Afresh: the machine's filled places in order, on the opening's mesh and radius, each decomposed,
+-- `kernel_volume` of every piece over all F faces, then the reading's functions by its convention; nothing comes from
+-- the runs". Said with demand 2's functions alone: `decomposed`, `fieldMassCall`, `densitized` and `bodyVolumeCall`
+-- are what the contracts of those calls cite. Definitions only.
 use mathlib.Core.List.{List, [], _∷_, _++_, map}
 use Prim.Native.Nat.{ℕ, zero, suc, _+_, _*_}
 use lib.ListN.{length, getD}
@@ -53,13 +54,13 @@ abbrev pub freshFilled : List Slot → ℕ
 freshFilled [] = 0
 freshFilled (s ∷ ss) = filledOne s + freshFilled ss
 
-abbrev pub worseOne : Mesh → Float → Slot → Float
-worseOne m e empty = e
-worseOne m e (full k fit p) = greater e (decomposed k (m .radius) .error)
+abbrev pub worseOne : Float → Float → Slot → Float
+worseOne radius e empty = e
+worseOne radius e (full k fit p) = greater e (decomposed k radius .error)
 
-abbrev pub worstFrom : Mesh → Float → List Slot → Float
-worstFrom m e [] = e
-worstFrom m e (s ∷ ss) = worstFrom m (worseOne m e s) ss
+abbrev pub worstFrom : Float → Float → List Slot → Float
+worstFrom radius e [] = e
+worstFrom radius e (s ∷ ss) = worstFrom radius (worseOne radius e s) ss
 
 -- ---- "then the reading's functions by its convention", on a mesh m and pieces ks
 
@@ -81,12 +82,15 @@ bodyOf m = valueOf (bodyVolumeCall (m .coords) (m .corners))
 abbrev pub scaledList : Convention → Mesh → List Kernel → List Float
 scaledList v m ks = sixes (map (rescaled (appliedScale v (massOf m ks) (rho0Scale (bulkOf v) (originOf ks)))) ks)
 
--- "Density is `densitize` on rescaled pieces"; the report; "List writes c, sigma, rescaled w, alpha per piece and answers the piece count", row 9
+-- "Density is `densitize` on rescaled pieces"; the report; "List writes c, sigma, rescaled w, alpha per piece and
+-- answers the piece count", row 9
 abbrev pub readingOn : Mesh → List Kernel → ℕ → Float → Reading → Outcome
 readingOn m ks filled worst (density v x) = outcome (densitized (scaledList v m ks) x) []
-readingOn m ks filled worst (report v) = outcome (reported (reportOf v (massOf m ks) (originOf ks) (bodyOf m)) filled (length ks) worst) []
+readingOn m ks filled worst (report v) =
+    outcome (reported (reportOf v (massOf m ks) (originOf ks) (bodyOf m)) filled (length ks) worst) []
 readingOn m ks filled worst (list v out) =
-    guardedRun (roomCheck (6 * length ks) (length out)) out (outcome (counted (length ks ∷ [])) (write out 0 (scaledList v m ks)))
+    guardedRun (roomCheck (6 * length ks) (length out)) out
+    (outcome (counted (length ks ∷ [])) (write out 0 (scaledList v m ks)))
 
 unfoldable pub workedAfresh : Mesh → List Slot → Reading → Outcome
-workedAfresh m ss r = readingOn m (allPieces (m .radius) ss) (freshFilled ss) (worstFrom m +0 ss) r
+workedAfresh m ss r = readingOn m (allPieces (m .radius) ss) (freshFilled ss) (worstFrom (m .radius) +0 ss) r

@@ -1,7 +1,7 @@
 -- 01, "The store": the two runs that hold a machine, field by field. Definitions only.
 use mathlib.Core.Bool.{cond}
 use mathlib.Core.List.{List, [], _∷_, _++_, map}
-use Prim.Native.Nat.{ℕ, zero, suc, _+_, _-_, _/_, _%_, min}
+use Prim.Native.Nat.{ℕ, zero, suc, _+_, _*_, _-_, _/_, _%_, min}
 use lib.Dec.{eqb}
 use lib.ListN.{length, getD, drop, replicate}
 use lib.Ieee.{Float, nan}
@@ -20,22 +20,27 @@ use Rattle.machine.specs.Machine.{Mesh, Slot, empty, full}
 -- "place i's c, sigma, w, alpha, error"; "Unused fields are zero"
 abbrev pub floats7 : Slot → List Float
 floats7 empty = replicate 7 +0
-floats7 (full k fit p) = getD (k .c) 0 nan ∷ getD (k .c) 1 nan ∷ getD (k .c) 2 nan ∷ k .sigma ∷ k .w ∷ k .alpha ∷ fit .error ∷ []
+floats7 (full k fit p) =
+    getD (k .c) 0 nan ∷ getD (k .c) 1 nan ∷ getD (k .c) 2 nan ∷ k .sigma ∷ k .w ∷ k .alpha ∷ fit .error ∷ []
 
 abbrev pub triangles : Mesh → ℕ → Triangle
 triangles m = triangleAt (m .coords) (m .corners)
 
--- "its 16 pieces (sigma, coefficient, volume so far, which is `kernel_volume`'s running sum over that piece's faces done)": n pieces from j on. t steps
--- were made on them: min(F, t) on piece j, the others on those after it. Past the last piece none was made, and all is +0 (`unused` of Valid.antt)
+-- "its 16 pieces (sigma, coefficient, volume so far, which is `kernel_volume`'s running sum over that piece's faces
+-- done, 0 before the first and over all F once it is finished)": n pieces from j on. t steps were made on them: min(F,
+-- t) on piece j, the others on those after it
 abbrev pub cells : Mesh → Kernel → Pieces → ℕ → ℕ → ℕ → List Float
 cells m k fit zero j t = []
 cells m k fit (suc n) j t =
-    getD (fit .sigma) j nan ∷ getD (fit .coefficient) j nan ∷ volumeTo (triangles m) (centreOf k) (getD (fit .sigma) j nan) (min (m .faces) t)
+    getD (fit .sigma) j nan
+    ∷ getD (fit .coefficient) j nan
+    ∷ volumeTo (triangles m) (centreOf k) (getD (fit .sigma) j nan) (min (m .faces) t)
     ∷ cells m k fit n (suc j) (t - m .faces)
 
+-- "Unused fields are zero": those of the pieces past its last
 abbrev pub floats48 : Mesh → Slot → List Float
 floats48 m empty = replicate 48 +0
-floats48 m (full k fit p) = cells m k fit 16 0 p
+floats48 m (full k fit p) = cells m k fit (fit .count) 0 p ++ replicate (48 - 3 * fit .count) +0
 
 -- rows one behind the other
 abbrev pub flat : {A : Type 0} → List (List A) → List A
@@ -46,13 +51,10 @@ flat (r ∷ rs) = r ++ flat rs
 unfoldable pub floatsOf : Mesh → List Slot → List Float → List Float
 floatsOf m ss xs = m .radius ∷ (flat (map floats7 ss) ++ (flat (map (floats48 m) ss) ++ (m .coords ++ xs)))
 
--- ---- the u32 run, of q words to a place
+-- ---- the u32 run
 
--- the words to a place that are proved: three, status, pieces finished, faces done
-pub data Width : ℕ → Type 0 where
-  width3 : Width 3
-
--- "status (0 empty, else 1 + pieces), pieces finished, faces done in the current piece"; "with F = 0 all are finished", and p is 0, so p % 0 is 0 too
+-- "status (0 empty, else 1 + pieces), pieces finished, faces done in the current piece"; "with F = 0 all are finished",
+-- and p is 0, so p % 0 is 0 too
 abbrev pub finished : Mesh → Pieces → ℕ → ℕ
 finished m fit p = cond (eqb (m .faces) 0) (fit .count) (p / m .faces)
 

@@ -1,25 +1,22 @@
 -- What every machine has that an opening and calls lead to: Demands.antt says so of each. Definitions only.
 use mathlib.Core.Path.{_≡_}
 use mathlib.Core.Bool.{true}
-use mathlib.Core.List.{List, _++_}
-use Prim.Native.Nat.{ℕ, _*_, _-_, _≤_}
-use lib.ListN.{length, getD, replicate}
-use Rattle.base.specs.Floats.{+0}
+use mathlib.Core.List.{List}
+use Prim.Native.Nat.{ℕ, _*_, _≤_}
+use lib.ListN.{length, getD}
 use Rattle.mesh.specs.Checks.{vertexLimit, faceLimit, allBelow}
 use Rattle.kernel.specs.declared.kernel.Kernel.{Kernel}
 use Rattle.pieces.specs.declared.pieces.Pieces.{Pieces}
 use Rattle.pieces.specs.Pieces.{decomposed}
 use Rattle.machine.specs.Machine.{Mesh, Slot, empty, full, need}
-use Rattle.machine.specs.Holding.{cells, floats48}
 
 -- a filled place
 pub record Okay (m : Mesh) (k : Kernel) (fit : Pieces) (p : ℕ) : Type 0 where
-  -- its pieces are those that its kernel's decomposition gives, its steps within its need
+  -- its pieces are those that its kernel's decomposition gives: "So a kernel has at most 16 pieces"
   pub fitted : fit ≡ decomposed k (m .radius)
   pub few : fit .count ≤ 16
+  -- its steps are within its need
   pub steps : p ≤ need m fit
-  -- "Unused fields are zero": of its 48 floats, those past the last piece
-  pub unused : floats48 m (full k fit p) ≡ cells m k fit (fit .count) 0 p ++ replicate (48 - 3 * fit .count) +0
 
 abbrev pub Within : Mesh → Slot → Type 0
 Within m empty = Unit {0}

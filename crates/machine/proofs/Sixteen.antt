@@ -1,6 +1,6 @@
--- Past a kernel's last piece the fields that hold a place are +0, whatever was done. Assumes nothing.
+-- The runs that hold a machine, by sixteen pieces to a filled place: past its last piece they are +0, whatever was done. Assumes nothing.
 use mathlib.Core.Path.{_≡_, refl, sym, ap, subst, _∙_}
-use mathlib.Core.List.{List, _++_}
+use mathlib.Core.List.{List, [], _∷_, _++_, map}
 use Prim.Native.Nat.{ℕ, zero, suc, _+_, _*_, _-_, _≤_, min}
 use native.Mathlib.Nat.{suc-mul, zero-mul, suc-add, zero-add, add-zero, sub-zero}
 use native.Mathlib.Omega.{arith}
@@ -14,9 +14,9 @@ use Rattle.kernel.specs.declared.kernel.Kernel.{Kernel}
 use Rattle.pieces.specs.declared.pieces.Pieces.{Pieces}
 use Rattle.pieces.specs.Pieces.{decomposed}
 use Rattle.pieces.specs.PieceLaws.{Clean, clean, at-most-16}
-use Rattle.machine.specs.Machine.{Mesh, need}
-use Rattle.machine.specs.Holding.{triangles, cells}
-use Rattle.machine.specs.Valid.{Okay}
+use Rattle.machine.specs.Machine.{Mesh, Slot, empty, full, need}
+use Rattle.machine.specs.Holding.{triangles, cells, flat, floats7, floats48, floatsOf}
+use Rattle.machine.specs.Valid.{Okay, Within, Valid}
 
 module _ (m : Mesh) (k : Kernel) (fit : Pieces) where
   -- no step, no volume
@@ -43,17 +43,33 @@ module _ (m : Mesh) (k : Kernel) (fit : Pieces) where
 
 -- a filled place whose pieces are its kernel's and whose steps are within its need
 pub okay : (m : Mesh) (k : Kernel) (fit : Pieces) (p : ℕ) → fit ≡ decomposed k (m .radius) → p ≤ need m fit → Okay m k fit p
-okay m k fit p f h =
+okay m k fit p f h = record { fitted = f; few = subst (λ (x : Pieces). x .count ≤ 16) (sym f) (at-most-16 k (m .radius)); steps = h }
+
+-- ---- a place's floats by sixteen pieces, as the calls write them
+abbrev pub sixteen : Mesh → Slot → List Float
+sixteen m empty = replicate 48 +0
+sixteen m (full k fit p) = cells m k fit 16 0 p
+
+unfoldable pub laidOut : Mesh → List Slot → List Float → List Float
+laidOut m ss xs = m .radius ∷ (flat (map floats7 ss) ++ (flat (map (sixteen m) ss) ++ (m .coords ++ xs)))
+
+place-laid : (m : Mesh) (s : Slot) → Within m s → floats48 m s ≡ sixteen m s
+place-laid m empty w = refl
+place-laid m (full k fit p) w =
     let n = fit .count in
-    let few : n ≤ 16 = subst (λ (x : Pieces). x .count ≤ 16) (sym f) (at-most-16 k (m .radius)) in
-    let e : 16 ≡ n + (16 - n) = omega arith in
-    let z : p - n * m .faces ≡ 0 = omega (arith, h) in
+    let f = w .few in
+    let e : n + (16 - n) ≡ 16 = omega arith in
+    let z : p - n * m .faces ≡ 0 = omega (arith, w .steps) in
     let q : (16 - n) * 3 ≡ 48 - 3 * n = omega arith in
-    record {
-      fitted = f;
-      few = few;
-      steps = h;
-      unused = ap (λ (c : ℕ). cells m k fit c 0 p) e
-          ∙ cells-split m k fit n (16 - n) 0 p
-          ∙ ap (λ (l : List Float). cells m k fit n 0 p ++ l) (cells-zero m k fit (subst Clean (sym f) (clean k (m .radius))) (16 - n) (0 + n) (p - n * m .faces) (omega arith) (omega arith) z ∙ ap (λ (c : ℕ). replicate c +0) q);
-    }
+    let c = subst Clean (sym (w .fitted)) (clean k (m .radius)) in
+    ap (λ (l : List Float). cells m k fit n 0 p ++ l)
+    (sym (cells-zero m k fit c (16 - n) (0 + n) (p - n * m .faces) (omega arith) (omega arith) z ∙ ap (λ (j : ℕ). replicate j +0) q))
+    ∙ (sym (cells-split m k fit n (16 - n) 0 p) ∙ ap (λ (j : ℕ). cells m k fit j 0 p) e)
+
+places-laid : (m : Mesh) (ss : List Slot) → ((i : ℕ) → Within m (getD ss i empty)) → map (floats48 m) ss ≡ map (sixteen m) ss
+places-laid m [] w = refl
+places-laid m (s ∷ ss) w = rw (place-laid m s (w zero), places-laid m ss (λ i. w (suc i))) refl
+
+pub laid-out : (m : Mesh) (ss : List Slot) → Valid m ss → (xs : List Float) → floatsOf m ss xs ≡ laidOut m ss xs
+unfolding floatsOf laidOut
+laid-out m ss v xs = rw (places-laid m ss (v .within)) refl
