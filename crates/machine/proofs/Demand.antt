@@ -2,34 +2,33 @@
 use mathlib.Core.Path.{_≡_, refl, sym, ap, subst, _∙_}
 use mathlib.Core.Bool.{Bool, true, false, _&&_, cond, and-eq-true-iff}
 use mathlib.Core.List.{List, [], _∷_, map}
-use Prim.Native.Nat.{ℕ, _+_, _*_, _/_, _≤_, min}
+use Prim.Native.Nat.{ℕ, _*_, _<_, min}
 use native.Mathlib.Omega.{arith}
 use lib.Dec.{ltb, leb}
 use lib.ListN.{length}
 use lib.Ieee.{Float}
 use borrow.Author.Tests.{lt-ltb, ltb-true}
-use Rattle.base.specs.Refusals.{number}
-use Rattle.base.specs.Answers.{andThen, Answer, refused, counted, Outcome, outcome, guardedRun}
-use Rattle.base.specs.declared.refusal.Refusal.{Refusal}
-use Rattle.base.specs.declared.refusal.Refusal.the-variants.{Ragged, Oversize, LooseCorner, ShortStore, Unfinished, ShortList}
+use Rattle.base.specs.Answers.{Answer, refused, counted, Outcome, outcome, guardedRun}
+use Rattle.base.specs.declared.refusal.Refusal.the-variants.{Unfinished, ShortList}
 use Rattle.base.specs.declared.refusal.Checked.the-variants.{Passed, Failed}
 use Rattle.runs.specs.Runs.{write}
-use Rattle.mesh.specs.Checks.{ragged, oversize, allBelow, meshCheck}
-use Rattle.layout.specs.Layout.{width, coordsFrom, cornersFrom}
+use Rattle.layout.specs.Layout.{width}
 use Rattle.store.specs.Calls.{After, after, openCheck, openStep}
 use Rattle.readings.specs.Readings.{Reading, density, report, list, needsWork, bare, applied, rescaled, sixes, Seen, answerOf, refusing}
-use Rattle.machine.specs.Machine.{Mesh, leftSum, Machine, opened}
-use Rattle.machine.specs.Holding.{Width, width3, excessF, excessW}
+use Rattle.machine.specs.Machine.{Mesh, leftSum, Machine, opened, openRow}
+use Rattle.machine.specs.Holding.{excessF, excessW}
 use Rattle.machine.specs.Fresh.{workedAfresh}
 use Rattle.machine.specs.Calls.{Call, advance, read, machine, Store, Result, store, leaves, after-all, holding, leftIn, without, heard}
-use Rattle.machine.specs.Demands.{leaving, Same, Read, Each, end, next, Follows, Demand3}
+use Rattle.machine.specs.Demands.{Same, Read, Each, end, next, Follows, leaving, Accepted, refusedBy, Opens, Demand3}
 use Rattle.machine.specs.Valid.{Valid}
+use Rattle.machine.proofs.Rows.{Width, width3}
 use Rattle.machine.proofs.Parts.{freshSeen}
 use Rattle.machine.proofs.Afresh.{joined}
 use Rattle.machine.proofs.Claim.{one-call, kept, books, charges}
 use Rattle.machine.proofs.Unaltered.{From, from-start, from-next, on-opened, unaltered}
 use Rattle.machine.proofs.Listed.{listed}
 use Rattle.machine.proofs.Opened.{opens, opened-valid}
+use Rattle.machine.proofs.Refused.{row}
 
 -- ---- what is answered is never 8
 listed-not : (b : Bool) (n : ℕ) (o out : List Float) → guardedRun (cond b Passed (Failed ShortList)) out (outcome (counted (n ∷ [])) o) .reply .refusal ≡ 8 → ⊥
@@ -107,44 +106,41 @@ module _ (wd : ℕ) (fm : Width wd) (exF : List Float) (exW : List ℕ) where
       let l : leftIn (store wd (leaves wd (holding m exF exW) cs) (advance 0) .reply) ≡ leftSum (after-all m cs .mesh) (after-all m cs .slots)
       = ap (λ (t : Store). leftIn (store wd t (advance 0) .reply)) (i .0) ∙ left-asked (after-all m cs) (i .1) in
       let b = books wd fm cs m v exF exW in
-      record { calls = each (m .mesh) cs m v (from-start (m .mesh) (v .mesh)); valid = i .1; pieces = record { listed = listed (m .mesh) (after-all m cs .slots) }; sums = omega arith; charged = omega (arith, charges wd fm cs m v exF exW) }
+      record { calls = each (m .mesh) cs m v (from-start (m .mesh) (v .mesh)); valid = i .1; pieces = listed (m .mesh .radius) (after-all m cs .slots); sums = omega arith; charged = omega (arith, charges wd fm cs m v exF exW) }
 
--- ---- the refusals of an opening
-open-number : (q n : ℕ) (ks : List ℕ) (a b : ℕ) (e : Refusal) → openCheck q n ks a b ≡ Failed e → number e ≤ 4
-unfolding openCheck meshCheck
-open-number q n ks a b e h = go (ragged n ks) (oversize n ks) (allBelow (n / 3) ks) (leb (coordsFrom + n) a && leb (cornersFrom q + length ks) b) h
-  where
-    is : (x : Refusal) → number x ≤ 4 → Failed x ≡ Failed e → number e ≤ 4
-    is x l z = let y : x ≡ e = cc in rw y at l
+-- ---- from an opening on
+module _ (wd : ℕ) (fm : Width wd) (r : Float) (xs : List Float) (ks : List ℕ) (fs : List Float) (ws : List ℕ) where
+  abbrev n : ℕ
+  n = openRow wd xs ks (length fs) (length ws)
 
-    go : (x y z w : Bool) → andThen (cond x (Failed Ragged) (cond y (Failed Oversize) (cond z Passed (Failed LooseCorner)))) (cond w Passed (Failed ShortStore)) ≡ Failed e → number e ≤ 4
-    go true y z w h = is Ragged (omega arith) h
-    go false true z w h = is Oversize (omega arith) h
-    go false false false w h = is LooseCorner (omega arith) h
-    go false false true false h = is ShortStore (omega arith) h
-    go false false true true h = absurd (let o : _≡_ {A = ℕ} 0 1 = cc in omega arith)
+  abbrev exF : List Float
+  exF = excessF xs fs
 
-refuses : (q : ℕ) (r : Float) (xs : List Float) (ks : List ℕ) (fs : List Float) (ws : List ℕ) (e : Refusal)
-    → openCheck q (length xs) ks (length fs) (length ws) ≡ Failed e → openStep q fs ws r xs ks ≡ after (refused e) fs ws
-unfolding openStep
-refuses q r xs ks fs ws e h = rw h refl
+  abbrev exW : List ℕ
+  exW = excessW wd ks ws
 
-pub demand3 : (wd : ℕ) → Width wd → (r : Float) (xs : List Float) (ks : List ℕ) (fs : List Float) (ws : List ℕ) → Demand3 wd r xs ks fs ws
-demand3 wd fm r xs ks fs ws =
-    record {
-      refused-as = refuses wd r xs ks fs ws;
-      one-to-four = open-number wd (length xs) ks (length fs) (length ws);
-      accepted = λ h. ap (λ (a : After). a .reply) (opens wd fm r xs ks fs ws h);
-      holds = holds;
-      every-list = λ h cs. subst (λ (s : Store). Follows wd (excessF xs fs) (excessW wd ks ws) (opened r xs ks) s cs) (sym (holds h))
-          (follows wd fm (excessF xs fs) (excessW wd ks ws) cs (opened r xs ks) (opened-valid wd fm r xs ks (length fs) (length ws) h) refl refl refl);
-      unaltered = λ h cs. subst (λ (s : Store). heard wd s cs ≡ heard wd s (without cs)) (sym (holds h))
-          (unaltered wd fm (excessF xs fs) (excessW wd ks ws) (opened r xs ks) (opened-valid wd fm r xs ks (length fs) (length ws) h) cs);
-    }
-  where
-    holds : openCheck wd (length xs) ks (length fs) (length ws) ≡ Passed → leaving (openStep wd fs ws r xs ks) ≡ holding (opened r xs ks) (excessF xs fs) (excessW wd ks ws)
-    holds h = ap leaving (opens wd fm r xs ks fs ws h)
+  passed : n ≡ 0 → openCheck wd (length xs) ks (length fs) (length ws) ≡ Passed
+  passed = row wd xs ks (length fs) (length ws) .none
 
--- at the width that the contracts cite
-pub demand3-here : (r : Float) (xs : List Float) (ks : List ℕ) (fs : List Float) (ws : List ℕ) → Demand3 width r xs ks fs ws
-demand3-here = demand3 width width3
+  refuses : 0 < n → openStep wd fs ws r xs ks ≡ after (refusedBy n) fs ws
+  unfolding openStep
+  refuses h = row wd xs ks (length fs) (length ws) .some h fs ws _
+
+  holds : n ≡ 0 → leaving (openStep wd fs ws r xs ks) ≡ holding (opened r xs ks) exF exW
+  holds h = ap leaving (opens wd fm r xs ks fs ws (passed h))
+
+  accepts : n ≡ 0 → Accepted wd r xs ks fs ws
+  accepts h =
+      let v = opened-valid wd fm r xs ks (length fs) (length ws) (passed h) in
+      record {
+        reply = ap (λ (a : After). a .reply) (opens wd fm r xs ks fs ws (passed h));
+        holds = holds h;
+        every-list = λ cs. subst (λ (s : Store). Follows wd exF exW (opened r xs ks) s cs) (sym (holds h)) (follows wd fm exF exW cs (opened r xs ks) v refl refl refl);
+        unaltered = λ cs. subst (λ (s : Store). heard wd s cs ≡ heard wd s (without cs)) (sym (holds h)) (unaltered wd fm exF exW (opened r xs ks) v cs);
+      }
+
+  opens-at : Opens wd r xs ks fs ws
+  opens-at = record { refused-as = refuses; accepted = accepts }
+
+pub demand3 : Demand3
+demand3 = opens-at width width3

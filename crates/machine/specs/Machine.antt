@@ -1,8 +1,8 @@
 -- 01, "The store": the machine, "fed only the calls' arguments, never the store's runs". Definitions only.
-use mathlib.Core.Bool.{cond}
+use mathlib.Core.Bool.{Bool, false, not, _||_, cond}
 use mathlib.Core.List.{List, [], _∷_, _++_, map}
-use Prim.Native.Nat.{ℕ, zero, suc, _+_, _*_, _-_, _/_, min}
-use lib.Dec.{eqb}
+use Prim.Native.Nat.{ℕ, zero, suc, _+_, _*_, _-_, _/_, _%_, min}
+use lib.Dec.{ltb, leb, eqb}
 use lib.ListN.{length, getD, set, replicate}
 use lib.Ieee.{Float}
 use Rattle.base.specs.Loops.{iterate}
@@ -53,7 +53,12 @@ pub record Machine : Type 0 where
   -- the coordinates that squeezes freed
   pub freed : ℕ
 
--- what a call does: the machine after it, the reply, and the run lent beside the store as it is then ([] where none is lent)
+-- the work left in all places
+abbrev pub workLeft : Machine → ℕ
+workLeft m = leftSum (m .mesh) (m .slots)
+
+-- what a call does: the machine after it, the reply, and the run lent beside the store as it is then ([] where none is
+-- lent)
 pub record Turn : Type 0 where
   pub next : Machine
   pub reply : Answer
@@ -64,19 +69,48 @@ turn m r = record { next = m; reply = r; out = [] }
 
 -- with other places, and so much more charged and dropped
 abbrev pub with-slots : Machine → List Slot → ℕ → ℕ → Machine
-with-slots m ss c d = record { mesh = m .mesh; slots = ss; charged = m .charged + c; dropped = m .dropped + d; freed = m .freed }
+with-slots m ss c d =
+    record {
+      mesh = m .mesh;
+      slots = ss;
+      charged = m .charged + c;
+      dropped = m .dropped + d;
+      freed = m .freed;
+    }
 
 -- "Open copies a mesh and radius; all empty, charged = dropped = 0"
 abbrev pub meshOf : Float → List Float → List ℕ → Mesh
 meshOf r xs ks = record { radius = r; coords = xs; corners = ks; verts = length xs / 3; faces = length ks / 3 }
 
 abbrev pub opened : Float → List Float → List ℕ → Machine
-opened r xs ks = record { mesh = meshOf r xs ks; slots = replicate slotLimit empty; charged = 0; dropped = 0; freed = 0 }
+opened r xs ks =
+    record { mesh = meshOf r xs ks; slots = replicate slotLimit empty; charged = 0; dropped = 0; freed = 0 }
+
+-- "index ≥ V": some corner names no vertex
+abbrev pub looseIn : ℕ → List ℕ → Bool
+looseIn v [] = false
+looseIn v (k ∷ ks) = leb v k || looseIn v ks
+
+-- which of the table's rows 1 to 4 refuses an opening of coordinates xs and corners ks, in runs of a floats and b words
+-- with q words to a place: "The lowest that applies is returned alone"; 0 where none applies
+unfoldable pub openRow : ℕ → List Float → List ℕ → ℕ → ℕ → ℕ
+openRow q xs ks a b =
+    let v = length xs / 3 in
+    let f = length ks / 3 in
+    -- "coordinate or index count not a multiple of 3"
+    cond (not (eqb (length xs % 3) 0) || not (eqb (length ks % 3) 0)) 1
+    -- "V vertices ≤ 1,048,576; F faces ≤ 2,097,152": "V or F above limit"
+    (cond (ltb 1048576 v || ltb 2097152 f) 2
+    -- "index ≥ V"
+    (cond (looseIn v ks) 3
+    -- "below 1,761+3V floats or 98+3F words": 98 is 2 + 32q
+    (cond (ltb a (1761 + 3 * v) || ltb b (2 + 32 * q + 3 * f)) 4 0)))
 
 -- "Put: charged += need, dropped += the old need - p (0 for an empty place), p = 0. Answers pieces and need."
 abbrev pub putTurn : Machine → ℕ → Kernel → Pieces → Turn
 putTurn m i k fit =
-    turn (with-slots m (set (m .slots) i (full k fit 0)) (need (m .mesh) fit) (leftSlot (m .mesh) (getD (m .slots) i empty)))
+    let old = getD (m .slots) i empty in
+    turn (with-slots m (set (m .slots) i (full k fit 0)) (need (m .mesh) fit) (leftSlot (m .mesh) old))
     (counted (fit .count ∷ need (m .mesh) fit ∷ []))
 
 -- "Clear: dropped += need - p; empty."
@@ -92,13 +126,14 @@ abbrev pub reweighTurn : Machine → ℕ → Float → Slot → Turn
 reweighTurn m i v empty = turn m (refused Vacant)
 reweighTurn m i v (full k fit p) = turn (with-slots m (set (m .slots) i (full (weighed k v) fit p)) 0 0) done
 
--- "Advance(n, u64): does min(n, left) steps, lowest unfinished place first .. the step count in its result is done, beside left"
+-- "Advance(n, u64): does min(n, left) steps, lowest unfinished place first, one face of one piece each; the step count
+-- in its result is done, beside left"
 abbrev pub bump : Mesh → List Slot → List Slot
 bump m [] = []
 bump m (s ∷ ss) = cond (eqb (leftSlot m s) 0) (s ∷ bump m ss) (adv 1 s ∷ ss)
 
 abbrev pub stepsOf : Machine → ℕ → ℕ
-stepsOf m n = min n (leftSum (m .mesh) (m .slots))
+stepsOf m n = min n (workLeft m)
 
 abbrev pub advanceTurn : Machine → ℕ → Turn
 advanceTurn m n =
@@ -141,6 +176,13 @@ freedBy m = 3 * (m .verts - length (usedBelow (m .corners) (m .verts)))
 -- places and sums stay
 abbrev pub squeezeTurn : Machine → Turn
 squeezeTurn m =
+    let n = freedBy (m .mesh) in
     turn
-    (record { mesh = slim (m .mesh); slots = m .slots; charged = m .charged; dropped = m .dropped; freed = freedBy (m .mesh) + m .freed })
-    (counted (freedBy (m .mesh) ∷ []))
+    (record {
+      mesh = slim (m .mesh);
+      slots = m .slots;
+      charged = m .charged;
+      dropped = m .dropped;
+      freed = n + m .freed;
+    })
+    (counted (n ∷ []))
