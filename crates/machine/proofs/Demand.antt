@@ -14,11 +14,11 @@ use Rattle.base.specs.declared.refusal.Checked.the-variants.{Passed, Failed}
 use Rattle.runs.specs.Runs.{write}
 use Rattle.layout.specs.Layout.{width}
 use Rattle.store.specs.Calls.{After, after, openCheck, openStep}
-use Rattle.readings.specs.Readings.{Reading, density, report, list, needsWork, bare, applied, rescaled, sixes, Seen, answerOf, refusing}
+use Rattle.readings.specs.Readings.{Reading, density, report, list, bare, applied, rescaled, sixes, Seen, answerOf, refusing}
 use Rattle.machine.specs.Machine.{Mesh, leftSum, Machine, opened, openRow}
 use Rattle.machine.specs.Holding.{excessF, excessW}
 use Rattle.machine.specs.Fresh.{workedAfresh}
-use Rattle.machine.specs.Calls.{Call, advance, read, machine, Store, Result, store, leaves, after-all, holding, leftIn, without, heard}
+use Rattle.machine.specs.Calls.{Call, advance, read, needs, machine, Store, Result, store, leaves, after-all, holding, leftIn, without, heard}
 use Rattle.machine.specs.Demands.{Same, Read, Each, end, next, Follows, leaving, Accepted, refusedBy, Opens, Demand3}
 use Rattle.machine.specs.Valid.{Valid}
 use Rattle.machine.proofs.Rows.{Width, width3}
@@ -69,13 +69,13 @@ module _ (wd : ℕ) (fm : Width wd) (exF : List Float) (exW : List ℕ) where
       let er = ap (λ (x : Result). x .reply) e in
       let eo = ap (λ (x : Result). x .out) e in
       let l = leftSum (m .mesh) (m .slots) in
-      let b = needsWork r && ltb 0 l in
+      let b = needs r && ltb 0 l in
       let f = workedAfresh (m .mesh) (m .slots) r in
       let j = joined (m .mesh) (v .mesh) (m .slots) r in
       let never : f .reply ≡ refused Unfinished → ⊥ = λ y. not-eight r (freshSeen (m .mesh) (m .slots)) (ap (λ (a : Outcome). a .reply) j ∙ y) in
       record {
         unfinished = λ n h. er ∙ rw (n, lt-ltb 0 l h) (eight r);
-        only-then = λ z. let t = and-eq-true-iff (needsWork r) (ltb 0 l) .0 (when-eight r f never b (sym er ∙ z)) in (t .0, ltb-true 0 l (t .1));
+        only-then = λ z. let t = and-eq-true-iff (needs r) (ltb 0 l) .0 (when-eight r f never b (sym er ∙ z)) in (t .0, ltb-true 0 l (t .1));
         afresh = λ z.
             let t = when-not r f b (λ y. z (er ∙ y)) ∙ on-opened o (m .mesh) g (m .slots) r in
             (er ∙ ap (λ (a : Outcome). a .reply) t, eo ∙ ap (λ (a : Outcome). a .out) t);

@@ -24,6 +24,7 @@ use Rattle.readings.specs.Readings.{Reading, density, report, list, byMass, nee
 use Rattle.machine.specs.Machine.{Mesh, Slot, empty, full, leftSum}
 use Rattle.machine.specs.Holding.{triangles, placeRow, wordsOf}
 use Rattle.machine.specs.Fresh.{filledOne, freshFilled, worseOne, worstFrom, workedAfresh}
+use Rattle.machine.specs.Calls.{byTarget, needs}
 use Rattle.machine.specs.Valid.{Within, Valid}
 use Rattle.machine.proofs.Rows.{Width}
 use Rattle.machine.proofs.Sixteen.{laidOut}
@@ -33,6 +34,17 @@ use Rattle.machine.proofs.Sweep.{left-held}
 use Rattle.machine.proofs.Read.{bare-all, whole-all}
 use Rattle.machine.proofs.Parts.{freshSeen}
 use Rattle.machine.proofs.Afresh.{joined}
+
+-- ---- the readings' row 8 is the machine's
+same-target : (v : Convention) → byMass v ≡ byTarget v
+same-target Raw = refl
+same-target (Rho0 b) = refl
+same-target (Mass t b) = refl
+
+same-needs : (r : Reading) → needsWork r ≡ needs r
+same-needs (density v x) = same-target v
+same-needs (report v) = refl
+same-needs (list v out) = same-target v
 
 -- ---- a reading that needs no work does not look at volumes
 zero-not : lt +0 +0 ≡ false
@@ -137,5 +149,8 @@ module _ (wd : ℕ) (fm : Width wd) (m : Mesh) (ss : List Slot) (v : Valid m ss)
       go true n true e = refl
       go true n false e = ap (answerOf r) (whole-seen (let z = ltb-false 0 (leftSum m ss) e in omega arith))
 
-  pub read-held : (r : Reading) → readStep wd FS WS r ≡ cond (needsWork r && ltb 0 (leftSum m ss)) (refusing r Unfinished) (workedAfresh m ss r)
-  read-held r = read-parts r ∙ ap (cond (needsWork r && ltb 0 (leftSum m ss)) (refusing r Unfinished)) (joined m (v .mesh) ss r)
+  pub read-held : (r : Reading) → readStep wd FS WS r ≡ cond (needs r && ltb 0 (leftSum m ss)) (refusing r Unfinished) (workedAfresh m ss r)
+  read-held r =
+      read-parts r
+      ∙ (ap (cond (needsWork r && ltb 0 (leftSum m ss)) (refusing r Unfinished)) (joined m (v .mesh) ss r)
+      ∙ ap (λ (b : Bool). cond (b && ltb 0 (leftSum m ss)) (refusing r Unfinished) (workedAfresh m ss r)) (same-needs r))

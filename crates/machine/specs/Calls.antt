@@ -1,11 +1,11 @@
 -- Demand 3: the calls of a list, what the machine does at each, the store's calls by their contracts, and the sums
 -- over a list. Definitions only.
-use mathlib.Core.Bool.{_&&_, cond}
+use mathlib.Core.Bool.{Bool, true, false, _&&_, cond}
 use mathlib.Core.List.{List, [], _∷_, _++_}
 use Prim.Native.Nat.{ℕ, _+_}
 use lib.Dec.{ltb}
 use lib.ListN.{getD, replicate}
-use lib.Ieee.{Float}
+use lib.Ieee.{Float, lt}
 use Rattle.base.specs.Floats.{+0}
 use Rattle.base.specs.Answers.{Answer, refused, Outcome, outcome}
 use Rattle.base.specs.declared.refusal.Refusal.the-variants.{NoPlace, Unfinished}
@@ -15,7 +15,9 @@ use Rattle.layout.specs.Layout.{slotLimit}
 use Rattle.store.specs.Calls.{After, clearStep, reweighStep}
 use Rattle.advance.specs.Steps.{advanceStep}
 use Rattle.put.specs.Puts.{putStep}
-use Rattle.readings.specs.Readings.{Reading, needsWork, refusing, readStep}
+use Rattle.density.specs.declared.convention.Convention.{Convention}
+use Rattle.density.specs.declared.convention.Convention.the-variants.{Raw, Rho0, Mass}
+use Rattle.readings.specs.Readings.{Reading, density, report, list, refusing, readStep}
 use Rattle.squeeze.specs.Squeeze.{squeezeStep}
 use Rattle.machine.specs.Machine.{empty, Machine, workLeft, Turn, turn, putTurn, clearTurn, reweighTurn, advanceTurn, squeezeTurn}
 use Rattle.machine.specs.Holding.{floatsOf, wordsOf}
@@ -36,9 +38,20 @@ pub data Call : Type 0 where
 abbrev pub inPlace : Machine → ℕ → Turn → Turn
 inPlace m i t = cond (ltb i slotLimit) t (turn m (refused NoPlace))
 
--- row 8: "left > 0", for a reading that needs the work; else it is worked afresh. No reading changes the machine
+-- row 8: "left > 0, for report, or density and list by mass with target > 0"
+abbrev pub byTarget : Convention → Bool
+byTarget Raw = false
+byTarget (Rho0 bulk) = false
+byTarget (Mass target bulk) = lt +0 target
+
+abbrev pub needs : Reading → Bool
+needs (density v x) = byTarget v
+needs (report v) = true
+needs (list v out) = byTarget v
+
+-- any other reading is worked afresh; no reading changes the machine
 abbrev pub readTurn : Machine → Reading → Outcome
-readTurn m r = cond (needsWork r && ltb 0 (workLeft m)) (refusing r Unfinished) (workedAfresh (m .mesh) (m .slots) r)
+readTurn m r = cond (needs r && ltb 0 (workLeft m)) (refusing r Unfinished) (workedAfresh (m .mesh) (m .slots) r)
 
 abbrev pub given : Machine → Outcome → Turn
 given m a = record { next = m; reply = a .reply; out = a .out }

@@ -14,12 +14,12 @@ use Rattle.runs.specs.Runs.{write}
 use Rattle.pieces.specs.Lists.{fittedAll, listDecomposition}
 use Rattle.layout.specs.Layout.{width}
 use Rattle.store.specs.Calls.{After, after, openStep}
-use Rattle.readings.specs.Readings.{Reading, needsWork, sixes}
+use Rattle.readings.specs.Readings.{Reading, sixes}
 use Rattle.machine.specs.Machine.{Mesh, Slot, Machine, workLeft, opened, openRow}
 use Rattle.machine.specs.Holding.{excessF, excessW}
 use Rattle.machine.specs.Valid.{Valid}
 use Rattle.machine.specs.Fresh.{kernelsOf, allPieces, freshFilled, worstFrom, workedAfresh}
-use Rattle.machine.specs.Calls.{Call, advance, read, machine, Store, store, leaves, after-all, holding, leftIn, chargedIn, doneIn, without, heard}
+use Rattle.machine.specs.Calls.{Call, advance, read, needs, machine, Store, store, leaves, after-all, holding, leftIn, chargedIn, doneIn, without, heard}
 
 -- ---- one call c: the store s beside the machine m, which "gets that opening and the same calls"; exF and exW are the
 -- excess of the two runs, as the opening found it
@@ -39,8 +39,8 @@ pub record Same (q : ℕ) (exF : List Float) (exW : List ℕ) (m : Machine) (s :
 -- ---- a reading r anywhere in a list; mesh is the mesh opened, of which squeezes may have dropped vertices in m
 pub record Read (q : ℕ) (mesh : Mesh) (m : Machine) (s : Store) (r : Reading) : Type 0 where
   -- "A reading is refused as unfinished exactly when the machine has work left that this reading needs."
-  pub unfinished : needsWork r ≡ true → 0 < workLeft m → store q s (read r) .reply ≡ refused Unfinished
-  pub only-then : store q s (read r) .reply ≡ refused Unfinished → (needsWork r ≡ true) × (0 < workLeft m)
+  pub unfinished : needs r ≡ true → 0 < workLeft m → store q s (read r) .reply ≡ refused Unfinished
+  pub only-then : store q s (read r) .reply ≡ refused Unfinished → (needs r ≡ true) × (0 < workLeft m)
   -- "Any other reading, its run long enough, answers and writes what demand 2's functions give, worked afresh on the
   -- mesh opened and the kernels then in the machine's places"; where its run is too short both give 9
   pub afresh : (store q s (read r) .reply ≡ refused Unfinished → ⊥)
