@@ -24,8 +24,8 @@ use Rattle.readings.specs.Readings.{Reading, density, report, list, Part, bare,
 use Rattle.readings.specs.SixLaws.{whole, list-sound, sixes-whole, whole-rescaled, densitized-on, sized, mass-on}
 use Rattle.machine.specs.Machine.{Mesh, Slot, empty, full}
 use Rattle.machine.specs.Holding.{triangles}
-use Rattle.machine.specs.Fresh.{piecesTo, piecesOf, allPieces, freshFilled, worstFrom, valueOf, massOf, originOf, readingOn, workedAfresh}
-use Rattle.machine.proofs.Parts.{freshAt, freshSlot, freshAll, freshSeen}
+use Rattle.machine.specs.Fresh.{kernelsOf, piecesTo, piecesOf, allPieces, worstFrom, valueOf, massOf, originOf, readingOn, workedAfresh}
+use Rattle.machine.proofs.Parts.{freshAt, freshAll, freshSeen}
 use Rattle.machine.specs.Valid.{Shape}
 
 abbrev partOf : Mesh → Kernel → Part
@@ -38,13 +38,12 @@ module _ (m : Mesh) where
   parts-to k fit zero = refl
   parts-to k fit (suc n) = rw (parts-to k fit n, map-append (partOf m) (piecesTo k fit n) (pieceAt k fit n ∷ [])) refl
 
-  parts-of : (s : Slot) → freshSlot m s ≡ map (partOf m) (piecesOf (m .radius) s)
-  parts-of empty = refl
-  parts-of (full k fit p) = parts-to k (decomposed k (m .radius)) (decomposed k (m .radius) .count)
-
-  parts-all : (ss : List Slot) → freshAll m ss ≡ map (partOf m) (allPieces (m .radius) ss)
+  parts-all : (ss : List Slot) → freshAll m ss ≡ map (partOf m) (allPieces (m .radius) (kernelsOf ss))
   parts-all [] = refl
-  parts-all (s ∷ ss) = rw (parts-of s, parts-all ss, map-append (partOf m) (piecesOf (m .radius) s) (allPieces (m .radius) ss)) refl
+  parts-all (empty ∷ ss) = parts-all ss
+  parts-all (full k fit p ∷ ss) =
+      let f = decomposed k (m .radius) in
+      rw (parts-to k f (f .count), parts-all ss, map-append (partOf m) (piecesOf (m .radius) k) (allPieces (m .radius) (kernelsOf ss))) refl
 
   bare-parts : (ks : List Kernel) → map bare (map (partOf m) ks) ≡ map whole ks
   bare-parts [] = refl
@@ -93,4 +92,6 @@ module _ (m : Mesh) (g : Shape m) where
 
   pub joined : (ss : List Slot) (r : Reading) → answerOf r (freshSeen m ss) ≡ workedAfresh m ss r
   unfolding freshSeen workedAfresh
-  joined ss r = rw (parts-all m ss) (answer-on (allPieces (m .radius) ss) (freshFilled ss) (worstFrom (m .radius) +0 ss) r)
+  joined ss r =
+      let ks = kernelsOf ss in
+      rw (parts-all m ss) (answer-on (allPieces (m .radius) ks) (length ks) (worstFrom (m .radius) +0 ks) r)

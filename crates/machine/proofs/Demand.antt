@@ -17,7 +17,7 @@ use Rattle.store.specs.Calls.{After, after, openCheck, openStep}
 use Rattle.readings.specs.Readings.{Reading, density, report, list, bare, applied, rescaled, sixes, Seen, answerOf, refusing}
 use Rattle.machine.specs.Machine.{Mesh, leftSum, Machine, opened, openRow}
 use Rattle.machine.specs.Holding.{excessF, excessW}
-use Rattle.machine.specs.Fresh.{workedAfresh}
+use Rattle.machine.specs.Fresh.{kernelsOf, workedAfresh}
 use Rattle.machine.specs.Calls.{Call, advance, read, needs, machine, Store, Result, store, leaves, after-all, holding, leftIn, without, heard}
 use Rattle.machine.specs.Demands.{Same, Read, Each, end, next, Follows, leaving, Accepted, refusedBy, Opens, Demand3}
 use Rattle.machine.specs.Valid.{Valid}
@@ -106,7 +106,7 @@ module _ (wd : ℕ) (fm : Width wd) (exF : List Float) (exW : List ℕ) where
       let l : leftIn (store wd (leaves wd (holding m exF exW) cs) (advance 0) .reply) ≡ leftSum (after-all m cs .mesh) (after-all m cs .slots)
       = ap (λ (t : Store). leftIn (store wd t (advance 0) .reply)) (i .0) ∙ left-asked (after-all m cs) (i .1) in
       let b = books wd fm cs m v exF exW in
-      record { calls = each (m .mesh) cs m v (from-start (m .mesh) (v .mesh)); valid = i .1; pieces = listed (m .mesh .radius) (after-all m cs .slots); sums = omega arith; charged = omega (arith, charges wd fm cs m v exF exW) }
+      record { calls = each (m .mesh) cs m v (from-start (m .mesh) (v .mesh)); valid = i .1; pieces = listed (m .mesh .radius) (kernelsOf (after-all m cs .slots)); sums = omega arith; charged = omega (arith, charges wd fm cs m v exF exW) }
 
 -- ---- from an opening on
 module _ (wd : ℕ) (fm : Width wd) (r : Float) (xs : List Float) (ks : List ℕ) (fs : List Float) (ws : List ℕ) where

@@ -1,4 +1,4 @@
--- The pieces worked afresh are those that the call on a list of kernels writes of the filled places' kernels. Assumes nothing.
+-- The pieces worked afresh are those that the call on a list of kernels writes. Assumes nothing.
 use mathlib.Core.Path.{_≡_, refl, sym, ap, _∙_}
 use mathlib.Core.List.{List, [], _∷_, _++_, append-assoc, append-nil}
 use Prim.Native.Nat.{ℕ, zero, suc, _+_, _*_, _≤_, _<_}
@@ -24,45 +24,17 @@ use Rattle.pieces.specs.Lists.{pieceCount, greatestError, spread, fittedAll, li
 use Rattle.readings.specs.Readings.{noKernel, six, sixes}
 use Rattle.readings.specs.Lists.{set6-write}
 use Rattle.readings.specs.SixLaws.{whole, sixes-length, next-kernel, list-sound, count-of}
-use Rattle.machine.specs.Machine.{Slot, empty, full}
-use Rattle.machine.specs.Fresh.{piecesTo, allPieces, kernelsOf, freshFilled, worstFrom}
+use Rattle.machine.specs.Fresh.{piecesTo, piecesOf, allPieces, worstFrom}
 use Rattle.machine.specs.Demands.{Decomposed}
 
--- ---- by kernels, with no places
-abbrev fits : Float → Kernel → List Kernel
-fits r k = piecesTo k (decomposed k r) (decomposed k r .count)
-
-abbrev every : Float → List Kernel → List Kernel
-every r [] = []
-every r (k ∷ ks) = fits r k ++ every r ks
-
-abbrev worst : Float → Float → List Kernel → Float
-worst r e [] = e
-worst r e (k ∷ ks) = worst r (greater e (decomposed k r .error)) ks
-
-every-of : (r : Float) (ss : List Slot) → allPieces r ss ≡ every r (kernelsOf ss)
-every-of r [] = refl
-every-of r (empty ∷ ss) = every-of r ss
-every-of r (full k fit p ∷ ss) = rw (every-of r ss) refl
-
-filled-of : (ss : List Slot) → freshFilled ss ≡ length (kernelsOf ss)
-filled-of [] = refl
-filled-of (empty ∷ ss) = omega (arith, filled-of ss)
-filled-of (full k fit p ∷ ss) = omega (arith, filled-of ss)
-
-worst-of : (r e : Float) (ss : List Slot) → worstFrom r e ss ≡ worst r e (kernelsOf ss)
-worst-of r e [] = refl
-worst-of r e (empty ∷ ss) = worst-of r e ss
-worst-of r e (full k fit p ∷ ss) = worst-of r (greater e (decomposed k r .error)) ss
-
 -- one kernel more, behind
-every-snoc : (r : Float) (ks : List Kernel) (k : Kernel) → every r (ks ++ (k ∷ [])) ≡ every r ks ++ fits r k
-every-snoc r [] k = append-nil (fits r k)
-every-snoc r (x ∷ ks) k = ap (λ (l : List Kernel). fits r x ++ l) (every-snoc r ks k) ∙ sym (append-assoc (fits r x) (every r ks) (fits r k))
+every-snoc : (r : Float) (ks : List Kernel) (k : Kernel) → allPieces r (ks ++ (k ∷ [])) ≡ allPieces r ks ++ piecesOf r k
+every-snoc r [] k = append-nil (piecesOf r k)
+every-snoc r (x ∷ ks) k = ap (λ (l : List Kernel). piecesOf r x ++ l) (every-snoc r ks k) ∙ sym (append-assoc (piecesOf r x) (allPieces r ks) (piecesOf r k))
 
-worst-snoc : (r e : Float) (ks : List Kernel) (k : Kernel) → worst r e (ks ++ (k ∷ [])) ≡ greater (worst r e ks) (decomposed k r .error)
-worst-snoc r e [] k = refl
-worst-snoc r e (x ∷ ks) k = worst-snoc r (greater e (decomposed x r .error)) ks k
+pub worst-append : (r e : Float) (a b : List Kernel) → worstFrom r e (a ++ b) ≡ worstFrom r (worstFrom r e a) b
+worst-append r e [] b = refl
+worst-append r e (k ∷ a) b = worst-append r (greater e (decomposed k r .error)) a b
 
 sixes-append : (a b : List Kernel) → sixes (a ++ b) ≡ sixes a ++ sixes b
 sixes-append [] b = refl
@@ -118,31 +90,31 @@ module _ (ks : List Kernel) (r : Float) where
   fit-at : (n : ℕ) → n < length ks → decomposed (kernelAt L n) r ≡ decomposed (getD ks n noKernel) r
   fit-at n h = ap (λ (k : Kernel). decomposed k r) (at-whole ks n h) ∙ same-fit (getD ks n noKernel) r
 
-  every-more : (n : ℕ) → n < length ks → every r (take (suc n) ks) ≡ every r (take n ks) ++ fits r (getD ks n noKernel)
-  every-more n h = ap (every r) (take-suc ks n noKernel h) ∙ every-snoc r (take n ks) (getD ks n noKernel)
+  every-more : (n : ℕ) → n < length ks → allPieces r (take (suc n) ks) ≡ allPieces r (take n ks) ++ piecesOf r (getD ks n noKernel)
+  every-more n h = ap (allPieces r) (take-suc ks n noKernel h) ∙ every-snoc r (take n ks) (getD ks n noKernel)
 
-  length-more : (n : ℕ) → n < length ks → length (every r (take (suc n) ks)) ≡ length (every r (take n ks)) + decomposed (getD ks n noKernel) r .count
+  length-more : (n : ℕ) → n < length ks → length (allPieces r (take (suc n) ks)) ≡ length (allPieces r (take n ks)) + decomposed (getD ks n noKernel) r .count
   length-more n h =
       let k = getD ks n noKernel in
-      ap length (every-more n h) ∙ (length-append (every r (take n ks)) (fits r k) ∙ ap (λ (c : ℕ). length (every r (take n ks)) + c) (pieces-length k (decomposed k r) (decomposed k r .count)))
+      ap length (every-more n h) ∙ (length-append (allPieces r (take n ks)) (piecesOf r k) ∙ ap (λ (c : ℕ). length (allPieces r (take n ks)) + c) (pieces-length k (decomposed k r) (decomposed k r .count)))
 
-  count-to : (n : ℕ) → n ≤ length ks → pieceCount L r n ≡ length (every r (take n ks))
+  count-to : (n : ℕ) → n ≤ length ks → pieceCount L r n ≡ length (allPieces r (take n ks))
   unfolding pieceCount
   count-to zero h = refl
   count-to (suc n) h = rw (count-to n (omega arith), fit-at n h) (sym (length-more n h))
 
-  error-to : (n : ℕ) → n ≤ length ks → greatestError L r n ≡ worst r +0 (take n ks)
+  error-to : (n : ℕ) → n ≤ length ks → greatestError L r n ≡ worstFrom r +0 (take n ks)
   unfolding greatestError
   error-to zero h = refl
-  error-to (suc n) h = rw (error-to n (omega arith), fit-at n h, take-suc ks n noKernel h) (sym (worst-snoc r +0 (take n ks) (getD ks n noKernel)))
+  error-to (suc n) h = rw (error-to n (omega arith), fit-at n h, take-suc ks n noKernel h) (sym (worst-append r +0 (take n ks) (getD ks n noKernel ∷ [])))
 
-  spread-to : (xs : List Float) (n : ℕ) → n ≤ length ks → 6 * length (every r (take n ks)) ≤ length xs → spread L r n xs ≡ write xs 0 (sixes (every r (take n ks)))
+  spread-to : (xs : List Float) (n : ℕ) → n ≤ length ks → 6 * length (allPieces r (take n ks)) ≤ length xs → spread L r n xs ≡ write xs 0 (sixes (allPieces r (take n ks)))
   unfolding spread laid
   spread-to xs zero h room = sym (write-none xs 0)
   spread-to xs (suc n) h room =
       let k = getD ks n noKernel in
       let fit = decomposed k r in
-      let done = every r (take n ks) in
+      let done = allPieces r (take n ks) in
       let more = length-more n h in
       let l = sixes-length done in
       let ys = write xs 0 (sixes done) in
@@ -151,25 +123,20 @@ module _ (ks : List Kernel) (r : Float) where
       rw (count-to n (omega arith), fit-at n h, at-whole ks n h, spread-to xs n (omega arith) (omega arith))
       (lay-to (length done) (whole k) fit ys (fit .count) (omega arith)
       ∙ (ap (write ys (6 * length done)) (same-sixes k fit (fit .count))
-      ∙ (ap (λ (i : ℕ). write ys i (sixes (fits r k))) e
-      ∙ (write-more xs 0 (sixes done) (sixes (fits r k)) (omega arith)
-      ∙ ap (write xs 0) (sym (sixes-append done (fits r k)) ∙ ap sixes (sym (every-more n h)))))))
+      ∙ (ap (λ (i : ℕ). write ys i (sixes (piecesOf r k))) e
+      ∙ (write-more xs 0 (sixes done) (sixes (piecesOf r k)) (omega arith)
+      ∙ ap (write xs 0) (sym (sixes-append done (piecesOf r k)) ∙ ap sixes (sym (every-more n h)))))))
 
-  all-listed : (xs : List Float) → 6 * length (every r ks) ≤ length xs
-      → listDecomposition L r xs ≡ outcome (fittedAll (length ks) (length (every r ks)) (worst r +0 ks)) (write xs 0 (sixes (every r ks)))
+  all-listed : (xs : List Float) → 6 * length (allPieces r ks) ≤ length xs
+      → listDecomposition L r xs ≡ outcome (fittedAll (length ks) (length (allPieces r ks)) (worstFrom r +0 ks)) (write xs 0 (sixes (allPieces r ks)))
   unfolding listDecomposition
   all-listed xs room =
       let n = length ks in
       let t : take n ks ≡ ks = take-all n ks (omega arith) in
-      let c : pieceCount L r n ≡ length (every r ks) = count-to n (omega arith) ∙ ap (λ (l : List Kernel). length (every r l)) t in
-      let e : greatestError L r n ≡ worst r +0 ks = error-to n (omega arith) ∙ ap (worst r +0) t in
-      let s : spread L r n xs ≡ write xs 0 (sixes (every r ks)) = spread-to xs n (omega arith) (rw t room) ∙ ap (λ (l : List Kernel). write xs 0 (sixes (every r l))) t in
-      rw (list-sound ks, count-of ks, c, e, s, le-leb (6 * length (every r ks)) (length xs) room) refl
+      let c : pieceCount L r n ≡ length (allPieces r ks) = count-to n (omega arith) ∙ ap (λ (l : List Kernel). length (allPieces r l)) t in
+      let e : greatestError L r n ≡ worstFrom r +0 ks = error-to n (omega arith) ∙ ap (worstFrom r +0) t in
+      let s : spread L r n xs ≡ write xs 0 (sixes (allPieces r ks)) = spread-to xs n (omega arith) (rw t room) ∙ ap (λ (l : List Kernel). write xs 0 (sixes (allPieces r l))) t in
+      rw (list-sound ks, count-of ks, c, e, s, le-leb (6 * length (allPieces r ks)) (length xs) room) refl
 
-pub listed : (r : Float) (ss : List Slot) → Decomposed r ss
-listed r ss =
-    record {
-      listed = λ run h.
-          let room = rw (every-of r ss) at h in
-          rw (every-of r ss, filled-of ss, worst-of r +0 ss) (all-listed (kernelsOf ss) r run room);
-    }
+pub listed : (r : Float) (ks : List Kernel) → Decomposed r ks
+listed r ks = record { listed = all-listed ks r }

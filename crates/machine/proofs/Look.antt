@@ -1,10 +1,10 @@
 -- A reading of a store that holds a machine is the machine's reading, worked afresh. Assumes nothing.
-use mathlib.Core.Path.{_≡_, refl, ap, _∙_}
-use mathlib.Core.List.{List, [], _∷_, _++_, map}
+use mathlib.Core.Path.{_≡_, refl, sym, ap, _∙_}
+use mathlib.Core.List.{List, [], _∷_, _++_, map, append-assoc, append-nil}
 use mathlib.Core.Bool.{Bool, true, false, _&&_, cond, true≢false}
 use Prim.Native.Nat.{ℕ, zero, suc, _+_, _*_, _≤_, _<_}
 use native.Mathlib.Omega.{arith}
-use lib.ListN.{take, getD}
+use lib.ListN.{length, take, getD, length-append}
 use lib.Seq.{take-suc, take-all}
 use lib.Dec.{ltb, eqb}
 use lib.Ieee.{Float, nan, lt, ofBits}
@@ -23,7 +23,7 @@ use Rattle.base.specs.Answers.{outcome}
 use Rattle.readings.specs.Readings.{Reading, density, report, list, byMass, needsWork, Part, bare, densityAt, rawMass, origin, applied, rescaled, Seen, seeing, listing, answerOf, refusing, readingOf, heldFilled, heldWorst, heldSeen, readStep}
 use Rattle.machine.specs.Machine.{Mesh, Slot, empty, full, leftSum}
 use Rattle.machine.specs.Holding.{triangles, placeRow, wordsOf}
-use Rattle.machine.specs.Fresh.{filledOne, freshFilled, worseOne, worstFrom, workedAfresh}
+use Rattle.machine.specs.Fresh.{kernelOf, kernelsOf, worstFrom, workedAfresh}
 use Rattle.machine.specs.Calls.{byTarget, needs}
 use Rattle.machine.specs.Valid.{Within, Valid}
 use Rattle.machine.proofs.Rows.{Width}
@@ -34,6 +34,7 @@ use Rattle.machine.proofs.Sweep.{left-held}
 use Rattle.machine.proofs.Read.{bare-all, whole-all}
 use Rattle.machine.proofs.Parts.{freshSeen}
 use Rattle.machine.proofs.Afresh.{joined}
+use Rattle.machine.proofs.Listed.{worst-append}
 
 -- ---- the readings' row 8 is the machine's
 same-target : (v : Convention) → byMass v ≡ byTarget v
@@ -75,6 +76,11 @@ pub same-seen : {p p′ : List Part} {b b′ : Float} {n n′ : ℕ} {e e′ : F
     → seeing p b n e ≡ seeing p′ b′ n′ e′
 same-seen hp hb hn he = rw (hp, hb, hn, he) refl
 
+-- one place more, behind
+kernels-snoc : (l : List Slot) (s : Slot) → kernelsOf (l ++ (s ∷ [])) ≡ kernelsOf l ++ kernelOf s
+kernels-snoc [] s = append-nil (kernelOf s)
+kernels-snoc (x ∷ l) s = ap (λ (t : List Kernel). kernelOf x ++ t) (kernels-snoc l s) ∙ sym (append-assoc (kernelOf x) (kernelsOf l) (kernelOf s))
+
 module _ (wd : ℕ) (fm : Width wd) (m : Mesh) (ss : List Slot) (v : Valid m ss) (xs : List Float) (ys : List ℕ) where
   abbrev FS : List Float
   FS = laidOut m ss xs
@@ -83,38 +89,45 @@ module _ (wd : ℕ) (fm : Width wd) (m : Mesh) (ss : List Slot) (v : Valid m ss)
   WS = wordsOf m ss ys
 
   -- ---- count and greatest error
-  filled-snoc : (l : List Slot) (s : Slot) → freshFilled (l ++ (s ∷ [])) ≡ freshFilled l + filledOne s
-  filled-snoc [] s = omega arith
-  filled-snoc (x ∷ l) s = omega (arith, filled-snoc l s)
-
-  worst-snoc : (e : Float) (l : List Slot) (s : Slot) → worstFrom (m .radius) e (l ++ (s ∷ [])) ≡ worseOne (m .radius) (worstFrom (m .radius) e l) s
-  worst-snoc e [] s = refl
-  worst-snoc e (x ∷ l) s = worst-snoc (worseOne (m .radius) e x) l s
-
   not-empty : (fit : Pieces) → eqb (1 + fit .count) 0 ≡ false
   not-empty fit = ne-eqb (1 + fit .count) 0 (λ e. omega arith)
 
-  filled-one : (s : Slot) → cond (eqb (getD (placeRow m s) 0 0) 0) 0 1 ≡ filledOne s
+  filled-one : (s : Slot) → cond (eqb (getD (placeRow m s) 0 0) 0) 0 1 ≡ length (kernelOf s)
   filled-one empty = refl
   filled-one (full k fit p) = rw (not-empty fit) refl
 
-  worst-one : (i : ℕ) → i < 32 → (e : Float) (s : Slot) → getD ss i empty ≡ s → Within m s → cond (eqb (getD (placeRow m s) 0 0) 0) e (greater e (getD FS (7 + 7 * i) nan)) ≡ worseOne (m .radius) e s
+  worst-one : (i : ℕ) → i < 32 → (e : Float) (s : Slot) → getD ss i empty ≡ s → Within m s → cond (eqb (getD (placeRow m s) 0 0) 0) e (greater e (getD FS (7 + 7 * i) nan)) ≡ worstFrom (m .radius) e (kernelOf s)
   worst-one i h e empty q w = refl
   worst-one i h e (full k fit p) q w =
       let a : 7 + 7 * i ≡ 1 + (7 * i + 6) = omega arith in
       rw (not-empty fit, a, get7 wd fm m ss (v .slots) xs i h 6 (omega arith), q) (ap (λ (f : Pieces). greater e (f .error)) (w .fitted))
 
-  filled-to : (n : ℕ) → n ≤ 32 → heldFilled wd WS n ≡ freshFilled (take n ss)
+  filled-to : (n : ℕ) → n ≤ 32 → heldFilled wd WS n ≡ length (kernelsOf (take n ss))
   unfolding heldFilled
   filled-to zero h = refl
   filled-to (suc n) h =
-      rw (status-held wd fm m ss (v .slots) ys n h, filled-one (getD ss n empty), filled-to n (omega arith), take-suc ss n empty (rw (v .slots) h), filled-snoc (take n ss) (getD ss n empty)) refl
+      rw (
+        status-held wd fm m ss (v .slots) ys n h,
+        filled-one (getD ss n empty),
+        filled-to n (omega arith),
+        take-suc ss n empty (rw (v .slots) h),
+        kernels-snoc (take n ss) (getD ss n empty),
+        length-append (kernelsOf (take n ss)) (kernelOf (getD ss n empty)),
+      ) refl
 
-  worst-to : (n : ℕ) → n ≤ 32 → heldWorst wd FS WS n ≡ worstFrom (m .radius) +0 (take n ss)
+  worst-to : (n : ℕ) → n ≤ 32 → heldWorst wd FS WS n ≡ worstFrom (m .radius) +0 (kernelsOf (take n ss))
   unfolding heldWorst
   worst-to zero h = refl
   worst-to (suc n) h =
-      rw (status-held wd fm m ss (v .slots) ys n h, worst-to n (omega arith), worst-one n h (worstFrom (m .radius) +0 (take n ss)) (getD ss n empty) refl (v .within n), take-suc ss n empty (rw (v .slots) h), worst-snoc +0 (take n ss) (getD ss n empty)) refl
+      let ks = kernelsOf (take n ss) in
+      rw (
+        status-held wd fm m ss (v .slots) ys n h,
+        worst-to n (omega arith),
+        worst-one n h (worstFrom (m .radius) +0 ks) (getD ss n empty) refl (v .within n),
+        take-suc ss n empty (rw (v .slots) h),
+        kernels-snoc (take n ss) (getD ss n empty),
+        worst-append (m .radius) +0 ks (kernelOf (getD ss n empty)),
+      ) refl
 
   all : take 32 ss ≡ ss
   all = take-all 32 ss (rw (v .slots) (omega arith))
@@ -134,7 +147,9 @@ module _ (wd : ℕ) (fm : Width wd) (m : Mesh) (ss : List Slot) (v : Valid m ss)
   whole-seen : leftSum m ss ≡ 0 → heldSeen wd FS WS ≡ freshSeen m ss
   unfolding heldSeen freshSeen
   whole-seen z =
-      same-seen (whole-all wd fm m ss v xs ys z) body-held (filled-to 32 (omega arith) ∙ ap freshFilled all) (worst-to 32 (omega arith) ∙ ap (worstFrom (m .radius) +0) all)
+      same-seen (whole-all wd fm m ss v xs ys z) body-held
+      (filled-to 32 (omega arith) ∙ ap (λ (l : List Slot). length (kernelsOf l)) all)
+      (worst-to 32 (omega arith) ∙ ap (λ (l : List Slot). worstFrom (m .radius) +0 (kernelsOf l)) all)
 
   bare-seen : map bare (heldSeen wd FS WS .parts) ≡ map bare (freshSeen m ss .parts)
   unfolding heldSeen freshSeen

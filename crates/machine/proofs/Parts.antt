@@ -1,7 +1,7 @@
 -- The machine's pieces as a reading sums them: each with its volume over all F faces. Definitions only.
 use mathlib.Core.List.{List, [], _∷_, _++_}
 use Prim.Native.Nat.{ℕ, zero, suc}
-use lib.ListN.{getD}
+use lib.ListN.{length, getD}
 use lib.Ieee.{nan}
 use Rattle.base.specs.Floats.{_⊗_, +0}
 use Rattle.volume.specs.Volume.{kernelVolume, bodyVolume}
@@ -12,7 +12,7 @@ use Rattle.pieces.specs.Pieces.{decomposed, pieceAlpha}
 use Rattle.readings.specs.Readings.{Part, Seen, seeing}
 use Rattle.machine.specs.Machine.{Mesh, Slot, empty, full}
 use Rattle.machine.specs.Holding.{triangles}
-use Rattle.machine.specs.Fresh.{freshFilled, worstFrom}
+use Rattle.machine.specs.Fresh.{kernelsOf, worstFrom}
 
 -- piece j of a fit
 abbrev pub freshPart : Mesh → Kernel → Pieces → ℕ → Part
@@ -42,4 +42,4 @@ freshAll m [] = []
 freshAll m (s ∷ ss) = freshSlot m s ++ freshAll m ss
 
 unfoldable pub freshSeen : Mesh → List Slot → Seen
-freshSeen m ss = seeing (freshAll m ss) (bodyVolume (triangles m) (m .faces)) (freshFilled ss) (worstFrom (m .radius) +0 ss)
+freshSeen m ss = seeing (freshAll m ss) (bodyVolume (triangles m) (m .faces)) (length (kernelsOf ss)) (worstFrom (m .radius) +0 (kernelsOf ss))

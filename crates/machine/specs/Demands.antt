@@ -11,14 +11,15 @@ use Rattle.base.specs.Answers.{Answer, refused, counted, outcome}
 use Rattle.base.specs.declared.refusal.Refusal.the-variants.{Unfinished}
 use Rattle.base.specs.Floats.{+0}
 use Rattle.runs.specs.Runs.{write}
+use Rattle.kernel.specs.declared.kernel.Kernel.{Kernel}
 use Rattle.pieces.specs.Lists.{fittedAll, listDecomposition}
 use Rattle.layout.specs.Layout.{width}
 use Rattle.store.specs.Calls.{After, after, openStep}
 use Rattle.readings.specs.Readings.{Reading, sixes}
-use Rattle.machine.specs.Machine.{Mesh, Slot, Machine, workLeft, opened, openRow}
+use Rattle.machine.specs.Machine.{Mesh, Machine, workLeft, opened, openRow}
 use Rattle.machine.specs.Holding.{excessF, excessW}
 use Rattle.machine.specs.Valid.{Valid}
-use Rattle.machine.specs.Fresh.{kernelsOf, allPieces, freshFilled, worstFrom, workedAfresh}
+use Rattle.machine.specs.Fresh.{kernelsOf, allPieces, worstFrom, workedAfresh}
 use Rattle.machine.specs.Calls.{Call, advance, read, needs, machine, Store, store, leaves, after-all, holding, leftIn, chargedIn, doneIn, without, heard}
 
 -- ---- one call c: the store s beside the machine m, which "gets that opening and the same calls"; exF and exW are the
@@ -57,13 +58,13 @@ pub data Each (q : ℕ) (exF : List Float) (exW : List ℕ) (mesh : Mesh) : Mach
       → Same q exF exW m s c → ((r : Reading) → Read q mesh m s r)
       → Each q exF exW mesh (machine m c .next) (store q s c .left) cs → Each q exF exW mesh m s (c ∷ cs)
 
--- ---- the pieces worked afresh are demand 2's too: the call that decomposes a list of kernels, given those of the
--- filled places, writes them into a run that is long enough, and answers the places, the pieces and the greatest error
-pub record Decomposed (radius : Float) (ss : List Slot) : Type 0 where
-  pub listed : (run : List Float) → 6 * length (allPieces radius ss) ≤ length run
-      → listDecomposition (sixes (kernelsOf ss)) radius run
-      ≡ outcome (fittedAll (freshFilled ss) (length (allPieces radius ss)) (worstFrom radius +0 ss))
-      (write run 0 (sixes (allPieces radius ss)))
+-- ---- the pieces worked afresh are demand 2's too: the call that decomposes a list of kernels ks, six floats each,
+-- writes them into a run that is long enough, and answers the kernels, the pieces and the greatest error
+pub record Decomposed (radius : Float) (ks : List Kernel) : Type 0 where
+  pub listed : (run : List Float) → 6 * length (allPieces radius ks) ≤ length run
+      → listDecomposition (sixes ks) radius run
+      ≡ outcome (fittedAll (length ks) (length (allPieces radius ks)) (worstFrom radius +0 ks))
+      (write run 0 (sixes (allPieces radius ks)))
 
 -- ---- a list of calls, from the store s that an opening left and the machine m that it opened
 pub record Follows (q : ℕ) (exF : List Float) (exW : List ℕ) (m : Machine) (s : Store) (cs : List Call) : Type 0 where
@@ -73,7 +74,7 @@ pub record Follows (q : ℕ) (exF : List Float) (exW : List ℕ) (m : Machine) (
   -- the machine after the list, and so after each part of it: the pieces in its places, which the runs hold, are those
   -- of its kernels, and no place has more steps than its need
   pub valid : Valid (after-all m cs .mesh) (after-all m cs .slots)
-  pub pieces : Decomposed (m .mesh .radius) (after-all m cs .slots)
+  pub pieces : Decomposed (m .mesh .radius) (kernelsOf (after-all m cs .slots))
   -- "After the list, with charged summed over the puts' answers and done over the advances', done + left + dropped =
   -- charged": left "is what an advance of 0 then answers", dropped is the machine's
   pub sums : doneIn q s cs + leftIn (store q (leaves q s cs) (advance 0) .reply) + after-all m cs .dropped

@@ -3,7 +3,7 @@
 -- the runs". Said with demand 2's functions alone: `decomposed`, `fieldMassCall`, `densitized` and `bodyVolumeCall`
 -- are what the contracts of those calls cite. Definitions only.
 use mathlib.Core.List.{List, [], _∷_, _++_, map}
-use Prim.Native.Nat.{ℕ, zero, suc, _+_, _*_}
+use Prim.Native.Nat.{ℕ, zero, suc, _*_}
 use lib.ListN.{length, getD}
 use lib.Ieee.{Float, nan}
 use Rattle.base.specs.Floats.{+0, greater}
@@ -21,22 +21,7 @@ use Rattle.density.specs.Reports.{reportOf}
 use Rattle.readings.specs.Readings.{Reading, density, report, list, origin, rescaled, sixes, reported}
 use Rattle.machine.specs.Machine.{Mesh, Slot, empty, full}
 
--- ---- "filled places in order, .. each decomposed"
-
--- a fit's first n pieces, each a kernel of its own
-abbrev pub piecesTo : Kernel → Pieces → ℕ → List Kernel
-piecesTo k fit zero = []
-piecesTo k fit (suc n) = piecesTo k fit n ++ (pieceAt k fit n ∷ [])
-
-abbrev pub piecesOf : Float → Slot → List Kernel
-piecesOf radius empty = []
-piecesOf radius (full k fit p) = piecesTo k (decomposed k radius) (decomposed k radius .count)
-
-abbrev pub allPieces : Float → List Slot → List Kernel
-allPieces radius [] = []
-allPieces radius (s ∷ ss) = piecesOf radius s ++ allPieces radius ss
-
--- the kernels as they stand in the places
+-- ---- "the machine's filled places in order": their kernels
 abbrev pub kernelOf : Slot → List Kernel
 kernelOf empty = []
 kernelOf (full k fit p) = k ∷ []
@@ -45,22 +30,22 @@ abbrev pub kernelsOf : List Slot → List Kernel
 kernelsOf [] = []
 kernelsOf (s ∷ ss) = kernelOf s ++ kernelsOf ss
 
--- how many are filled, and the greatest error
-abbrev pub filledOne : Slot → ℕ
-filledOne empty = 0
-filledOne (full k fit p) = 1
+-- ---- "each decomposed": into the first n pieces of its fit, each a kernel of its own
+abbrev pub piecesTo : Kernel → Pieces → ℕ → List Kernel
+piecesTo k fit zero = []
+piecesTo k fit (suc n) = piecesTo k fit n ++ (pieceAt k fit n ∷ [])
 
-abbrev pub freshFilled : List Slot → ℕ
-freshFilled [] = 0
-freshFilled (s ∷ ss) = filledOne s + freshFilled ss
+abbrev pub piecesOf : Float → Kernel → List Kernel
+piecesOf radius k = piecesTo k (decomposed k radius) (decomposed k radius .count)
 
-abbrev pub worseOne : Float → Float → Slot → Float
-worseOne radius e empty = e
-worseOne radius e (full k fit p) = greater e (decomposed k radius .error)
+abbrev pub allPieces : Float → List Kernel → List Kernel
+allPieces radius [] = []
+allPieces radius (k ∷ ks) = piecesOf radius k ++ allPieces radius ks
 
-abbrev pub worstFrom : Float → Float → List Slot → Float
+-- "greatest error (+0 with no place filled)", from e on
+abbrev pub worstFrom : Float → Float → List Kernel → Float
 worstFrom radius e [] = e
-worstFrom radius e (s ∷ ss) = worstFrom radius (worseOne radius e s) ss
+worstFrom radius e (k ∷ ks) = worstFrom radius (greater e (decomposed k radius .error)) ks
 
 -- ---- "then the reading's functions by its convention", on a mesh m and pieces ks
 
@@ -93,4 +78,6 @@ readingOn m ks filled worst (list v out) =
     (outcome (counted (length ks ∷ [])) (write out 0 (scaledList v m ks)))
 
 unfoldable pub workedAfresh : Mesh → List Slot → Reading → Outcome
-workedAfresh m ss r = readingOn m (allPieces (m .radius) ss) (freshFilled ss) (worstFrom (m .radius) +0 ss) r
+workedAfresh m ss r =
+    let ks = kernelsOf ss in
+    readingOn m (allPieces (m .radius) ks) (length ks) (worstFrom (m .radius) +0 ks) r
