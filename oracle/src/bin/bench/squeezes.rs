@@ -1,5 +1,5 @@
-//! A squeeze of the largest store, a third of whose vertices no face uses, beside the same on plain vectors. The store is filled anew before
-//! each time.
+//! A squeeze of the largest store, a third of whose vertices no face uses, beside the same on plain vectors. The store is filled anew
+//! before each time.
 use crate::lent::Lent;
 use crate::table::{Bench, Row, Way};
 use oracle::machine::{FACES, VERTS};
