@@ -1,7 +1,7 @@
--- The numbers of 01's table of refusals, "The store". Definitions only.
+-- The numbers of 01's table of refusals, "The store", and of those that 02 adds. Definitions only.
 use Prim.Native.Nat.{ℕ}
 use Rattle.base.specs.declared.refusal.Refusal.{Refusal}
-use Rattle.base.specs.declared.refusal.Refusal.the-variants.{Ragged, Oversize, LooseCorner, ShortStore, Unsound, NoPlace, Vacant, Unfinished, ShortList, BadMatrix, FlatPivot, Exponent, BadLine}
+use Rattle.base.specs.declared.refusal.Refusal.the-variants.{Ragged, Oversize, LooseCorner, ShortStore, Unsound, NoPlace, Vacant, Unfinished, ShortList, BadMatrix, FlatPivot, Exponent, BadLine, Unclosed}
 
 abbrev pub number : Refusal → ℕ
 -- coordinate or index count not a multiple of 3
@@ -30,3 +30,5 @@ number FlatPivot = 11
 number Exponent = 12
 -- program only
 number BadLine = 13
+-- 02, L13: "22 when a mesh doesn't pass" the check of closedness
+number Unclosed = 22

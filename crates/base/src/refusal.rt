@@ -30,6 +30,8 @@ pub enum Refusal {
     Exponent,
     // 13: a line that is none of the program's forms
     BadLine,
+    // 22: the mesh is not closed
+    Unclosed,
 }
 
 // What a check of a call's arguments finds: nothing, or the one refusal that is answered.
@@ -62,5 +64,6 @@ pub fn refusal_number(refusal: Refusal) -> u32
         Refusal::FlatPivot => 11,
         Refusal::Exponent => 12,
         Refusal::BadLine => 13,
+        Refusal::Unclosed => 22,
     }
 }

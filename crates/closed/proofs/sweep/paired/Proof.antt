@@ -1,0 +1,34 @@
+-- `closed::sweep::paired` meets its contract: the first i words are whole pairs; a word that is no pair's first, or whose next is not its partner, is not there once with its partner. Assumes nothing.
+use Prim.Native.Nat.{_-_, _≤_}
+use native.Mathlib.Omega.{arith}
+use borrow.Author.Needs.{needs}
+use Rattle.closed.specs.HeldLaws.{Pairs, pairs-none, pairs-one, pairs-all, unpaired-late, unpaired-next, unpaired-end}
+use Rattle.closed.proofs.sweep.paired.Statement.{statement}
+use Rattle.closed.proofs.sweep.paired.Tie as tie
+
+abbrev Inv-loop : tie.InvT-loop
+Inv-loop words n i₀ i = (i ≤ n) × Pairs words i
+
+abbrev μ-loop : tie.MeasureT-loop
+μ-loop words n i₀ i = n - i
+
+pub paired-spec : {M : Type 1} → statement M
+paired-spec =
+    tie.close
+    (tie.spec
+    Inv-loop
+    μ-loop
+    (λ c. (omega arith, pairs-none _))
+    (λ c. search needs)
+    (λ c. search needs)
+    (λ c. search needs)
+    (λ c. search needs)
+    (λ c. search needs)
+    (λ c. search needs)
+    (λ c. (omega arith, λ e. absurd (omega arith), λ e. unpaired-late (c .before .before .before .before .before .pre .1) (c .before .before .before .before .loop .inv .1) e (omega arith)))
+    (λ c. omega (arith, c .before .shared-slice-known2 .given (c .before .before .before .before .loop .i)))
+    (λ c. (omega arith, λ e. absurd (omega arith), λ e. unpaired-next (c .before .before .before .before .before .before .pre .1) (c .before .before .before .before .before .loop .inv .1) (omega arith) (omega arith) (c .if2 .taken)))
+    (λ c. search needs)
+    (λ c. search needs)
+    (λ c. (omega arith, pairs-one (c .before .before .before .before .before .before .pre .1) (c .before .before .before .before .before .loop .inv .1) (omega arith) (omega arith) (c .if2 .left)))
+    (λ c. let l = c .before .loop in (omega arith, λ e. pairs-all (l .inv .1) e, λ e. unpaired-end (c .before .before .pre .1) (l .inv .1) e (omega arith))))
