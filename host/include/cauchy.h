@@ -57,7 +57,8 @@ enum {
     CAUCHY_SHORT_LIST = 9,   /* the run to be written is too short, or a kernel list is not of sixes */
     CAUCHY_BAD_MATRIX = 10,  /* n above 16, or lengths that do not go with n */
     CAUCHY_FLAT_PIVOT = 11,  /* the equations have no usable pivot in some column */
-    CAUCHY_EXPONENT = 12     /* an exponent is not 1, where only 1 can be integrated */
+    CAUCHY_EXPONENT = 12,    /* an exponent is not 1, where only 1 can be integrated */
+    CAUCHY_NOT_CLOSED = 22   /* the mesh is not closed */
 };
 
 /* ---- Sizes ---------------------------------------------------------------------------------------- */
@@ -239,6 +240,11 @@ CauchyValue cauchy_densitize(const double *kernels, size_t n_kernels, CauchyVect
 uint32_t cauchy_solve(size_t n, const double *cells, size_t n_cells, double *answer, size_t n_answer);
 
 /* ---- Meshes --------------------------------------------------------------------------------------- */
+
+/* Whether the mesh is closed, without which a mass inside it means nothing: no face names a corner twice, and
+ * each edge of a face, from a corner to the next, occurs once over all faces, its reverse also once. A mesh
+ * without faces is closed. It works in local memory, in passes over the faces; answers `no`.   1 2 3 22 */
+uint32_t cauchy_closed(const double *xyz, size_t n_xyz, const uint32_t *faces, size_t n_faces);
 
 /* The integral of (1 + sigma^2 * |x - c|^2)^-1 inside the mesh.                                  1 2 3 */
 CauchyValue cauchy_kernel_volume(const double *xyz, size_t n_xyz, const uint32_t *faces, size_t n_faces,

@@ -40,6 +40,7 @@ MEANINGS = {
     10: "bad matrix: more than 16 equations, or lengths that do not fit",
     11: "flat pivot: the equations have no usable pivot in some column",
     12: "exponent: some exponent is not 1",
+    22: "not closed: an edge does not occur once each way, or a face names a corner twice",
 }
 
 
@@ -147,6 +148,7 @@ _PROTOTYPES = {
     "decompose_list": (ListPieces, *_FLOATS, c_double, *_FLOATS),
     "densitize": (Value, *_FLOATS, Vector),
     "solve": (c_uint32, c_size_t, *_FLOATS, *_FLOATS),
+    "closed": (c_uint32, *_MESH),
     "kernel_volume": (Value, *_MESH, Vector, c_double),
     "body_volume": (Value, *_MESH),
     "volume_centroid": (Point, *_MESH),
@@ -381,6 +383,24 @@ def solve(n, cells):
 
 
 _TETRAHEDRON = ([0, 0, 0, 6, 0, 0, 0, 6, 0, 0, 0, 6], [0, 2, 1, 0, 1, 3, 0, 3, 2, 1, 2, 3])
+
+
+def closed(vertices, faces):
+    """True where a mesh is closed: no face names a corner twice, and each edge of a face occurs once over all
+    faces, its reverse also once. Any other mesh is refused: mass means nothing on a shell with a hole.
+
+    >>> closed(*_TETRAHEDRON), closed([], [])
+    (True, True)
+    >>> vertices, faces = _TETRAHEDRON
+    >>> closed(vertices, faces[3:])
+    Traceback (most recent call last):
+    cauchy.Refused: not closed: an edge does not occur once each way, or a face names a corner twice (no 22)
+    >>> closed(vertices, [0, 1, 4])
+    Traceback (most recent call last):
+    cauchy.Refused: loose corner: a face names a vertex that is not there (no 3)
+    """
+    _call("closed", *_mesh(vertices, faces))
+    return True
 
 
 def kernel_volume(vertices, faces, c, sigma):

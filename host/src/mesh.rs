@@ -25,6 +25,25 @@ impl<'a> Mesh<'a> {
         (self.vertices.as_flattened(), self.faces.as_flattened())
     }
 
+    /// `Ok` where the mesh is closed, without which a mass inside it means nothing: no face names a corner twice,
+    /// and each edge of a face, from a corner to the next, occurs once over all faces, its reverse also once. A
+    /// mesh without faces is closed. [`Store::open`](crate::Store::open) takes meshes that are not.
+    ///
+    /// ```
+    /// # let vertices = [[0.0, 0.0, 0.0], [6.0, 0.0, 0.0], [0.0, 6.0, 0.0], [0.0, 0.0, 6.0]];
+    /// use cauchy::{Mesh, Refusal};
+    ///
+    /// let faces = [[0, 2, 1], [0, 1, 3], [0, 3, 2], [1, 2, 3]];
+    /// assert_eq!(Mesh { vertices: &vertices, faces: &faces }.closed(), Ok(()));
+    /// let hole = &faces[1..];
+    /// assert_eq!(Mesh { vertices: &vertices, faces: hole }.closed(), Err(Refusal::NotClosed));
+    /// ```
+    pub fn closed(self) -> Result<(), Refusal> {
+        let (xyz, faces) = self.runs();
+        // SAFETY: slices, borrowed for the call and only read.
+        Refusal::check(unsafe { sys::cauchy_closed(xyz.as_ptr(), xyz.len(), faces.as_ptr(), faces.len()) })
+    }
+
     /// The enclosed volume, m³, below 0 where the faces are inside out.
     ///
     /// ```

@@ -39,11 +39,13 @@ pub enum Refusal {
     FlatPivot = 11,
     /// An exponent is not 1, where only 1 can be integrated.
     Exponent = 12,
+    /// The mesh is not closed.
+    NotClosed = 22,
 }
 
 impl Refusal {
     /// All refusals, by rising number.
-    pub const ALL: [Refusal; 12] = [
+    pub const ALL: [Refusal; 13] = [
         Refusal::Ragged,
         Refusal::Oversize,
         Refusal::LooseCorner,
@@ -56,12 +58,13 @@ impl Refusal {
         Refusal::BadMatrix,
         Refusal::FlatPivot,
         Refusal::Exponent,
+        Refusal::NotClosed,
     ];
 
     /// The specification's number.
     ///
     /// ```
-    /// assert_eq!(cauchy::Refusal::ALL.map(|r| r.number()), [1, 2, 3, 4, 5, 6, 7, 8, 9, 10, 11, 12]);
+    /// assert_eq!(cauchy::Refusal::ALL.map(|r| r.number()), [1, 2, 3, 4, 5, 6, 7, 8, 9, 10, 11, 12, 22]);
     /// ```
     pub fn number(self) -> u32 {
         self as u32
@@ -86,6 +89,9 @@ impl Refusal {
             Refusal::BadMatrix => "bad matrix: more than 16 equations, or lengths that do not fit",
             Refusal::FlatPivot => "flat pivot: the equations have no usable pivot in some column",
             Refusal::Exponent => "exponent: some exponent is not 1",
+            Refusal::NotClosed => {
+                "not closed: an edge does not occur once each way, or a face names a corner twice"
+            }
         }
     }
 

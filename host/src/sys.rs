@@ -207,6 +207,7 @@ unsafe extern "C" {
         n_answer: usize,
     ) -> u32;
 
+    pub fn cauchy_closed(xyz: *const f64, n_xyz: usize, faces: *const u32, n_faces: usize) -> u32;
     pub fn cauchy_kernel_volume(
         xyz: *const f64,
         n_xyz: usize,

@@ -357,6 +357,18 @@ static void kernels(void) {
     CHECK(cauchy_solve(2, cells, 6, answer, 3) == 0 && answer[0] == 1 && answer[1] == 2 && answer[2] == -1);
 }
 
+static void closed(void) {
+    static const uint32_t turned[N_FACES] = {0, 2, 1, 0, 1, 3, 0, 3, 2, 1, 3, 2}, twice[3] = {2, 2, 3};
+    CHECK(cauchy_closed(xyz, N_XYZ, faces, N_FACES) == CAUCHY_ACCEPTED);
+    CHECK(cauchy_closed(xyz, N_XYZ, NULL, 0) == CAUCHY_ACCEPTED && cauchy_closed(NULL, 0, NULL, 0) == CAUCHY_ACCEPTED);
+    CHECK(cauchy_closed(xyz, N_XYZ, faces, N_FACES - 3) == CAUCHY_NOT_CLOSED);
+    CHECK(cauchy_closed(xyz, N_XYZ, turned, N_FACES) == CAUCHY_NOT_CLOSED);
+    CHECK(cauchy_closed(xyz, N_XYZ, twice, 3) == CAUCHY_NOT_CLOSED);
+    CHECK(cauchy_closed(xyz, N_XYZ - 1, faces, N_FACES) == CAUCHY_RAGGED);
+    CHECK(cauchy_closed(xyz, N_XYZ, faces, N_FACES - 1) == CAUCHY_RAGGED);
+    CHECK(cauchy_closed(xyz, 9, faces, N_FACES) == CAUCHY_LOOSE_CORNER);
+}
+
 static void meshes(void) {
     const CauchyVector c = vector(1.25, 2.5, 3.75);
     CauchyValue v = cauchy_kernel_volume(xyz, N_XYZ, faces, N_FACES, c, 0.375);
@@ -391,6 +403,7 @@ static void refused_meshes(void) {
     CHECK(v.no == CAUCHY_RAGGED && v.value == 0);
     v = cauchy_body_volume(many, big, NULL, 0);
     CHECK(v.no == CAUCHY_OVERSIZE && v.value == 0);
+    CHECK(cauchy_closed(many, big, NULL, 0) == CAUCHY_OVERSIZE);
     v = cauchy_source_enclosed_volume(xyz, 9, faces, N_FACES);
     CHECK(v.no == CAUCHY_LOOSE_CORNER && v.value == 0);
     CauchyPoint p = cauchy_volume_centroid(xyz, 9, faces, N_FACES);
@@ -448,6 +461,7 @@ int main(void) {
     decompose_lists();
     readings();
     kernels();
+    closed();
     meshes();
     refused_meshes();
     source_lists();

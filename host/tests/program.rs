@@ -120,6 +120,32 @@ fn what_a_planner_must_not_overlook_is_said() {
 }
 
 #[test]
+fn a_mesh_that_is_not_closed_is_read_with_a_note() {
+    let folder = Folder::new("closed");
+    let said = folder.goes("run a.obj k.txt --raw --snapshot whole.snap");
+    assert!(said.contains("closed: every edge occurs once each way") && !said.contains("NOT"), "{said}");
+    assert!(folder.goes("resume whole.snap --raw").contains("closed: every edge occurs once each way"));
+
+    let note = "the mesh is NOT closed: field mass means nothing on a shell with a hole";
+    folder.write("hole.obj", BODY.replace("f 2 3 4\n", ""));
+    let said = folder.goes("run hole.obj k.txt --raw --snapshot hole.snap");
+    let lines = [
+        "NOT closed: field mass means nothing on a shell with a hole",
+        "edges that do not occur once each way: 3 (vertices counted from 1)",
+        "  3 → 2 in 1 face, 2 → 3 in 0 faces: (0, 0.8, 0) to (0.9, 0, 0) km",
+    ];
+    assert!(said.contains(&lines.map(|line| format!("          {line}\n")).concat()), "{said}");
+    assert!(said.contains(&format!("  Note: {note}\n")), "{said}");
+    let said = folder.goes("resume hole.snap --raw");
+    assert!(said.contains(lines[2]) && said.contains(note), "{said}");
+
+    folder.write("twice.obj", format!("{BODY}f 1 1 2\n"));
+    let said = folder.goes("run twice.obj k.txt --raw");
+    assert!(said.contains("faces that name a corner twice: 1") && said.contains("  1 1 2: at (0, 0, 0) km"));
+    assert!(said.contains(note), "{said}");
+}
+
+#[test]
 fn unused_vertices_are_counted_and_taken_out() {
     let folder = Folder::new("squeeze");
     let vertices = "v 0 0 0\nv 0.9 0 0\nv 0.3 0.3 0.3\nv 0.1 0 0\nv 0 0.8 0\nv 0 0 0.7\n";

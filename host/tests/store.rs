@@ -73,6 +73,26 @@ fn portions_of_any_size_leave_the_same_store() {
     }
 }
 
+#[test]
+fn a_mesh_is_closed_or_it_is_told() {
+    let closed = |faces: &[[u32; 3]]| Mesh { vertices: &VERTICES, faces }.closed();
+    let [a, b, c, d] = FACES;
+    let turned = |[p, q, r]: [u32; 3]| [p, r, q];
+    assert_eq!(closed(&FACES), Ok(()));
+    assert_eq!(closed(&FACES.map(turned)), Ok(()));
+    assert_eq!(closed(&[]), Ok(()));
+    assert_eq!(closed(&[a, turned(a)]), Ok(()));
+    assert_eq!(closed(&[a, b, c]), Err(Refusal::NotClosed));
+    assert_eq!(closed(&[a, b, c, turned(d)]), Err(Refusal::NotClosed));
+    assert_eq!(closed(&[a, b, c, d, d]), Err(Refusal::NotClosed));
+    assert_eq!(closed(&[a, b, c, d, a, b, c, d]), Err(Refusal::NotClosed));
+    assert_eq!(closed(&[a, b, c, d, [1, 1, 1]]), Err(Refusal::NotClosed));
+    assert_eq!(closed(&[[0, 1, 0]]), Err(Refusal::NotClosed));
+    assert_eq!(closed(&[a, b, c, [1, 2, 4]]), Err(Refusal::LooseCorner));
+    assert_eq!(closed(&vec![[0; 3]; 2_097_153]), Err(Refusal::Oversize));
+    assert!(Store::open(900.0, Mesh { vertices: &VERTICES, faces: &[a, b, c] }).is_ok());
+}
+
 /// The same body with vertices that no face uses, first, within and last, and with one corner moved to a vertex
 /// of its own that has the coordinates of another.
 const SPARE_VERTICES: [[f64; 3]; 8] = [
@@ -150,6 +170,7 @@ fn every_call_stays_within_its_stack() {
         let mut store = with_spare_vertices();
         store.advance(9).unwrap();
         store.squeeze().unwrap();
+        store.mesh().closed().unwrap_err();
         store.advance(u64::MAX).unwrap();
         store.report(BY_MASS).unwrap();
         store.list(BY_MASS).unwrap();

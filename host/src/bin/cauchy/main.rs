@@ -1,6 +1,7 @@
 //! The planner's program: reads a mesh and a kernel list, does the work in portions, and reads the store.
 mod failure;
 mod figures;
+mod holes;
 mod input;
 mod opening;
 mod options;
@@ -13,6 +14,7 @@ mod track;
 mod work;
 
 use failure::{Failure, Result};
+use opening::Opening;
 use options::{Command, Options};
 use output::say;
 use outputs::Outputs;
@@ -41,7 +43,7 @@ fn main() -> ExitCode {
 fn run(options: &Options) -> Result<()> {
     let outputs = Outputs::prepare(options)?;
     let points = options.track.as_deref().map(input::track).transpose()?;
-    let (mut store, head) = opening::open(&options.origin, options.squeeze)?;
+    let Opening { mut store, closed, head } = opening::open(&options.origin, options.squeeze)?;
     say(&head)?;
     let steps = work::work(&mut store, options.steps, outputs.snapshot.as_ref())?;
     say(&page::entry("work", &[page::steps(steps.done, steps.left)]))?;
@@ -50,5 +52,5 @@ fn run(options: &Options) -> Result<()> {
             say(&format!("The rest: cauchy resume {} ..\n", snapshot.path().display()))
         });
     }
-    reading::read(&store, options, &outputs, points)
+    reading::read(&store, closed, options, &outputs, points)
 }

@@ -1,14 +1,24 @@
 //! The store, from a mesh and a kernel list or from a snapshot.
 use crate::failure::{Failure, Result};
 use crate::figures::{counted, short};
+use crate::holes::Holes;
 use crate::input::{self, KernelFile};
 use crate::options::Origin;
 use crate::page;
-use cauchy::{Mesh, Store};
+use cauchy::{Mesh, Refusal, Store};
 use std::path::Path;
 
-/// The store, without unused vertices where that is asked, and what is printed of it.
-pub fn open(origin: &Origin, squeeze: bool) -> Result<(Store, String)> {
+/// A store to be worked on.
+pub struct Opening {
+    pub store: Store,
+    /// Whether its mesh is closed.
+    pub closed: bool,
+    /// What is printed of it.
+    pub head: String,
+}
+
+/// The store, without unused vertices where that is asked. Its mesh need not be closed.
+pub fn open(origin: &Origin, squeeze: bool) -> Result<Opening> {
     let (mut store, mut mesh_lines, mut kernel_lines) = match origin {
         Origin::Files { mesh, kernels, unit, radius } => open_files(mesh, kernels, *unit, *radius)?,
         Origin::Snapshot(path) => {
@@ -17,11 +27,26 @@ pub fn open(origin: &Origin, squeeze: bool) -> Result<(Store, String)> {
             (store, vec![format!("of the snapshot {}", path.display())], vec!["of the snapshot".into()])
         }
     };
+    let (closed, closed_lines) = closed(store.mesh())?;
     mesh_lines.extend(spare(&mut store, squeeze)?);
     mesh_lines.extend(page::mesh(&store));
+    mesh_lines.extend(closed_lines);
     kernel_lines.extend(page::places(&store));
     let head = page::entry("mesh", &mesh_lines) + &page::entry("kernels", &kernel_lines);
-    Ok((store, head))
+    Ok(Opening { store, closed, head })
+}
+
+/// Whether the mesh is closed, and what is said of it: where it is not, the first places to look at.
+fn closed(mesh: Mesh<'_>) -> Result<(bool, Vec<String>)> {
+    match mesh.closed() {
+        Ok(()) => Ok((true, vec!["closed: every edge occurs once each way".to_string()])),
+        Err(Refusal::NotClosed) => {
+            let mut lines = vec!["NOT closed: field mass means nothing on a shell with a hole".to_string()];
+            lines.extend(Holes::find(mesh).lines(mesh));
+            Ok((false, lines))
+        }
+        Err(refusal) => Failure::work(format!("closed: {refusal}")),
+    }
 }
 
 /// Takes the vertices that no face uses out where that is asked, and says how many there are.

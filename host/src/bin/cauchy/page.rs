@@ -67,7 +67,7 @@ pub fn convention(convention: Convention) -> String {
 }
 
 /// The mass report, beside the density at the origin with weights as entered.
-pub fn report(by: Convention, report: &StoreReport, origin: f64) -> String {
+pub fn report(by: Convention, report: &StoreReport, origin: f64, closed: bool) -> String {
     let mass = &report.mass;
     let bulk = match by {
         Convention::Raw => 1190.0,
@@ -88,15 +88,18 @@ pub fn report(by: Convention, report: &StoreReport, origin: f64) -> String {
     row("volume of the mesh", mass.volume, "m³", None);
     row("mean density by this convention", mass.applied_mass / mass.volume, "kg/m³", None);
     row("greatest error of a fit, of its peak", report.error, "", None);
-    for caution in cautions(by, &report.mass, origin) {
+    for caution in cautions(by, &report.mass, origin, closed) {
         let _ = writeln!(text, "  Note: {caution}");
     }
     text
 }
 
 /// What a planner must not overlook.
-fn cautions(by: Convention, mass: &MassReport, origin: f64) -> Vec<&'static str> {
+fn cautions(by: Convention, mass: &MassReport, origin: f64, closed: bool) -> Vec<&'static str> {
     let mut said = Vec::new();
+    if !closed {
+        said.push("the mesh is NOT closed: field mass means nothing on a shell with a hole");
+    }
     let tiny = |x: f64| !x.is_finite() || x.abs() <= 1e-30;
     let falls_back = mass.target_mass > 0.0 && tiny(mass.raw_mass);
     if falls_back {

@@ -9,9 +9,10 @@ use crate::{page, plot};
 use cauchy::{Convention, PLACES, Store};
 use std::path::Path;
 
-/// The readings of a store whose work is done.
+/// The readings of a store whose work is done; its mesh is closed or not.
 pub fn read(
     store: &Store,
+    closed: bool,
     options: &Options,
     outputs: &Outputs,
     points: Option<Vec<[f64; 3]>>,
@@ -20,7 +21,7 @@ pub fn read(
     let refused = |what: &'static str| move |refusal| Failure::Work(format!("{what}: {refusal}"));
     let report = store.report(by).map_err(refused("report"))?;
     let origin = store.density(Convention::Raw, [0.0; 3]).map_err(refused("density"))?;
-    say(&page::report(by, &report, origin))?;
+    say(&page::report(by, &report, origin, closed))?;
     let pieces = store.list(by).map_err(refused("list"))?;
     say(&page::list(by, store, &pieces))?;
     if let Some(output) = &outputs.list {
