@@ -1,6 +1,7 @@
 //! The proved functions of 01's "Roots and powers" and `radial_g`, as libcauchy.a exports them, and what a comparison needs: one NaN,
 //! distances in ulp, inputs that can be repeated. [`steps`] works 01's steps a second time, sharing nothing with the proved code.
 pub mod cases;
+pub mod closed;
 #[cfg(original)]
 pub mod conventions;
 #[cfg(original)]
@@ -16,6 +17,7 @@ pub mod original;
 pub mod pieces;
 #[cfg(original)]
 pub mod program;
+pub mod solids;
 pub mod steps;
 #[cfg(original)]
 pub mod store;

@@ -5,6 +5,8 @@
 #[cfg(original)]
 mod clock;
 #[cfg(original)]
+mod closed;
+#[cfg(original)]
 mod fits;
 #[cfg(original)]
 mod largest;
@@ -33,6 +35,7 @@ fn main() {
     volumes::rows(&mut bench);
     largest::rows(&mut bench);
     squeezes::rows(&mut bench);
+    closed::rows(&mut bench);
     readings::rows(&mut bench);
     if let Some(path) = std::env::args().nth(1) {
         program::rows(&mut bench, path);
