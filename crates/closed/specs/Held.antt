@@ -1,4 +1,5 @@
--- The numbers of the faces' edges, and the words of a batch that hold them. What the internal contracts speak of; definitions only.
+-- The numbers of the faces' edges, and the words of a batch that hold them. What the internal contracts speak of;
+-- definitions only.
 use Prim.Native.Nat.{ℕ, _+_, _*_, _/_, _≤_, _<_}
 use mathlib.Core.Path.{_≡_}
 use mathlib.Core.Bool.{Bool, _&&_, false, cond}
@@ -6,7 +7,7 @@ use mathlib.Core.List.{List, [], _∷_}
 use lib.Dec.{leb, ltb}
 use lib.ListN.{length, getD, set, drop}
 use Rattle.closed.specs.declared.ranges.Batch.{Batch}
-use Rattle.closed.specs.Order.{is, held, Within}
+use Rattle.closed.specs.Order.{is, held, All, Within}
 
 -- the number of a directed edge: 2k where it goes to the greater corner, 2k + 1 where to the lesser, k of both corners
 unfoldable pub code : ℕ → ℕ → ℕ
@@ -32,7 +33,8 @@ pub record Put (low end x : ℕ) (xs : List ℕ) (m : ℕ) (ys : List ℕ) (n : 
   pub count : n ≡ m + taken low end x
   pub words : ys ≡ set xs m x
 
--- the first n of the words ys hold what the first m of xs do, and the numbers of a face x, y, z that are among low .. end - 1
+-- the first n of the words ys hold what the first m of xs do, and the numbers of a face x, y, z that are among
+-- low .. end - 1
 pub record Faced (low end x y z : ℕ) (xs : List ℕ) (m : ℕ) (ys : List ℕ) (n : ℕ) : Type 0 where
   pub more : n ≤ m + 3
   pub long : length ys ≡ length xs
@@ -47,7 +49,14 @@ pub record NoneWithin (ks : List ℕ) (i n first last : ℕ) : Type 0 where
 pub record Below (v : ℕ) (ks : List ℕ) : Type 0 where
   pub corner : (k : ℕ) → k < length ks → getD ks k 0 < v
 
--- a batch of the range from low on: every word is a number of the range, and there is room for the words and for the list of ends
+-- of words in order, the first m of n are those below `end`
+pub record Cut (end : ℕ) (xs : List ℕ) (n m : ℕ) : Type 0 where
+  pub fewer : m ≤ n
+  pub above : All (λ (x : ℕ). end ≤ x) xs m n
+  pub under : (j : ℕ) → j + 1 ≡ m → getD xs j 0 < end
+
+-- a batch of the range from low on: every word is a number of the range, and there is room for the words and for the
+-- list of ends
 pub record Sound (low : ℕ) (b : Batch) (xs : List ℕ) : Type 0 where
   pub long : length xs ≡ 61440
   pub room : b .count ≤ 61440

@@ -13,7 +13,7 @@ use borrow.Author.Tests.{le-leb, lt-ltb, leb-true, ltb-true, ltb-false, eqb-true
 use Rattle.closed.specs.declared.ranges.Batch.{Batch}
 use Rattle.closed.specs.Order.{is, held, All, Within, Rising, Ordered}
 use Rattle.closed.specs.OrderLaws.{is-yes, is-no, is-pair, held-next, held-le, held-past, held-none, held-two, held-above, all-moved, all-none}
-use Rattle.closed.specs.Held.{code, tally, inside, taken, Put, Faced, NoneWithin, Below, Sound, Gathered, Halved, Paired, Unpaired, Matched, Unmatched}
+use Rattle.closed.specs.Held.{code, tally, inside, taken, Put, Faced, NoneWithin, Below, Cut, Sound, Gathered, Halved, Paired, Unpaired, Matched, Unmatched}
 
 -- ---- a word that is put
 pub put-one : (c low end x n : ℕ) (xs : List ℕ) → n < length xs → low ≤ c → c < end → held c (set xs n x) (n + taken low end x) ≡ held c xs n + is x c
@@ -158,12 +158,6 @@ pub gathered-all : {ks : List ℕ} {low i : ℕ} {b : Batch} {xs : List ℕ} →
 gathered-all {ks} {i = i} h g = further g (λ c f l. tally-few c (drop (length ks) ks) (few ks (length ks) (omega arith)) ∙ sym (tally-few c (drop i ks) (few ks i h)))
 
 -- ---- a batch that is halved
--- of words in order, the first m of n are those below `end`
-pub record Cut (end : ℕ) (xs : List ℕ) (n m : ℕ) : Type 0 where
-  pub fewer : m ≤ n
-  pub above : All (λ (x : ℕ). end ≤ x) xs m n
-  pub under : (j : ℕ) → j + 1 ≡ m → getD xs j 0 < end
-
 pub cut-less : {end m n : ℕ} {xs : List ℕ} → 0 < m → m ≤ n → All (λ (x : ℕ). end ≤ x) xs m n → end ≤ getD xs (m - 1) 0 → All (λ (x : ℕ). end ≤ x) xs (m - 1) n
 cut-less {end} {m} {n} {xs} h g a w = record { at = λ i f b. go i f b (eqb i (m - 1)) refl }
   where

@@ -1,5 +1,5 @@
-// The ends that a sweep starts with: a sample of the numbers is put in order and divided into equal shares, so that each
-// range is likely to hold about as many numbers as a batch has room for.
+// The ends that a sweep starts with: a sample of the numbers is put in order and divided into equal shares, so that
+// each range is likely to hold about as many numbers as a batch has room for.
 // Internal: a function with a `requires` is called by proved code alone.
 ghost use mathlib.Core.Path.{_≡_};
 ghost use Prim.Native.Nat.{_≤_};

@@ -4,8 +4,7 @@ ghost use mathlib.Core.Path.{_≡_};
 ghost use mathlib.Core.Bool.{false, cond};
 ghost use Prim.Native.Nat.{_+_, _*_, _≤_, _<_};
 ghost use lib.ListN.{length};
-ghost use Rattle.closed.specs.Held.{code, Put, Faced, NoneWithin, Below, Sound, Gathered, Halved};
-ghost use Rattle.closed.specs.HeldLaws.{Cut};
+ghost use Rattle.closed.specs.Held.{code, Put, Faced, NoneWithin, Below, Cut, Sound, Gathered, Halved};
 use crate::arrange::order;
 use crate::ranges::Batch;
 use crate::ranges::push;
@@ -160,7 +159,8 @@ fn pass_block(
     batch
 }
 
-// Every number 2k or 2k + 1 of the faces, with k one of low .. end - 1, added to an empty batch; where these are too many, the end is lowered.
+// Every number 2k or 2k + 1 of the faces, with k one of low .. end - 1, added to an empty batch; where these are too
+// many, the end is lowered.
 pub fn gather(
     corners: &[u32],
     low: u64,

@@ -1,10 +1,12 @@
-// The ranges that the numbers are gone through in, and where they end. A list holds the ends of ranges still to come, the
-// nearest last. Nothing is asked of its ends: they decide how many passes are made over the faces, not what is answered.
+// The ranges that the numbers are gone through in, and where they end. A list holds the ends of ranges still to come,
+// the nearest last. Nothing is asked of its ends: they decide how many passes are made over the faces, not what is
+// answered.
 // Internal: a function with a `requires` is called by proved code alone.
 ghost use mathlib.Core.Path.{_≡_};
 ghost use Prim.Native.Nat.{_≤_, _<_};
 
-// A range as far as it is gathered: so many words, which are all its numbers; the range's end; how many ends are listed.
+// A range as far as it is gathered: how many words there are, which are all its numbers; where it ends; and how many
+// ends are listed.
 pub struct Batch {
     pub count: usize,
     pub end: u64,

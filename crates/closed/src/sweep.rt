@@ -1,8 +1,9 @@
-// The numbers of all faces, range by range: each range is gathered, put in order and looked through for a number without its partner.
+// The numbers of all faces, range by range: each range is gathered, put in order and looked through for a number
+// without its partner.
 //
-// How long it takes is no matter of luck: a batch is halved only where it is full, and the end that it loses is listed.
-// So each halving leaves some 30,700 numbers on either side of an end that stays, and there are about 205 at most, whatever
-// the mesh. With at most 117 ends of the sample that makes some 320 passes over the faces at most.
+// How long it takes is no matter of luck. A batch is halved only where it is full, and the end that it loses is listed:
+// so each halving leaves some 30,700 numbers on either side of an end that stays, and there are about 205 of them at
+// most, whatever the mesh. With at most 117 ends of the sample that makes some 320 passes over the faces at most.
 // Internal: a function with a `requires` is called by proved code alone.
 ghost use mathlib.Core.Path.{_≡_};
 ghost use mathlib.Core.Bool.{true, false};
