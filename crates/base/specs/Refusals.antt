@@ -1,7 +1,7 @@
--- The numbers of 01's table of refusals, "The store", and of those that 02 adds. Definitions only.
+-- The numbers of 01's table of refusals, "The store", and of 02's. Definitions only.
 use Prim.Native.Nat.{ℕ}
 use Rattle.base.specs.declared.refusal.Refusal.{Refusal}
-use Rattle.base.specs.declared.refusal.Refusal.the-variants.{Ragged, Oversize, LooseCorner, ShortStore, Unsound, NoPlace, Vacant, Unfinished, ShortList, BadMatrix, FlatPivot, Exponent, BadLine, Unclosed}
+use Rattle.base.specs.declared.refusal.Refusal.the-variants.{Ragged, Oversize, LooseCorner, ShortStore, Unsound, NoPlace, Vacant, Unfinished, ShortList, BadMatrix, FlatPivot, Exponent, BadLine, BadTrack, Unclosed}
 
 abbrev pub number : Refusal → ℕ
 -- coordinate or index count not a multiple of 3
@@ -30,5 +30,7 @@ number FlatPivot = 11
 number Exponent = 12
 -- program only
 number BadLine = 13
--- 02, L13: "22 when a mesh doesn't pass" the check of closedness
+-- a track of more than 4,096 points, of a coordinate count that isn't a multiple of 3, or with a run that is too short (02, L1)
+number BadTrack = 14
+-- a face names a corner twice, or a directed edge or its reverse does not occur once
 number Unclosed = 22

@@ -30,6 +30,8 @@ pub enum Refusal {
     Exponent,
     // 13: a line that is none of the program's forms
     BadLine,
+    // 14: a track is too long or not of threes, or its run is too short
+    BadTrack,
     // 22: the mesh is not closed
     Unclosed,
 }
@@ -64,6 +66,7 @@ pub fn refusal_number(refusal: Refusal) -> u32
         Refusal::FlatPivot => 11,
         Refusal::Exponent => 12,
         Refusal::BadLine => 13,
+        Refusal::BadTrack => 14,
         Refusal::Unclosed => 22,
     }
 }

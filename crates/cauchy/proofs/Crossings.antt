@@ -34,9 +34,12 @@ use Rattle.readings.specs.ReportAnswer.{reportRead}
 use Rattle.readings.specs.declared.listing.ListRead.{ListRead}
 use Rattle.readings.specs.declared.listing.ListRead.the-variants as listing
 use Rattle.readings.specs.ListAnswer.{listRead}
+use Rattle.readings.specs.declared.tracks.TrackRead.{TrackRead}
+use Rattle.readings.specs.declared.tracks.TrackRead.the-variants as tracks
+use Rattle.readings.specs.TrackAnswer.{trackRead}
 use Rattle.cauchy.specs.Crossing.{numberFrom, piecesFrom, listPiecesFrom}
 use Rattle.cauchy.specs.Volumes.{valueFrom}
-use Rattle.cauchy.specs.StoreCrossing.{openedFrom, placedFrom, stepsFrom, reportFrom, listedFrom}
+use Rattle.cauchy.specs.StoreCrossing.{openedFrom, placedFrom, stepsFrom, reportFrom, listedFrom, trackFrom}
 
 -- the reply of a number and values, which count where the number is 0
 abbrev pub told : ℕ → List ℕ → List Float → Answer
@@ -77,3 +80,7 @@ reports (reporting.Refused r) = rw (never-zero r) refl
 pub lists : (d : ListRead) → let c = listedFrom (listRead d) in told (c .no) (c .pieces ∷ []) [] ≡ listRead d
 lists (listing.Pieces n) = refl
 lists (listing.Refused r) = rw (never-zero r) refl
+
+pub tracked : (d : TrackRead) → let c = trackFrom (trackRead d) in told (c .no) (c .points ∷ []) [] ≡ trackRead d
+tracked (tracks.Points n) = refl
+tracked (tracks.Refused r) = rw (never-zero r) refl

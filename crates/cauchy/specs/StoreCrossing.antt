@@ -18,6 +18,7 @@ use Rattle.cauchy.specs.declared.stores.CauchySqueezed.{CauchySqueezed}
 use Rattle.cauchy.specs.declared.stores.CauchyConvention.{CauchyConvention}
 use Rattle.cauchy.specs.declared.stores.CauchyStoreReport.{CauchyStoreReport}
 use Rattle.cauchy.specs.declared.stores.CauchyListed.{CauchyListed}
+use Rattle.cauchy.specs.declared.stores.CauchyTrack.{CauchyTrack}
 
 -- ---- what C gets, with the runs as they are then
 pub record Crossed (A : Type 0) : Type 0 where
@@ -64,6 +65,10 @@ reportFrom a =
 -- list: "the piece count"
 abbrev pub listedFrom : Answer → CauchyListed
 listedFrom a = record { no = a .refusal; pieces = getD (a .counts) 0 0 }
+
+-- track: how many points
+abbrev pub trackFrom : Answer → CauchyTrack
+trackFrom a = record { no = a .refusal; points = getD (a .counts) 0 0 }
 
 -- ---- "raw, rho0 with a bulk density, or mass with target and bulk", by a kind: 0, 1, any other
 abbrev pub conventionOf : CauchyConvention → Convention

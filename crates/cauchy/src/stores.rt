@@ -21,9 +21,10 @@ ghost use Rattle.readings.specs.Readings.{readStep};
 ghost use Rattle.readings.specs.Readings;
 ghost use Rattle.readings.specs.ListAnswer.{listRead};
 ghost use Rattle.readings.specs.ReportAnswer.{reportRead};
+ghost use Rattle.readings.specs.TrackAnswer.{trackRead};
 ghost use Rattle.cauchy.specs.Volumes.{valueFrom};
 ghost use Rattle.cauchy.specs.Crossing.{lent, lentFrom, numberFrom};
-ghost use Rattle.cauchy.specs.StoreCrossing.{crossed, across, openedFrom, placedFrom, stepsFrom, squeezedFrom, conventionOf, reportFrom, listedFrom};
+ghost use Rattle.cauchy.specs.StoreCrossing.{crossed, across, openedFrom, placedFrom, stepsFrom, squeezedFrom, conventionOf, reportFrom, listedFrom, trackFrom};
 use crate::volumes::CauchyValue;
 use crate::volumes::value_of;
 use advance::advance::Advanced;
@@ -40,6 +41,8 @@ use readings::listing::ListRead;
 use readings::listing::list;
 use readings::reports::Reported;
 use readings::reports::report;
+use readings::tracks::TrackRead;
+use readings::tracks::track;
 use squeeze::call::Squeezed;
 use squeeze::call::squeeze;
 use store::edit::Edited;
@@ -243,6 +246,13 @@ pub struct CauchyListed {
     pub pieces: u32,
 }
 
+// The number, then the points that were written.
+#[repr(C)]
+pub struct CauchyTrack {
+    pub no: u32,
+    pub points: u32,
+}
+
 fn convention_of(v: CauchyConvention) -> Convention
     ensures { λ r. ⌜ r ≡ conventionOf v ⌝ }
 {
@@ -343,4 +353,31 @@ pub extern "C" fn cauchy_store_list(
     ensures { λ r. ⌜ lent r (now (out .exit)) ≡ lentFrom listedFrom (readStep width (now (floats .entry)) (now (words .entry)) (Readings.list (conventionOf convention) (now (out .entry)))) ⌝ }
 {
     listed_of(list(floats, words, convention_of(convention), out))
+}
+
+fn track_of(d: TrackRead) -> CauchyTrack
+    ensures { λ r. ⌜ r ≡ trackFrom (trackRead d) ⌝ }
+{
+    match d {
+        TrackRead::Points(points) => CauchyTrack { no: 0, points },
+        TrackRead::Refused(r) => CauchyTrack {
+            no: refusal_number(r),
+            points: 0,
+        },
+    }
+}
+
+// Writes the density at each point of a track, three coordinates a point, in point order: 4, 5, 8 or 14. Floats of `out` past
+// them stay.
+#[no_mangle]
+pub extern "C" fn cauchy_store_track(
+    floats: &[f64],
+    words: &[u32],
+    convention: CauchyConvention,
+    points: &[f64],
+    out: &mut [f64],
+) -> CauchyTrack
+    ensures { λ r. ⌜ lent r (now (out .exit)) ≡ lentFrom trackFrom (readStep width (now (floats .entry)) (now (words .entry)) (Readings.track (conventionOf convention) (now (points .entry)) (now (out .entry)))) ⌝ }
+{
+    track_of(track(floats, words, convention_of(convention), points, out))
 }

@@ -7,7 +7,7 @@ use lib.ListN.{length, length-map}
 use lib.Ieee.{Float}
 use borrow.Author.Tests.{le-ltb}
 use Rattle.base.specs.Floats.{+0}
-use Rattle.base.specs.Answers.{Answer, accepted, outcome}
+use Rattle.base.specs.Answers.{Answer, accepted, counted, outcome, guardedRun}
 use Rattle.base.specs.declared.refusal.Checked.the-variants.{Passed}
 use Rattle.mesh.specs.Checks.{vertexLimit, faceLimit, meshCheck}
 use Rattle.field.specs.Field.{centreOf, fieldCheck}
@@ -19,12 +19,15 @@ use Rattle.pieces.specs.Kernels.{pieceAt}
 use Rattle.mass.specs.Total.{fieldMass}
 use Rattle.mass.specs.Calls.{bodyVolumeCall, fieldMassCall}
 use Rattle.density.specs.declared.convention.Convention.{Convention}
+use Rattle.density.specs.Densitize.{densitized}
 use Rattle.density.specs.Conventions.{bulkOf, rho0Scale, appliedScale}
-use Rattle.readings.specs.Readings.{Reading, density, report, list, Part, bare, densityAt, rawMass, origin, applied, rescaled, sixes, seeing, answerOf}
+use Rattle.runs.specs.Runs.{write}
+use Rattle.track.specs.TrackLaws.{stretch-same}
+use Rattle.readings.specs.Readings.{Reading, density, report, list, track, Part, bare, densityAt, rawMass, origin, applied, rescaled, sixes, trackCheck, seeing, answerOf}
 use Rattle.readings.specs.SixLaws.{whole, list-sound, sixes-whole, whole-rescaled, densitized-on, sized, mass-on}
 use Rattle.machine.specs.Machine.{Mesh, Slot, empty, full}
 use Rattle.machine.specs.Holding.{triangles}
-use Rattle.machine.specs.Fresh.{kernelsOf, piecesTo, piecesOf, allPieces, worstFrom, valueOf, massOf, originOf, readingOn, workedAfresh}
+use Rattle.machine.specs.Fresh.{kernelsOf, piecesTo, piecesOf, allPieces, worstFrom, valueOf, massOf, originOf, scaledList, readingOn, workedAfresh}
 use Rattle.machine.proofs.Parts.{freshAt, freshAll, freshSeen}
 use Rattle.machine.specs.Valid.{Shape}
 
@@ -89,6 +92,12 @@ module _ (m : Mesh) (g : Shape m) where
     answer-on filled worst (list v out) =
         let s = appliedScale v (massOf m ks) (rho0Scale (bulkOf v) (originOf ks)) in
         rw (scale-on v, bare-parts m ks, length-map ks whole, whole-rescaled s ks, sixes-whole (map (rescaled s) ks)) refl
+    answer-on filled worst (track v points out) =
+        let s = appliedScale v (massOf m ks) (rho0Scale (bulkOf v) (originOf ks)) in
+        let n = length points / 3 in
+        rw (scale-on v, bare-parts m ks, whole-rescaled s ks)
+        (ap (λ (ds : List Float). guardedRun (trackCheck (length points) (length out)) out (outcome (counted (n ∷ [])) (write out 0 ds)))
+        (stretch-same (densityAt (map whole (map (rescaled s) ks))) (λ x. valueOf (densitized (scaledList v m ks) x)) (λ x. ap valueOf (sym (densitized-on (map (rescaled s) ks) x))) points 0 n))
 
   pub joined : (ss : List Slot) (r : Reading) → answerOf r (freshSeen m ss) ≡ workedAfresh m ss r
   unfolding freshSeen workedAfresh

@@ -2,19 +2,20 @@
 use mathlib.Core.Path.{_≡_, refl, sym, ap, subst, _∙_}
 use mathlib.Core.Bool.{Bool, true, false, _&&_, cond, and-eq-true-iff}
 use mathlib.Core.List.{List, [], _∷_, map}
-use Prim.Native.Nat.{ℕ, _*_, _<_, min}
+use Prim.Native.Nat.{ℕ, _*_, _/_, _%_, _<_, min}
 use native.Mathlib.Omega.{arith}
-use lib.Dec.{ltb, leb}
+use lib.Dec.{ltb, leb, eqb}
 use lib.ListN.{length}
 use lib.Ieee.{Float}
 use borrow.Author.Tests.{lt-ltb, ltb-true}
 use Rattle.base.specs.Answers.{Answer, refused, counted, Outcome, outcome, guardedRun}
-use Rattle.base.specs.declared.refusal.Refusal.the-variants.{Unfinished, ShortList}
+use Rattle.base.specs.declared.refusal.Refusal.the-variants.{Unfinished, ShortList, BadTrack}
 use Rattle.base.specs.declared.refusal.Checked.the-variants.{Passed, Failed}
 use Rattle.runs.specs.Runs.{write}
+use Rattle.track.specs.Track.{along}
 use Rattle.layout.specs.Layout.{width}
 use Rattle.store.specs.Calls.{After, after, openCheck, openStep}
-use Rattle.readings.specs.Readings.{Reading, density, report, list, bare, applied, rescaled, sixes, Seen, answerOf, refusing}
+use Rattle.readings.specs.Readings.{Reading, density, report, list, track, bare, applied, rescaled, densityAt, sixes, Seen, trackLimit, trackCheck, answerOf, refusing}
 use Rattle.machine.specs.Machine.{Mesh, leftSum, Machine, opened, openRow}
 use Rattle.machine.specs.Holding.{excessF, excessW}
 use Rattle.machine.specs.Fresh.{kernelsOf, workedAfresh}
@@ -35,17 +36,28 @@ listed-not : (b : Bool) (n : ℕ) (o out : List Float) → guardedRun (cond b Pa
 listed-not true n o out e = omega arith
 listed-not false n o out e = omega arith
 
+tracked-not : (a b n : ℕ) (o out : List Float) → guardedRun (trackCheck a b) out (outcome (counted (n ∷ [])) o) .reply .refusal ≡ 8 → ⊥
+unfolding trackCheck
+tracked-not a b n o out = go (eqb (a % 3) 0 && leb (a / 3) trackLimit && leb (a / 3) b)
+  where
+    go : (t : Bool) → guardedRun (cond t Passed (Failed BadTrack)) out (outcome (counted (n ∷ [])) o) .reply .refusal ≡ 8 → ⊥
+    go true e = omega arith
+    go false e = omega arith
+
 not-eight : (r : Reading) (s : Seen) → answerOf r s .reply ≡ refused Unfinished → ⊥
 not-eight (density v x) s e = let z : _≡_ {A = ℕ} 0 8 = ap (λ (a : Answer). a .refusal) e in omega arith
 not-eight (report v) s e = let z : _≡_ {A = ℕ} 0 8 = ap (λ (a : Answer). a .refusal) e in omega arith
 not-eight (list v out) s e =
     let ks = map bare (s .parts) in
     listed-not (leb (6 * length ks) (length out)) (length ks) (write out 0 (sixes (map (rescaled (applied v (s .parts))) ks))) out (ap (λ (a : Answer). a .refusal) e)
+not-eight (track v points out) s e =
+    tracked-not (length points) (length out) (length points / 3) (write out 0 (along (densityAt (map (rescaled (applied v (s .parts))) (map bare (s .parts)))) points (length points / 3))) out (ap (λ (a : Answer). a .refusal) e)
 
 eight : (r : Reading) → refusing r Unfinished .reply ≡ refused Unfinished
 eight (density v x) = refl
 eight (report v) = refl
 eight (list v out) = refl
+eight (track v points out) = refl
 
 module _ (r : Reading) (o : Outcome) where
   when-eight : (o .reply ≡ refused Unfinished → ⊥) → (b : Bool) → cond b (refusing r Unfinished) o .reply ≡ refused Unfinished → b ≡ true

@@ -23,7 +23,7 @@ use Rattle.pieces.specs.Kernels.{pieceAt, layAt, laid}
 use Rattle.pieces.specs.Lists.{pieceCount, greatestError, spread, fittedAll, listDecomposition}
 use Rattle.readings.specs.Readings.{noKernel, six, sixes}
 use Rattle.readings.specs.Lists.{set6-write}
-use Rattle.readings.specs.SixLaws.{whole, sixes-length, next-kernel, list-sound, count-of}
+use Rattle.readings.specs.SixLaws.{whole, sixes-length, at-whole, list-sound, count-of}
 use Rattle.machine.specs.Fresh.{piecesTo, piecesOf, allPieces, worstFrom}
 use Rattle.machine.specs.Demands.{Decomposed}
 
@@ -67,12 +67,6 @@ module _ (n : ℕ) (k : Kernel) (fit : Pieces) (xs : List Float) where
       ∙ ap (write xs (6 * n)) (sym (sixes-append (piecesTo k fit j) (pieceAt k fit j ∷ []))))))))
 
 -- ---- a list of kernels as six floats each
-at-whole : (ks : List Kernel) (i : ℕ) → i < length ks → kernelAt (sixes ks) i ≡ whole (getD ks i noKernel)
-unfolding kernelAt
-at-whole [] i h = absurd (omega arith)
-at-whole (k ∷ ks) zero h = refl
-at-whole (k ∷ ks) (suc i) h = next-kernel (getD (k .c) 0 nan) (getD (k .c) 1 nan) (getD (k .c) 2 nan) (k .sigma) (k .w) (k .alpha) (sixes ks) i ∙ at-whole ks i (omega arith)
-
 same-fit : (k : Kernel) (r : Float) → decomposed (whole k) r ≡ decomposed k r
 same-fit k r = same-pieces (getD (k .c) 0 nan ∷ getD (k .c) 1 nan ∷ getD (k .c) 2 nan ∷ []) (k .c) (k .sigma) (k .w) (k .w) (k .alpha) r
 

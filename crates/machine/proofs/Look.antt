@@ -20,7 +20,7 @@ use Rattle.density.specs.Conventions.{bulkOf, targetOf, rho0Scale, massScale, a
 use Rattle.layout.specs.Layout.{vertsOf, facesOf}
 use Rattle.layout.specs.Left.{held}
 use Rattle.base.specs.Answers.{outcome}
-use Rattle.readings.specs.Readings.{Reading, density, report, list, byMass, needsWork, Part, bare, densityAt, rawMass, origin, applied, rescaled, Seen, seeing, listing, answerOf, refusing, readingOf, heldFilled, heldWorst, heldSeen, readStep}
+use Rattle.readings.specs.Readings.{Reading, density, report, list, track, byMass, needsWork, Part, bare, densityAt, rawMass, origin, applied, rescaled, Seen, seeing, listing, tracking, answerOf, refusing, readingOf, heldFilled, heldWorst, heldSeen, readStep}
 use Rattle.machine.specs.Machine.{Mesh, Slot, empty, full, leftSum}
 use Rattle.machine.specs.Holding.{triangles, placeRow, wordsOf}
 use Rattle.machine.specs.Fresh.{kernelOf, kernelsOf, worstFrom, workedAfresh}
@@ -46,6 +46,7 @@ same-needs : (r : Reading) → needsWork r ≡ needs r
 same-needs (density v x) = same-target v
 same-needs (report v) = refl
 same-needs (list v out) = same-target v
+same-needs (track v points out) = same-target v
 
 -- ---- a reading that needs no work does not look at volumes
 zero-not : lt +0 +0 ≡ false
@@ -71,6 +72,9 @@ blind (report v) n s t e = absurd (true≢false n)
 blind (list v out) n s t e =
     ap (λ (a : Float). listing a (map bare (s .parts)) out) (applied-blind v n (s .parts) (t .parts) e)
     ∙ ap (λ (ks : List Kernel). listing (applied v (t .parts)) ks out) e
+blind (track v points out) n s t e =
+    ap (λ (a : Float). tracking a (map bare (s .parts)) points out) (applied-blind v n (s .parts) (t .parts) e)
+    ∙ ap (λ (ks : List Kernel). tracking (applied v (t .parts)) ks points out) e
 
 pub same-seen : {p p′ : List Part} {b b′ : Float} {n n′ : ℕ} {e e′ : Float} → p ≡ p′ → b ≡ b′ → n ≡ n′ → e ≡ e′
     → seeing p b n e ≡ seeing p′ b′ n′ e′

@@ -17,7 +17,7 @@ use Rattle.advance.specs.Steps.{advanceStep}
 use Rattle.put.specs.Puts.{putStep}
 use Rattle.density.specs.declared.convention.Convention.{Convention}
 use Rattle.density.specs.declared.convention.Convention.the-variants.{Raw, Rho0, Mass}
-use Rattle.readings.specs.Readings.{Reading, density, report, list, refusing, readStep}
+use Rattle.readings.specs.Readings.{Reading, density, report, list, track, refusing, readStep}
 use Rattle.squeeze.specs.Squeeze.{squeezeStep}
 use Rattle.machine.specs.Machine.{empty, Machine, workLeft, Turn, turn, putTurn, clearTurn, reweighTurn, advanceTurn, squeezeTurn}
 use Rattle.machine.specs.Holding.{floatsOf, wordsOf}
@@ -38,7 +38,7 @@ pub data Call : Type 0 where
 abbrev pub inPlace : Machine → ℕ → Turn → Turn
 inPlace m i t = cond (ltb i slotLimit) t (turn m (refused NoPlace))
 
--- row 8: "left > 0, for report, or density and list by mass with target > 0"
+-- row 8: "left > 0, for report, or density and list by mass with target > 0"; 02: "for 8 a track counts as a density"
 abbrev pub byTarget : Convention → Bool
 byTarget Raw = false
 byTarget (Rho0 bulk) = false
@@ -48,6 +48,7 @@ abbrev pub needs : Reading → Bool
 needs (density v x) = byTarget v
 needs (report v) = true
 needs (list v out) = byTarget v
+needs (track v points out) = byTarget v
 
 -- any other reading is worked afresh; no reading changes the machine
 abbrev pub readTurn : Machine → Reading → Outcome

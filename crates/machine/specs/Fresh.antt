@@ -3,7 +3,7 @@
 -- the runs". Said with demand 2's functions alone: `decomposed`, `fieldMassCall`, `densitized` and `bodyVolumeCall`
 -- are what the contracts of those calls cite. Definitions only.
 use mathlib.Core.List.{List, [], _∷_, _++_, map}
-use Prim.Native.Nat.{ℕ, zero, suc, _*_}
+use Prim.Native.Nat.{ℕ, zero, suc, _*_, _/_}
 use lib.ListN.{length, getD}
 use lib.Ieee.{Float, nan}
 use Rattle.base.specs.Floats.{+0, greater}
@@ -18,7 +18,8 @@ use Rattle.density.specs.declared.convention.Convention.{Convention}
 use Rattle.density.specs.Densitize.{densitized}
 use Rattle.density.specs.Conventions.{bulkOf, rho0Scale, appliedScale}
 use Rattle.density.specs.Reports.{reportOf}
-use Rattle.readings.specs.Readings.{Reading, density, report, list, origin, rescaled, sixes, reported}
+use Rattle.track.specs.Track.{along}
+use Rattle.readings.specs.Readings.{Reading, density, report, list, track, origin, rescaled, sixes, reported, trackCheck}
 use Rattle.machine.specs.Machine.{Mesh, Slot, empty, full}
 
 -- ---- "the machine's filled places in order": their kernels
@@ -68,7 +69,7 @@ abbrev pub scaledList : Convention → Mesh → List Kernel → List Float
 scaledList v m ks = sixes (map (rescaled (appliedScale v (massOf m ks) (rho0Scale (bulkOf v) (originOf ks)))) ks)
 
 -- "Density is `densitize` on rescaled pieces"; the report; "List writes c, sigma, rescaled w, alpha per piece and
--- answers the piece count", row 9
+-- answers the piece count", row 9; 02, L1: the density at each point of a track, in point order, row 14
 abbrev pub readingOn : Mesh → List Kernel → ℕ → Float → Reading → Outcome
 readingOn m ks filled worst (density v x) = outcome (densitized (scaledList v m ks) x) []
 readingOn m ks filled worst (report v) =
@@ -76,6 +77,10 @@ readingOn m ks filled worst (report v) =
 readingOn m ks filled worst (list v out) =
     guardedRun (roomCheck (6 * length ks) (length out)) out
     (outcome (counted (length ks ∷ [])) (write out 0 (scaledList v m ks)))
+readingOn m ks filled worst (track v points out) =
+    let count = length points / 3 in
+    guardedRun (trackCheck (length points) (length out)) out
+    (outcome (counted (count ∷ [])) (write out 0 (along (λ x. valueOf (densitized (scaledList v m ks) x)) points count)))
 
 unfoldable pub workedAfresh : Mesh → List Slot → Reading → Outcome
 workedAfresh m ss r =

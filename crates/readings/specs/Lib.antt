@@ -8,3 +8,6 @@ pub mod Checks
 pub mod ReadLaws
 pub mod ReportAnswer
 pub mod ListAnswer
+pub mod TrackAnswer
+pub mod TrackLaws
+pub mod Tracks

@@ -1,15 +1,15 @@
--- 01, "The store": "Readings (density, report, list) take filled places in order", which pieces, which scale, and what is made of them. Definitions only.
+-- 01, "The store": "Readings (density, report, list) take filled places in order", which pieces, which scale, and what is made of them; 02, L1, the track. Definitions only.
 use mathlib.Core.Bool.{Bool, true, false, _&&_, cond}
 use mathlib.Core.List.{List, [], _∷_, _++_, map}
-use Prim.Native.Nat.{ℕ, zero, suc, _+_, _*_, _-_}
-use lib.Dec.{ltb, eqb}
+use Prim.Native.Nat.{ℕ, zero, suc, _+_, _*_, _-_, _/_, _%_}
+use lib.Dec.{ltb, leb, eqb}
 use lib.ListN.{length, getD}
 use lib.Ieee.{Float, nan, lt}
 use Rattle.base.specs.Answers.{Answer, accepted, refused, counted, Outcome, outcome, guardedRun, roomCheck}
 use Rattle.base.specs.Floats.{_⊕_, _⊗_, +0, greater}
 use Rattle.base.specs.Loops.{times}
 use Rattle.base.specs.declared.refusal.Refusal.{Refusal}
-use Rattle.base.specs.declared.refusal.Refusal.the-variants.{Unfinished}
+use Rattle.base.specs.declared.refusal.Refusal.the-variants.{Unfinished, BadTrack}
 use Rattle.base.specs.declared.refusal.Checked.{Checked}
 use Rattle.base.specs.declared.refusal.Checked.the-variants.{Passed, Failed}
 use Rattle.runs.specs.Runs.{write}
@@ -25,14 +25,16 @@ use Rattle.density.specs.Reports.{reportValues, reportOf}
 use Rattle.layout.specs.Layout.{slotLimit, centreOf, weightOf, alphaOf, errorOf, pieceFrom, vertsOf, facesOf, statusOf}
 use Rattle.layout.specs.Soundness.{storeCheck}
 use Rattle.layout.specs.Left.{held, leftOf}
+use Rattle.track.specs.Track.{along}
 
 -- ---- a reading and its convention
 
--- density at a point; report; list, into a lent run
+-- density at a point; report; list, into a lent run; density along a track of points, into a lent run
 pub data Reading : Type 0 where
   density : Convention → List Float → Reading
   report : Convention → Reading
   list : Convention → List Float → Reading
+  track : Convention → List Float → List Float → Reading
 
 -- "by mass with target > 0"
 abbrev pub byMass : Convention → Bool
@@ -40,11 +42,12 @@ byMass Raw = false
 byMass (Rho0 bulk) = false
 byMass (Mass target bulk) = lt +0 target
 
--- row 8: "left > 0, for report, or density and list by mass with target > 0"
+-- row 8: "left > 0, for report, or density and list by mass with target > 0"; 02: "for 8 a track counts as a density"
 abbrev pub needsWork : Reading → Bool
 needsWork (density v x) = byMass v
 needsWork (report v) = true
 needsWork (list v out) = byMass v
+needsWork (track v points out) = byMass v
 
 -- ---- pieces: each a kernel of its own, with its volume
 pub record Part : Type 0 where
@@ -120,18 +123,33 @@ listing s ks out =
     guardedRun (roomCheck (6 * length ks) (length out)) out
     (outcome (counted (length ks ∷ [])) (write out 0 (sixes (map (rescaled s) ks))))
 
+-- 02: "14 when the track has more than 4,096 points, its coordinate count isn't a multiple of 3, or the run is too short"; of the counts of floats
+abbrev pub trackLimit : ℕ
+trackLimit = 4096
+
+unfoldable pub trackCheck : ℕ → ℕ → Checked
+trackCheck coords room = cond (eqb (coords % 3) 0 && leb (coords / 3) trackLimit && leb (coords / 3) room) Passed (Failed BadTrack)
+
+-- "takes the points, one convention and a lent run for the densities, in point order"; "The scale and the rescaled weights are worked once for the track"
+abbrev pub tracking : Float → List Kernel → List Float → List Float → Outcome
+tracking s ks points out =
+    guardedRun (trackCheck (length points) (length out)) out
+    (outcome (counted (length points / 3 ∷ [])) (write out 0 (along (densityAt (map (rescaled s) ks)) points (length points / 3))))
+
 abbrev pub answerOf : Reading → Seen → Outcome
 answerOf (density v x) s =
     outcome (accepted (densityAt (map (rescaled (applied v (s .parts))) (map bare (s .parts))) x ∷ [])) []
 answerOf (report v) s =
     outcome (reported (reportOf v (rawMass (s .parts)) (densityAt (map bare (s .parts)) origin) (s .body)) (s .filled) (length (s .parts)) (s .worst)) []
 answerOf (list v out) s = listing (applied v (s .parts)) (map bare (s .parts)) out
+answerOf (track v points out) s = tracking (applied v (s .parts)) (map bare (s .parts)) points out
 
 -- refused: the lent run stays
 abbrev pub refusing : Reading → Refusal → Outcome
 refusing (density v x) r = outcome (refused r) []
 refusing (report v) r = outcome (refused r) []
 refusing (list v out) r = outcome (refused r) out
+refusing (track v points out) r = outcome (refused r) out
 
 -- row 8
 abbrev pub readingOf : Reading → ℕ → Seen → Outcome
@@ -168,7 +186,7 @@ unfoldable pub heldSeen : ℕ → List Float → List ℕ → Seen
 heldSeen q fs ws =
     seeing (heldAll q fs ws slotLimit) (bodyVolume (held q fs ws (vertsOf ws) (facesOf ws)) (facesOf ws)) (heldFilled q ws slotLimit) (heldWorst q fs ws slotLimit)
 
--- the contract of the three readings; none changes the store
+-- the contract of the four readings; none changes the store
 abbrev pub guardedRead : Checked → Reading → Outcome → Outcome
 guardedRead Passed r good = good
 guardedRead (Failed e) r good = refusing r e

@@ -1,6 +1,6 @@
 -- The readings' sums are what `densitize` and `kernel_field_mass` give on the list of the pieces, six floats each. Assumes nothing.
 use mathlib.Core.Path.{_≡_, refl, sym, ap, _∙_}
-use mathlib.Core.List.{List, [], _∷_, map}
+use mathlib.Core.List.{List, [], _∷_, _++_, map, append-nil}
 use Prim.Native.Nat.{ℕ, zero, suc, _+_, _*_, _/_, _%_, _<_}
 use native.Mathlib.Omega.{arith}
 use lib.ListN.{length, getD, length-map}
@@ -15,7 +15,7 @@ use Rattle.volume.specs.Volume.{kernelVolume}
 use Rattle.kernel.specs.declared.kernel.Kernel.{Kernel}
 use Rattle.kernel.specs.Kernels.{kernelAt, listCheck}
 use Rattle.mass.specs.Total.{fieldMass}
-use Rattle.density.specs.Densitize.{densityOf, densitizeOf, densitized}
+use Rattle.density.specs.Densitize.{baseAt, densityOf, densitizeOf, densitized}
 use Rattle.readings.specs.Readings.{Part, noKernel, noPart, densityAt, rawMass, rescaled, sixes}
 
 -- a kernel with the three floats of its centre written out, as six floats keep it
@@ -38,11 +38,15 @@ next-kernel a b c d e f xs i =
     let n5 : 6 * suc i + 5 ≡ suc (suc (suc (suc (suc (suc (6 * i + 5)))))) = omega arith in
     rw (n1, n2, n3, n4, n5, n0) refl
 
-pub at-kernel : (ks : List Kernel) (i : ℕ) → i < length ks → kernelAt (sixes ks) i ≡ getD (map whole ks) i noKernel
+-- kernel i of such a list, whatever follows the list
+pub at-laid : (ks : List Kernel) (rest : List Float) (i : ℕ) → i < length ks → kernelAt (sixes ks ++ rest) i ≡ whole (getD ks i noKernel)
 unfolding kernelAt
-at-kernel [] i h = absurd (omega arith)
-at-kernel (k ∷ ks) zero h = refl
-at-kernel (k ∷ ks) (suc i) h = next-kernel (getD (k .c) 0 nan) (getD (k .c) 1 nan) (getD (k .c) 2 nan) (k .sigma) (k .w) (k .alpha) (sixes ks) i ∙ at-kernel ks i (omega arith)
+at-laid [] rest i h = absurd (omega arith)
+at-laid (k ∷ ks) rest zero h = refl
+at-laid (k ∷ ks) rest (suc i) h = next-kernel (getD (k .c) 0 nan) (getD (k .c) 1 nan) (getD (k .c) 2 nan) (k .sigma) (k .w) (k .alpha) (sixes ks ++ rest) i ∙ at-laid ks rest i (omega arith)
+
+pub at-whole : (ks : List Kernel) (i : ℕ) → i < length ks → kernelAt (sixes ks) i ≡ whole (getD ks i noKernel)
+at-whole ks i h = ap (λ (l : List Float). kernelAt l i) (sym (append-nil (sixes ks))) ∙ at-laid ks [] i h
 
 pub list-sound : (ks : List Kernel) → listCheck (sixes ks) ≡ Passed
 unfolding listCheck
@@ -62,11 +66,23 @@ whole-rescaled s [] = refl
 whole-rescaled s (k ∷ ks) = rw (whole-rescaled s ks) refl
 
 -- ---- `densitize`
+
+-- it looks at no more of a centre than its three floats
+density-whole : (k : Kernel) (x : List Float) → densityOf (whole k) x ≡ densityOf k x
+unfolding densityOf baseAt
+density-whole k x = refl
+
+pub laid-density : (ks : List Kernel) (rest x : List Float) → densitizeOf (kernelAt (sixes ks ++ rest)) (length ks) x ≡ densityAt ks x
+unfolding densityAt densitizeOf
+laid-density ks rest x =
+    times-same (λ i s h. ap (λ (r : Float). s ⊕ r) (ap (λ (k : Kernel). densityOf k x) (at-laid ks rest i h) ∙ density-whole (getD ks i noKernel) x)) +0
+
 pub densitized-on : (ks : List Kernel) (x : List Float) → densitized (sixes ks) x ≡ accepted (densityAt (map whole ks) x ∷ [])
-unfolding densitized densityAt densitizeOf
+unfolding densitized
 densitized-on ks x =
-    rw (list-sound ks, count-of ks, length-map ks whole)
-    (ap (λ (r : Float). accepted (r ∷ [])) (times-same (λ i s h. ap (λ (k : Kernel). s ⊕ densityOf k x) (at-kernel ks i h)) +0))
+    let ws = map whole ks in
+    rw (← sixes-whole ks, list-sound ws, count-of ws)
+    (ap (λ (r : Float). accepted (r ∷ [])) (ap (λ (l : List Float). densitizeOf (kernelAt l) (length ws) x) (sym (append-nil (sixes ws))) ∙ laid-density ws [] x))
 
 -- ---- `kernel_field_mass`
 abbrev pub sized : (ℕ → Triangle) → ℕ → Kernel → Part

@@ -1,4 +1,4 @@
-// The readings of a store: density, report and list. No exported reading has a `requires`, and none changes the store.
+// The readings of a store: density, report, list and track. No exported reading has a `requires`, and none changes the store.
 pub mod at_point;
 pub mod counts;
 pub mod held;
@@ -6,3 +6,4 @@ pub mod listing;
 pub mod lists;
 pub mod reports;
 pub mod sums;
+pub mod tracks;

@@ -1,0 +1,131 @@
+// The densities of a store along a track of points.
+ghost use mathlib.Core.Path.{_≡_};
+ghost use mathlib.Core.List.{map};
+ghost use Prim.Native.Nat.{_*_, _≤_};
+ghost use lib.ListN.{length};
+ghost use Rattle.base.specs.Answers.{outcome};
+ghost use Rattle.layout.specs.Layout.{width, slotLimit, coordsFrom};
+ghost use Rattle.layout.specs.SoundLaws.{Worded};
+ghost use Rattle.runs.specs.Runs.{write};
+ghost use Rattle.track.specs.Track.{along};
+ghost use Rattle.readings.specs.Readings.{bare, rescaled, densityAt, heldAll, trackCheck, readStep};
+ghost use Rattle.readings.specs.Readings;
+ghost use Rattle.readings.specs.TrackAnswer.{trackRead};
+use crate::at_point::by_mass;
+use crate::at_point::check_read;
+use crate::at_point::scale_of;
+use crate::counts::count_pieces;
+use crate::lists::write_list;
+use crate::sums::density_sum;
+use base::refusal::Checked;
+use base::refusal::Refusal;
+use density::convention::Convention;
+use runs::word;
+use track::densities;
+
+// The answer of a track: how many points were written.
+pub enum TrackRead {
+    Points(u32),
+    Refused(Refusal),
+}
+
+// Refusal 14 of a track of so many coordinates, with room for so many densities.
+fn check_track(coords: usize, room: usize) -> Checked
+    ensures { λ r. ⌜ r ≡ trackCheck coords room ⌝ }
+{
+    let points = coords / 3;
+    let good = (coords % 3 == 0) & (points <= 4096) & (points <= room);
+    if good {
+        Checked::Passed
+    } else {
+        Checked::Failed(Refusal::BadTrack)
+    }
+}
+
+// Writes the densities at the first `count` points, by a scale, side by side: the rescaled pieces are laid down once.
+fn side_by_side(
+    f: &[f64],
+    w: &[u32],
+    faces: usize,
+    s: f64,
+    points: &[f64],
+    count: usize,
+    out: &mut [f64],
+)
+    requires { ⌜ coordsFrom ≤ length (now f) ⌝ ∗ ⌜ Worded width (now w) faces ⌝ ∗ ⌜ (3 * count ≤ length (now points)) × (count ≤ length (now out)) ⌝ }
+    ensures { λ _. ⌜ now (out .exit) ≡ write (now (out .entry)) 0 (along (densityAt (map (rescaled s) (map bare (heldAll width (now (f .entry)) (now (w .entry)) slotLimit)))) (now (points .entry)) count) ⌝ }
+{
+    let n = count_pieces(w, faces);
+    let mut kernels = [0.0; 3072];
+    write_list(&mut kernels, f, w, faces, s);
+    densities(&kernels, n, points, count, out);
+}
+
+// Writes the densities at the first `count` points, by a scale, each as a single reading sums it.
+fn one_by_one(
+    f: &[f64],
+    w: &[u32],
+    faces: usize,
+    s: f64,
+    points: &[f64],
+    count: usize,
+    out: &mut [f64],
+)
+    requires { ⌜ coordsFrom ≤ length (now f) ⌝ ∗ ⌜ Worded width (now w) faces ⌝ ∗ ⌜ (3 * count ≤ length (now points)) × (count ≤ length (now out)) ⌝ }
+    ensures { λ _. ⌜ now (out .exit) ≡ write (now (out .entry)) 0 (along (densityAt (map (rescaled s) (map bare (heldAll width (now (f .entry)) (now (w .entry)) slotLimit)))) (now (points .entry)) count) ⌝ }
+{
+    let mut i: usize = 0;
+    while i < count {
+        let o = 3 * i;
+        out[i] = density_sum(f, w, faces, s, [points[o], points[o + 1], points[o + 2]]);
+        i += 1;
+    }
+}
+
+// Writes the densities at the first `count` points, by a scale. For a few of them it does not pay to lay the pieces down.
+fn trace(f: &[f64], w: &[u32], faces: usize, s: f64, points: &[f64], count: usize, out: &mut [f64])
+    requires { ⌜ coordsFrom ≤ length (now f) ⌝ ∗ ⌜ Worded width (now w) faces ⌝ ∗ ⌜ (3 * count ≤ length (now points)) × (count ≤ length (now out)) ⌝ }
+    ensures { λ _. ⌜ now (out .exit) ≡ write (now (out .entry)) 0 (along (densityAt (map (rescaled s) (map bare (heldAll width (now (f .entry)) (now (w .entry)) slotLimit)))) (now (points .entry)) count) ⌝ }
+{
+    if count < 8 {
+        one_by_one(f, w, faces, s, points, count, out);
+    } else {
+        side_by_side(f, w, faces, s, points, count, out);
+    }
+}
+
+// Writes the densities of a sound store by a scale, if the track is good.
+fn track_points(
+    f: &[f64],
+    w: &[u32],
+    faces: usize,
+    s: f64,
+    points: &[f64],
+    out: &mut [f64],
+) -> TrackRead
+    requires { ⌜ coordsFrom ≤ length (now f) ⌝ ∗ ⌜ Worded width (now w) faces ⌝ }
+    ensures { λ r. ⌜ outcome (trackRead r) (now (out .exit)) ≡ Readings.tracking s (map bare (heldAll width (now (f .entry)) (now (w .entry)) slotLimit)) (now (points .entry)) (now (out .entry)) ⌝ }
+{
+    match check_track(points.len(), out.len()) {
+        Checked::Failed(r) => TrackRead::Refused(r),
+        Checked::Passed => {
+            let count = points.len() / 3;
+            trace(f, w, faces, s, points, count, out);
+            TrackRead::Points(count as u32)
+        }
+    }
+}
+
+// Writes the densities at the points into a lent run, in point order, under a convention.
+pub fn track(f: &[f64], w: &[u32], v: Convention, points: &[f64], out: &mut [f64]) -> TrackRead
+    ensures { λ r. ⌜ outcome (trackRead r) (now (out .exit)) ≡ readStep width (now (f .entry)) (now (w .entry)) (Readings.track v (now (points .entry)) (now (out .entry))) ⌝ }
+{
+    match check_read(f, w, by_mass(v)) {
+        Checked::Failed(r) => TrackRead::Refused(r),
+        Checked::Passed => {
+            let faces = word(w, 1);
+            let s = scale_of(v, f, w, faces);
+            track_points(f, w, faces, s, points, out)
+        }
+    }
+}
