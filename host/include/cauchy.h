@@ -8,12 +8,13 @@
  * Runs. An array is lent as a pointer and a count of elements (size_t), two arguments side by side:
  *   mesh         xyz: 3 doubles a vertex; faces: 3 vertex numbers a face, from 0
  *   kernel list  6 doubles a kernel: c (3), sigma, w, alpha
+ *   track        3 doubles a point
  *   store        floats and words: the store itself, which has no memory elsewhere
  * A run that a call only reads is const.
  *
- * Answers. The first field, `no`, is 0 where the call is accepted, else the number of the refusal: the
- * lowest that applies. A refused call changes no element of any run, and its other fields are 0.
- * The numbers after a declaration are the refusals that it may answer.
+ * Answers. The first field, `no`, is 0 where the call is accepted, else the number of the refusal. The
+ * numbers before a declaration are the refusals that it may answer: the first of those listed that applies
+ * is answered. A refused call changes no element of any run, and its other fields are 0.
  *
  * What the host guarantees, and what happens otherwise:
  *  1. A run of n > 0 elements is n initialised elements, aligned as its type. (A run of 0 elements may have
@@ -58,6 +59,7 @@ enum {
     CAUCHY_BAD_MATRIX = 10,  /* n above 16, or lengths that do not go with n */
     CAUCHY_FLAT_PIVOT = 11,  /* the equations have no usable pivot in some column */
     CAUCHY_EXPONENT = 12,    /* an exponent is not 1, where only 1 can be integrated */
+    CAUCHY_BAD_TRACK = 14,   /* a track of more than 4,096 points or not of threes, or its run is too short */
     CAUCHY_NOT_CLOSED = 22   /* the mesh is not closed */
 };
 
@@ -67,7 +69,8 @@ enum {
     CAUCHY_MAX_VERTICES = 1048576,
     CAUCHY_MAX_FACES = 2097152,
     CAUCHY_PLACES = 32,     /* places of a store, numbered from 0 */
-    CAUCHY_MAX_PIECES = 16  /* pieces of one kernel, so a store's list is at most 32 * 16 * 6 doubles */
+    CAUCHY_MAX_PIECES = 16, /* pieces of one kernel, so a store's list is at most 32 * 16 * 6 doubles */
+    CAUCHY_MAX_TRACK = 4096 /* points of one track */
 };
 
 /* The lengths that a store needs for V vertices and F faces; longer runs are good, and keep their excess. */
@@ -163,6 +166,10 @@ typedef struct CauchyListed {
     uint32_t no, pieces; /* pieces written */
 } CauchyListed;
 
+typedef struct CauchyTrack {
+    uint32_t no, points; /* points whose density is written */
+} CauchyTrack;
+
 typedef struct CauchyKernels {
     uint32_t no;
     uint64_t kernels; /* kernels written */
@@ -207,7 +214,7 @@ CauchySqueezed cauchy_store_squeeze(double *floats, size_t n_floats, uint32_t *w
  * first, some 2 ns a face, so budgets of many faces are cheapest. A budget of 0 tells what is left. 4 5 */
 CauchySteps cauchy_store_advance(double *floats, size_t n_floats, uint32_t *words, size_t n_words, uint64_t budget);
 
-/* The density at a point.            4 5, and 8 while work is left, by mass with a target above 0 only */
+/* The density at a point.              4 5 8; 8 while work is left, by mass with a target above 0 only */
 CauchyValue cauchy_store_density(const double *floats, size_t n_floats, const uint32_t *words, size_t n_words,
                                  CauchyConvention convention, CauchyVector point);
 
@@ -216,9 +223,17 @@ CauchyStoreReport cauchy_store_report(const double *floats, size_t n_floats, con
                                       CauchyConvention convention);
 
 /* Writes the pieces as a kernel list, weights rescaled; doubles past them stay.
- *                                  4 5 9, and 8 while work is left, by mass with a target above 0 only */
+ *                                                                          4 5 8 9; 8 as for a density */
 CauchyListed cauchy_store_list(const double *floats, size_t n_floats, const uint32_t *words, size_t n_words,
                                CauchyConvention convention, double *out, size_t n_out);
+
+/* Writes the density at each point of a track, in order; doubles past them stay. Each is what
+ * cauchy_store_density answers at that point, but the store is looked over and the weights are rescaled once
+ * for the whole track. `n_points` counts doubles, three a point. No points: nothing is written.
+ *                                                                         4 5 8 14; 8 as for a density */
+CauchyTrack cauchy_store_track(const double *floats, size_t n_floats, const uint32_t *words, size_t n_words,
+                               CauchyConvention convention, const double *points, size_t n_points, double *out,
+                               size_t n_out);
 
 /* ---- Kernels -------------------------------------------------------------------------------------- */
 

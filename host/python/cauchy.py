@@ -40,6 +40,7 @@ MEANINGS = {
     10: "bad matrix: more than 16 equations, or lengths that do not fit",
     11: "flat pivot: the equations have no usable pivot in some column",
     12: "exponent: some exponent is not 1",
+    14: "bad track: more than 4,096 points, or lengths that do not fit",
     22: "not closed: an edge does not occur once each way, or a face names a corner twice",
 }
 
@@ -123,6 +124,7 @@ Report = _answer("Report", ("report", MassReport))
 StoreReport = _answer(
     "StoreReport", ("report", MassReport), ("kernels", c_uint32), ("pieces", c_uint32), ("error", c_double))
 Listed = _answer("Listed", ("pieces", c_uint32))
+Track = _answer("Track", ("points", c_uint32))
 Kernels = _answer("Kernels", ("kernels", c_uint64))
 Pieces = _answer("Pieces", ("pieces", c_uint64), ("error", c_double))
 ListPieces = _answer("ListPieces", ("kernels", c_uint64), ("pieces", c_uint64), ("error", c_double))
@@ -143,6 +145,7 @@ _PROTOTYPES = {
     "store_density": (Value, *_STORE, Convention, Vector),
     "store_report": (StoreReport, *_STORE, Convention),
     "store_list": (Listed, *_STORE, Convention, *_FLOATS),
+    "store_track": (Track, *_STORE, Convention, *_FLOATS, *_FLOATS),
     "kernel_from_file": (Kernel, FileKernel, c_double),
     "decompose": (Pieces, Kernel, c_double, *_FLOATS),
     "decompose_list": (ListPieces, *_FLOATS, c_double, *_FLOATS),
@@ -197,6 +200,25 @@ def _lend(run):
     """A run as pointer and count, in place. The array cannot be resized while it is lent."""
     kind = c_double if run.typecode == "d" else c_uint32
     return ((kind * len(run)).from_buffer(run) if run else None), len(run)
+
+
+def _points(points):
+    """Points as pointer and count: a buffer of doubles in place, or copied where it is read-only or has gaps;
+    anything else is a sequence of points, and copied."""
+    try:
+        view = memoryview(points)
+    except TypeError:
+        view = None
+    if view is None:
+        return _lend(array("d", [t for x, y, z in points for t in (x, y, z)]))
+    if view.format.lstrip("@=<") != "d":
+        raise TypeError(f"points are doubles, and these are of the format {view.format!r}")
+    if not (view.ndim == 1 and len(view) % 3 == 0 or view.ndim == 2 and view.shape[1] == 3):
+        raise ValueError(f"points have three coordinates each, and these are of the shape {view.shape}")
+    if view.readonly or not view.c_contiguous:
+        return _lend(array("d", view.tobytes()))
+    count = view.nbytes // 8
+    return ((c_double * count).from_buffer(view) if count else None), count
 
 
 def _place(place):
@@ -321,6 +343,43 @@ class Store:
         out = array("d", bytes(8 * 32 * 16 * 6))
         answer = _call("store_list", *self._runs(), convention, *_lend(out))
         return _kernels(out, answer.pieces)
+
+    def track(self, convention, points):
+        """The density at each of up to 4,096 points, in order, as an array: what `density` gives, with the store
+        looked over once. The points are a sequence of points, or a buffer of doubles, flat or with rows of three:
+        an array("d"), or an array of numpy, which is not copied where it is contiguous and writable.
+
+        >>> store = Store(500, [0] * 9, [0, 1, 2])
+        >>> store.put(0, Kernel((0, 0, 0), 1, 2, 1))
+        (1, 1)
+        >>> store.track(RAW, [(0, 0, 0), (1, 0, 0), (0, 0, 3)]), store.track(RAW, [])
+        (array('d', [2.0, 1.0, 0.2]), array('d'))
+        >>> flat = array("d", [0, 0, 0, 1, 0, 0, 0, 0, 3])
+        >>> rows = memoryview(flat).cast("B").cast("d", (3, 3))
+        >>> gaps = memoryview(array("d", [x for t in flat for x in (t, 7)]))[::2]
+        >>> little_endian = (c_double * 3 * 3).from_buffer(flat)
+        >>> {tuple(store.track(RAW, run)) for run in (flat, rows, gaps, rows.toreadonly(), little_endian)}
+        {(2.0, 1.0, 0.2)}
+        >>> store.track(RAW, flat[:4])
+        Traceback (most recent call last):
+        ValueError: points have three coordinates each, and these are of the shape (4,)
+        >>> store.track(RAW, rows.cast("B").cast("d", (1, 9)))
+        Traceback (most recent call last):
+        ValueError: points have three coordinates each, and these are of the shape (1, 9)
+        >>> store.track(RAW, array("f", [1, 2, 3]))
+        Traceback (most recent call last):
+        TypeError: points are doubles, and these are of the format 'f'
+        >>> store.track(RAW, [(1, 2)])
+        Traceback (most recent call last):
+        ValueError: not enough values to unpack (expected 3, got 2)
+        >>> store.track(RAW, array("d", bytes(24 * 4097)))
+        Traceback (most recent call last):
+        cauchy.Refused: bad track: more than 4,096 points, or lengths that do not fit (no 14)
+        """
+        pointer, count = _points(points)
+        out = array("d", bytes(8 * (count // 3)))
+        _call("store_track", *self._runs(), convention, pointer, count, *_lend(out))
+        return out
 
 
 # ---- Functions beside the store ---------------------------------------------------------------------------

@@ -45,7 +45,7 @@ def main():
     report = store.report(by_mass)
     print(f"field mass {report.raw_mass:.6g} kg as entered, {report.applied_mass:.6g} kg by the convention mass")
     track = [[float(x) * 1000 for x in words] for words in rows("track.txt")]
-    densities = [store.density(by_mass, point) for point in track]
+    densities = list(store.track(by_mass, track))
     print(f"{len(track)} points, density {min(densities):.6g} to {max(densities):.6g} kg/m³")
     if len(sys.argv) > 1:
         with open(sys.argv[1], newline="") as table:

@@ -54,4 +54,4 @@ pub use refusal::Refusal;
 pub use report::{MassReport, StoreReport};
 pub use snapshot::SnapshotError;
 pub use solve::solve;
-pub use store::{Held, OpenError, PLACES, Placed, Steps, Store};
+pub use store::{Held, MAX_TRACK, OpenError, PLACES, Placed, Steps, Store};

@@ -39,13 +39,15 @@ pub enum Refusal {
     FlatPivot = 11,
     /// An exponent is not 1, where only 1 can be integrated.
     Exponent = 12,
+    /// A track has more than 4,096 points, or the run to be written is too short for it.
+    BadTrack = 14,
     /// The mesh is not closed.
     NotClosed = 22,
 }
 
 impl Refusal {
     /// All refusals, by rising number.
-    pub const ALL: [Refusal; 13] = [
+    pub const ALL: [Refusal; 14] = [
         Refusal::Ragged,
         Refusal::Oversize,
         Refusal::LooseCorner,
@@ -58,13 +60,14 @@ impl Refusal {
         Refusal::BadMatrix,
         Refusal::FlatPivot,
         Refusal::Exponent,
+        Refusal::BadTrack,
         Refusal::NotClosed,
     ];
 
     /// The specification's number.
     ///
     /// ```
-    /// assert_eq!(cauchy::Refusal::ALL.map(|r| r.number()), [1, 2, 3, 4, 5, 6, 7, 8, 9, 10, 11, 12, 22]);
+    /// assert_eq!(cauchy::Refusal::ALL.map(|r| r.number()), [1, 2, 3, 4, 5, 6, 7, 8, 9, 10, 11, 12, 14, 22]);
     /// ```
     pub fn number(self) -> u32 {
         self as u32
@@ -89,6 +92,7 @@ impl Refusal {
             Refusal::BadMatrix => "bad matrix: more than 16 equations, or lengths that do not fit",
             Refusal::FlatPivot => "flat pivot: the equations have no usable pivot in some column",
             Refusal::Exponent => "exponent: some exponent is not 1",
+            Refusal::BadTrack => "bad track: more than 4,096 points, or lengths that do not fit",
             Refusal::NotClosed => {
                 "not closed: an edge does not occur once each way, or a face names a corner twice"
             }

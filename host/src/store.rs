@@ -6,6 +6,9 @@ use std::fmt;
 /// The places of a store, numbered from 0.
 pub const PLACES: u32 = 32;
 
+/// The most points that one [`Store::track`] takes.
+pub const MAX_TRACK: usize = 4096;
+
 // The layout of 01: what stands before the mesh in each run, and the fields of a place.
 const FLOATS_BEFORE_MESH: usize = 1761;
 const WORDS_BEFORE_MESH: usize = 98;
@@ -313,6 +316,70 @@ impl Store {
             )
         };
         Refusal::check(told.no).map(|()| Kernel::listed(&out, told.pieces as usize))
+    }
+
+    /// Writes the density at each point of a track of up to [`MAX_TRACK`] points, kg/m³, in order, and answers how
+    /// many that are; floats past them stay. Each is what [`Store::density`] gives, but the store is looked over
+    /// and the weights are rescaled once for the whole track. By mass with a target above 0 it needs all work done.
+    ///
+    /// ```
+    /// # use cauchy::{Convention, Kernel, Mesh, Refusal, Store};
+    /// # let mesh = Mesh { vertices: &[[0.0; 3]; 3], faces: &[[0, 1, 2]] };
+    /// let mut store = Store::open(500.0, mesh)?;
+    /// store.put(0, Kernel { c: [0.0; 3], sigma: 1.0, w: 2.0, alpha: 1.0 })?;
+    /// let mut out = [-1.0; 3];
+    /// assert_eq!(store.track(Convention::Raw, &[[0.0; 3], [1.0, 0.0, 0.0]], &mut out)?, 2);
+    /// assert_eq!(out, [2.0, 1.0, -1.0]);
+    /// assert_eq!(store.track(Convention::Raw, &[[0.0; 3]; 4], &mut out), Err(Refusal::BadTrack));
+    /// # Ok::<(), Box<dyn std::error::Error>>(())
+    /// ```
+    pub fn track(
+        &self,
+        convention: Convention,
+        points: &[[f64; 3]],
+        out: &mut [f64],
+    ) -> Result<usize, Refusal> {
+        let (floats, words) = (&self.floats, &self.words);
+        let points = points.as_flattened();
+        // SAFETY: vectors of the store's own and a slice, only read, and a slice that is unshared.
+        let told = unsafe {
+            sys::cauchy_store_track(
+                floats.as_ptr(),
+                floats.len(),
+                words.as_ptr(),
+                words.len(),
+                convention.crossing(),
+                points.as_ptr(),
+                points.len(),
+                out.as_mut_ptr(),
+                out.len(),
+            )
+        };
+        Refusal::check(told.no).map(|()| told.points as usize)
+    }
+
+    /// The density at each point, kg/m³, in order: tracks of [`MAX_TRACK`] points, as many as that takes.
+    ///
+    /// ```
+    /// # use cauchy::{Convention, Kernel, Mesh, Store};
+    /// # let mesh = Mesh { vertices: &[[0.0; 3]; 3], faces: &[[0, 1, 2]] };
+    /// let mut store = Store::open(500.0, mesh)?;
+    /// store.put(0, Kernel { c: [0.0; 3], sigma: 1.0, w: 2.0, alpha: 1.0 })?;
+    /// assert_eq!(store.densities(Convention::Raw, &[[0.0; 3], [1.0, 0.0, 0.0]])?, [2.0, 1.0]);
+    /// assert_eq!(store.densities(Convention::Raw, &[[1.0, 0.0, 0.0]; 10_000])?, [1.0; 10_000]);
+    /// # Ok::<(), Box<dyn std::error::Error>>(())
+    /// ```
+    pub fn densities(&self, convention: Convention, points: &[[f64; 3]]) -> Result<Vec<f64>, Refusal> {
+        let mut out = vec![0.0; points.len()];
+        let mut done = 0;
+        // no points are a track too, which may be refused
+        loop {
+            let portion = &points[done..points.len().min(done + MAX_TRACK)];
+            done += self.track(convention, portion, &mut out[done..])?;
+            if done == points.len() {
+                return Ok(out);
+            }
+        }
     }
 
     /// What a place holds; `None` where it is empty or 32 or above.

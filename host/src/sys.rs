@@ -93,6 +93,12 @@ pub struct Listed {
 }
 
 #[repr(C)]
+pub struct Track {
+    pub no: u32,
+    pub points: u32,
+}
+
+#[repr(C)]
 pub struct Kernels {
     pub no: u32,
     pub kernels: u64,
@@ -188,6 +194,17 @@ unsafe extern "C" {
         out: *mut f64,
         n_out: usize,
     ) -> Listed;
+    pub fn cauchy_store_track(
+        floats: *const f64,
+        n_floats: usize,
+        words: *const u32,
+        n_words: usize,
+        convention: Convention,
+        points: *const f64,
+        n_points: usize,
+        out: *mut f64,
+        n_out: usize,
+    ) -> Track;
 
     pub safe fn cauchy_kernel_from_file(kernel: FileKernel, default_alpha: f64) -> Kernel;
     pub fn cauchy_decompose(kernel: Kernel, radius: f64, out: *mut f64, n_out: usize) -> Pieces;

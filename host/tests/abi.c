@@ -243,6 +243,10 @@ static void advance(void) {
 
     CauchyValue d = cauchy_store_density(floats, N_FLOATS, words, N_WORDS, convention(CAUCHY_MASS, 9e5, 1300), vector(1, 2, 3));
     CHECK(d.no == CAUCHY_UNFINISHED && d.value == 0);
+    /* ragged, and its run too short: work that is left is told first */
+    const CauchyConvention by_mass = convention(CAUCHY_MASS, 9e5, 1300);
+    CauchyTrack t = cauchy_store_track(floats, N_FLOATS, words, N_WORDS, by_mass, xyz, 5, NULL, 0);
+    CHECK(t.no == CAUCHY_UNFINISHED && t.points == 0);
     CauchyStoreReport r = cauchy_store_report(floats, N_FLOATS, words, N_WORDS, convention(CAUCHY_RAW, 0, 0));
     CHECK(r.no == CAUCHY_UNFINISHED && r.kernels == 0 && r.pieces == 0 && r.error == 0);
     CHECK(r.report.raw_mass == 0 && r.report.rho0_scale == 0 && r.report.rho0_mass == 0 && r.report.applied_scale == 0);
@@ -302,6 +306,45 @@ static void decompose_lists(void) {
     CHECK(p.no == 0 && p.kernels == 0 && p.pieces == 0 && p.error == 0);
 }
 
+/* The density along a track of 19 points, with weights scaled by the convention. */
+static void check_track(CauchyConvention v, const double *scaled) {
+    enum { POINTS = 19 };
+    double points[3 * POINTS], out[POINTS + 2];
+    for (int i = 0; i < 3 * POINTS; i++) points[i] = 0.375 * i - 4;
+    for (int i = 0; i < POINTS + 2; i++) out[i] = 850 + i;
+    CauchyTrack t = cauchy_store_track(floats, N_FLOATS, words, N_WORDS, v, points, 3 * POINTS, out, POINTS + 2);
+    CHECK(t.no == 0 && t.points == POINTS && out[POINTS] == 850 + POINTS && out[POINTS + 1] == 851 + POINTS);
+    for (int i = 0; i < POINTS; i++) {
+        const double *p = points + 3 * i;
+        CHECK(out[i] == density_of(scaled, 14, p[0], p[1], p[2]));
+    }
+}
+
+static void refused_tracks(void) {
+    enum { MANY = CAUCHY_MAX_TRACK + 1 };
+    static double points[3 * MANY], out[MANY];
+    const CauchyConvention raw = convention(CAUCHY_RAW, 0, 0);
+    for (int i = 0; i < MANY; i++) out[i] = 860 + i;
+    CauchyTrack t = cauchy_store_track(floats, N_FLOATS, words, N_WORDS, raw, points, 3 * MANY, out, MANY);
+    CHECK(t.no == CAUCHY_BAD_TRACK && t.points == 0);
+    t = cauchy_store_track(floats, N_FLOATS, words, N_WORDS, raw, points, 10, out, MANY);
+    CHECK(t.no == CAUCHY_BAD_TRACK && t.points == 0);
+    t = cauchy_store_track(floats, N_FLOATS, words, N_WORDS, raw, points, 9, out, 2);
+    CHECK(t.no == CAUCHY_BAD_TRACK && t.points == 0);
+    t = cauchy_store_track(floats, N_FLOATS, words, 97, raw, points, 10, out, MANY);
+    CHECK(t.no == CAUCHY_SHORT_STORE && t.points == 0);
+    words[98] = V;
+    t = cauchy_store_track(floats, N_FLOATS, words, N_WORDS, raw, points, 10, out, MANY);
+    CHECK(t.no == CAUCHY_UNSOUND && t.points == 0);
+    words[98] = faces[0];
+    for (int i = 0; i < MANY; i++) CHECK(out[i] == 860 + i);
+    t = cauchy_store_track(floats, N_FLOATS, words, N_WORDS, raw, NULL, 0, NULL, 0);
+    CHECK(t.no == 0 && t.points == 0);
+    t = cauchy_store_track(floats, N_FLOATS, words, N_WORDS, raw, points, 3 * CAUCHY_MAX_TRACK, out, MANY);
+    CHECK(t.no == 0 && t.points == CAUCHY_MAX_TRACK && out[MANY - 1] == 860 + MANY - 1);
+    for (int i = 0; i < CAUCHY_MAX_TRACK; i++) CHECK(out[i] == density_of(list, 14, 0, 0, 0));
+}
+
 static void check_report(CauchyConvention v, double bulk, double target) {
     CauchyStoreReport r = cauchy_store_report(floats, N_FLOATS, words, N_WORDS, v);
     double raw = mass_of(list, 14), rho0 = bulk / density_of(list, 14, 0, 0, 0);
@@ -319,6 +362,7 @@ static void check_report(CauchyConvention v, double bulk, double target) {
     double out[14 * 6];
     CauchyListed l = cauchy_store_list(floats, N_FLOATS, words, N_WORDS, v, out, 14 * 6);
     CHECK(l.no == 0 && l.pieces == 14 && !memcmp(out, scaled, sizeof out));
+    check_track(v, scaled);
 }
 
 static void readings(void) {
@@ -460,6 +504,7 @@ int main(void) {
     list_store();
     decompose_lists();
     readings();
+    refused_tracks();
     kernels();
     closed();
     meshes();

@@ -95,6 +95,21 @@ fn the_convention_is_named_and_followed() {
 }
 
 #[test]
+fn a_track_may_have_any_number_of_points() {
+    let folder = Folder::new("track");
+    let densities = |track: &str| -> Vec<String> {
+        folder.write("long.txt", track);
+        folder.goes("run a.obj k.txt --mass 1e11 --track long.txt --csv c.csv --overwrite");
+        let table = String::from_utf8(folder.read("c.csv")).unwrap();
+        table.lines().skip(1).map(|line| line.rsplit(',').next().unwrap().to_string()).collect()
+    };
+    let three = densities(TRACK);
+    assert_eq!(three.len(), 3);
+    let long = densities(&TRACK.repeat(3000));
+    assert!(long.len() == 9000 && long.chunks(3).all(|densities| densities == three));
+}
+
+#[test]
 fn what_a_planner_must_not_overlook_is_said() {
     let folder = Folder::new("cautions");
     folder.write("none.txt", "0.1 0.1 0.1 2 0 1\n");

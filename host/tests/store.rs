@@ -1,5 +1,7 @@
 //! The crate over the archive, as a user sees it.
-use cauchy::{Convention, Kernel, Mesh, OpenError, Placed, Refusal, SnapshotError, Steps, Store, density};
+use cauchy::{
+    Convention, Kernel, MAX_TRACK, Mesh, OpenError, Placed, Refusal, SnapshotError, Steps, Store, density,
+};
 
 const VERTICES: [[f64; 3]; 4] = [[0.0, 0.0, 0.0], [900.0, 0.0, 0.0], [0.0, 800.0, 0.0], [0.0, 0.0, 700.0]];
 const FACES: [[u32; 3]; 4] = [[0, 2, 1], [0, 1, 3], [0, 3, 2], [1, 2, 3]];
@@ -29,6 +31,7 @@ fn a_refusal_changes_no_byte() {
     assert_eq!(store.reweigh(32, 1.0), Err(Refusal::NoPlace));
     assert_eq!(store.density(BY_MASS, [0.0; 3]), Err(Refusal::Unfinished));
     assert_eq!(store.list(BY_MASS), Err(Refusal::Unfinished));
+    assert_eq!(store.densities(BY_MASS, &[]), Err(Refusal::Unfinished));
     assert_eq!(store.report(Convention::Raw), Err(Refusal::Unfinished));
     assert_eq!(store.to_bytes(), before);
 }
@@ -174,6 +177,7 @@ fn every_call_stays_within_its_stack() {
         store.advance(u64::MAX).unwrap();
         store.report(BY_MASS).unwrap();
         store.list(BY_MASS).unwrap();
+        store.densities(BY_MASS, &points(100)).unwrap();
     });
     thread.unwrap().join().unwrap();
 }
@@ -195,6 +199,67 @@ fn readings_agree_with_each_other() {
     assert_eq!(store.report(BY_MASS).unwrap().mass.target_mass, 1e11);
     assert_eq!(store.held(2).unwrap().kernel, FLAT);
     assert_eq!(store.held(30).unwrap().error, store.report(Convention::Raw).unwrap().error);
+}
+
+/// Points along a line through the body, with some that are no numbers among them.
+fn points(count: usize) -> Vec<[f64; 3]> {
+    let point = |i: usize| match i % 500 {
+        77 => [f64::NAN, 1.0, 2.0],
+        78 => [1.0, f64::NEG_INFINITY, 2.0],
+        _ => [i as f64 * 0.3 - 50.0, i as f64 * 0.2, 40.0 - i as f64 * 0.1],
+    };
+    (0..count).map(point).collect()
+}
+
+/// The bits of a float, those of every NaN alike.
+fn bits(x: &f64) -> u64 {
+    if x.is_nan() { f64::NAN.to_bits() } else { x.to_bits() }
+}
+
+#[test]
+fn every_density_of_a_track_is_the_single_reading() {
+    let mut store = filled();
+    store.advance(u64::MAX).unwrap();
+    for by in [Convention::Raw, Convention::Rho0 { bulk: 1500.0 }, BY_MASS] {
+        for count in [0, 1, 15, 16, 17, 100, MAX_TRACK - 1, MAX_TRACK] {
+            let points = points(count);
+            let mut out = vec![-7.0; count + 3];
+            assert_eq!(store.track(by, &points, &mut out), Ok(count));
+            let (densities, rest) = out.split_at(count);
+            for (density, point) in densities.iter().zip(&points) {
+                assert_eq!(bits(density), bits(&store.density(by, *point).unwrap()), "{by:?}, {point:?}");
+            }
+            assert_eq!(rest, [-7.0; 3]);
+        }
+    }
+}
+
+#[test]
+fn longer_tracks_are_read_in_portions() {
+    let store = filled();
+    let points = points(3 * MAX_TRACK + 5);
+    let whole: Vec<u64> = store.densities(Convention::Raw, &points).unwrap().iter().map(bits).collect();
+    for (portion, densities) in points.chunks(1000).zip(whole.chunks(1000)) {
+        let mut out = [0.0; 1000];
+        let count = store.track(Convention::Raw, portion, &mut out).unwrap();
+        assert_eq!(out[..count].iter().map(bits).collect::<Vec<_>>(), densities);
+    }
+    assert_eq!(store.densities(Convention::Raw, &[]), Ok(vec![]));
+}
+
+#[test]
+fn a_bad_track_is_refused() {
+    let mut store = filled();
+    let mut out = vec![-7.0; MAX_TRACK + 1];
+    let points = points(MAX_TRACK + 1);
+    // work is left: that is told first
+    assert_eq!(store.track(BY_MASS, &points, &mut out), Err(Refusal::Unfinished));
+    assert_eq!(store.track(BY_MASS, &[], &mut []), Err(Refusal::Unfinished));
+    store.advance(u64::MAX).unwrap();
+    assert_eq!(store.track(BY_MASS, &points, &mut out), Err(Refusal::BadTrack));
+    assert_eq!(store.track(BY_MASS, &points[..10], &mut out[..9]), Err(Refusal::BadTrack));
+    assert!(out.iter().all(|x| *x == -7.0));
+    assert_eq!(store.track(BY_MASS, &[], &mut []), Ok(0));
 }
 
 #[test]

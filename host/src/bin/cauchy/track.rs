@@ -20,9 +20,8 @@ const INSIDE_LIMIT: usize = 1 << 24;
 
 impl Track {
     pub fn read(store: &Store, convention: Convention, points: Vec<[f64; 3]>) -> Result<Track> {
-        let density = points.iter().map(|point| store.density(convention, *point));
-        let density = density.collect::<std::result::Result<_, _>>();
-        let density = density.map_err(|refusal| Failure::Work(format!("density: {refusal}")))?;
+        let density = store.densities(convention, &points);
+        let density = density.map_err(|refusal| Failure::Work(format!("track: {refusal}")))?;
         let mesh = store.mesh();
         let soon = points.len().saturating_mul(mesh.faces.len()) <= INSIDE_LIMIT;
         let inside = soon.then(|| points.iter().map(|point| is_inside(mesh, *point)).collect());
