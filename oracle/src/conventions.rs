@@ -95,6 +95,19 @@ impl Convention {
     }
 }
 
+/// 02's L1: the density of the pieces at each point, in point order, or 14 "when the track has more than 4,096 points, its coordinate count
+/// isn't a multiple of 3, or the run is too short".
+pub fn write_track<T: Text>(pieces: &[Kernel], points: &[f64], out: &mut [f64]) -> Result<u32, u32> {
+    let count = points.len() / 3;
+    if count > 4_096 || !points.len().is_multiple_of(3) || out.len() < count {
+        return Err(14);
+    }
+    for (to, at) in out.iter_mut().zip(points.chunks(3)) {
+        *to = T::densitize(pieces, [at[0], at[1], at[2]]);
+    }
+    Ok(count as u32)
+}
+
 /// Writes six floats per piece, or refuses by row 9.
 pub fn write_list(pieces: &[Kernel], out: &mut [f64]) -> Result<u32, u32> {
     if out.len() < 6 * pieces.len() {

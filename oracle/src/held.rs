@@ -1,7 +1,7 @@
 //! The calls on two runs that may come from anywhere: 01's soundness and, on a sound store, what 01 asks of a call by the fields that
 //! the store holds ("Readings use pieces and volumes as the store holds them"). Written from 01's text, sharing nothing with the proved
 //! code but the powers.
-use crate::conventions::{Convention, Reading, Report, write_list};
+use crate::conventions::{Convention, Reading, Report, write_list, write_track};
 use crate::machine::squeezed;
 use crate::pieces::Kernel;
 use crate::text::{ByArchive, Text, volume_on};
@@ -193,6 +193,12 @@ impl Held {
     pub fn list(&self, by: Convention, out: &mut [f64]) -> Result<u32, u32> {
         self.finished_for(Reading::List, by)?;
         write_list(&self.rescaled(by), out)
+    }
+
+    /// 02's L1: "Every density equals the single reading at that point"; "for 8 a track counts as a density", and 14 is "checked after 8".
+    pub fn track(&self, by: Convention, points: &[f64], out: &mut [f64]) -> Result<u32, u32> {
+        self.finished_for(Reading::Density, by)?;
+        write_track::<ByArchive>(&self.rescaled(by), points, out)
     }
 
     pub fn piece_count(&self) -> usize {

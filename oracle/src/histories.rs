@@ -6,8 +6,9 @@ use crate::inputs::{self, Rng};
 use crate::machine::Machine;
 use crate::pieces::Kernel;
 use crate::text::Text;
+use std::sync::LazyLock;
 
-/// A call on an opened store; a list has a run of so many floats.
+/// A call on an opened store; a list has a run of so many floats, and a track its coordinates and such a run.
 #[derive(Clone, Copy, Debug)]
 pub enum Call {
     Put(u32, Kernel),
@@ -18,6 +19,7 @@ pub enum Call {
     Density(Convention, [f64; 3]),
     Report(Convention),
     List(Convention, usize),
+    Track(Convention, &'static [f64], usize),
 }
 
 /// What a call answers, its refusal's number or its values.
@@ -31,6 +33,7 @@ pub enum Answer {
     Value(f64),
     Report(Report),
     Listed(u32),
+    Tracked(u32),
 }
 
 /// What is held to the store: it takes the calls that the store takes.
@@ -57,6 +60,7 @@ macro_rules! model {
                 Call::Density(by, at) => of(self.density(by, at), Answer::Value),
                 Call::Report(by) => of(self.report(by), Answer::Report),
                 Call::List(by, _) => of(self.list(by, out), Answer::Listed),
+                Call::Track(by, points, _) => of(self.track(by, points, out), Answer::Tracked),
             }
         }
         fn left(&self) -> u64 {
@@ -249,7 +253,7 @@ impl Places {
 
 /// The next call, by where the model stands.
 pub fn call(r: &mut Rng, model: &impl Model, places: &Places) -> Call {
-    match r.below(26) {
+    match r.below(28) {
         0..=5 => Call::Put(places.one(r), kernel(r)),
         6 | 7 => Call::Clear(places.one(r)),
         8 | 9 => Call::Reweigh(places.one(r), weight(r)),
@@ -257,6 +261,7 @@ pub fn call(r: &mut Rng, model: &impl Model, places: &Places) -> Call {
         16..=18 => Call::Density(convention(r), [(); 3].map(|()| cases::value(r, 400.0))),
         19 | 20 => Call::Report(convention(r)),
         21 | 22 => Call::Squeeze,
+        23 | 24 => track(r),
         _ => Call::List(convention(r), list_room(r, model)),
     }
 }
@@ -287,6 +292,31 @@ fn list_room(r: &mut Rng, model: &impl Model) -> usize {
         2 => full + r.below(20) as usize,
         _ => full,
     }
+}
+
+/// Coordinates of any kind, NaNs among them: a track is a part of them.
+static COORDINATES: LazyLock<Vec<f64>> = LazyLock::new(|| {
+    let mut r = Rng(1);
+    (0..15_000).map(|_| cases::value(&mut r, 400.0)).collect()
+});
+
+/// A track of no point, of a few, of as many as are allowed, or of one more; now and then a coordinate or two more. Its run has room for
+/// all points, for one less, for any count, for more.
+pub fn track(r: &mut Rng) -> Call {
+    let points = match r.below(16) {
+        0 => one(r, &[4_096, 4_096, 4_097]),
+        1..=9 => one(r, &[0, 1, 7, 15, 16, 17, 31, 32, 33]),
+        _ => r.below(70) as usize,
+    };
+    let count = 3 * points + if r.below(8) == 0 { 1 + r.below(2) as usize } else { 0 };
+    let from = r.below((COORDINATES.len() - count) as u64) as usize;
+    let room = match r.below(8) {
+        0 => points.saturating_sub(1),
+        1 => r.below(points as u64 + 1) as usize,
+        2 | 3 => points + r.below(20) as usize,
+        _ => points,
+    };
+    Call::Track(convention(r), &COORDINATES[from..][..count], room)
 }
 
 /// A sound store that nobody opened: places in any state that 01 calls sound, floats of any kind where no mesh stands.

@@ -1,6 +1,6 @@
 //! 01's machine ("The store"), written from its sentences. It is fed the calls' arguments alone, never a store's runs; what a kernel's
 //! pieces and volumes are the original's own text says. [`Machine::fields`] writes out the two runs that 01 then asks for.
-use crate::conventions::{Convention, Reading, Report, write_list};
+use crate::conventions::{Convention, Reading, Report, write_list, write_track};
 use crate::pieces::Kernel;
 use crate::text::Text;
 use std::cell::RefCell;
@@ -202,6 +202,12 @@ impl<T: Text> Machine<T> {
     pub fn list(&self, by: Convention, out: &mut [f64]) -> Result<u32, u32> {
         self.finished_for(Reading::List, by)?;
         write_list(&self.rescaled(by), out)
+    }
+
+    /// 02's L1: "Every density equals the single reading at that point"; "for 8 a track counts as a density", and 14 is "checked after 8".
+    pub fn track(&self, by: Convention, points: &[f64], out: &mut [f64]) -> Result<u32, u32> {
+        self.finished_for(Reading::Density, by)?;
+        write_track::<T>(&self.rescaled(by), points, out)
     }
 
     /// How many pieces the filled places have.

@@ -82,9 +82,9 @@ pub fn squeeze(floats: &mut [f64], words: &mut [u32]) -> Squeezed {
     unsafe { cauchy_store_squeeze(floats.as_mut_ptr(), floats.len(), words.as_mut_ptr(), words.len()) }
 }
 
-pub use reading::{density, list, report};
+pub use reading::{density, list, report, track};
 
-/// The three readings.
+/// The readings.
 mod reading {
     use crate::conventions::{Convention, Report};
 
@@ -117,6 +117,12 @@ mod reading {
         pieces: u32,
     }
 
+    #[repr(C)]
+    struct Tracked {
+        no: u32,
+        points: u32,
+    }
+
     unsafe extern "C" {
         fn cauchy_store_density(f: *const f64, f_len: usize, w: *const u32, w_len: usize, by: Convention, at: Point) -> Value;
         fn cauchy_store_report(f: *const f64, f_len: usize, w: *const u32, w_len: usize, by: Convention) -> StoreReport;
@@ -129,6 +135,17 @@ mod reading {
             out: *mut f64,
             out_len: usize,
         ) -> Listed;
+        fn cauchy_store_track(
+            f: *const f64,
+            f_len: usize,
+            w: *const u32,
+            w_len: usize,
+            by: Convention,
+            points: *const f64,
+            points_len: usize,
+            out: *mut f64,
+            out_len: usize,
+        ) -> Tracked;
     }
 
     /// A number, and the density where it is 0.
@@ -147,5 +164,12 @@ mod reading {
         let (f, w) = (floats.as_ptr(), words.as_ptr());
         let told = unsafe { cauchy_store_list(f, floats.len(), w, words.len(), by, out.as_mut_ptr(), out.len()) };
         (told.no, told.pieces)
+    }
+
+    /// A number, and the count of points.
+    pub fn track(floats: &[f64], words: &[u32], by: Convention, points: &[f64], out: &mut [f64]) -> (u32, u32) {
+        let (f, w, at, to) = (floats.as_ptr(), words.as_ptr(), points.as_ptr(), out.as_mut_ptr());
+        let told = unsafe { cauchy_store_track(f, floats.len(), w, words.len(), by, at, points.len(), to, out.len()) };
+        (told.no, told.points)
     }
 }

@@ -2,6 +2,7 @@
 // to the file stdout by the run.
 use crate::body::FACES;
 use crate::body::XYZ;
+use crate::body::points;
 use crate::digest::digest_floats;
 use crate::line::NO_FLOATS;
 use crate::line::say;
@@ -18,6 +19,8 @@ use readings::listing::ListRead;
 use readings::listing::list;
 use readings::reports::Reported;
 use readings::reports::report;
+use readings::tracks::TrackRead;
+use readings::tracks::track;
 use squeeze::call::Squeezed;
 use squeeze::call::squeeze;
 use store::edit::Edited;
@@ -159,6 +162,44 @@ fn run_list_in(f: &Floats, w: &Words, v: Convention, room: usize, out: &mut [f64
 pub fn run_list(f: &Floats, w: &Words, v: Convention, room: usize) {
     let mut out = [2.5; 1200];
     run_list_in(f, w, v, room, &mut out);
+}
+
+fn say_tracked(t: TrackRead) {
+    match t {
+        TrackRead::Points(n) => say(b" points 0", [n as u64, 0], NO_FLOATS),
+        TrackRead::Refused(r) => say_refused(r),
+    }
+}
+
+// The densities at the first of these points into the first `room` floats of a run, whose digest is written too: words past them stay.
+fn run_track_in(
+    f: &Floats,
+    w: &Words,
+    v: Convention,
+    points: &[f64],
+    coordinates: usize,
+    room: usize,
+    out: &mut [f64],
+) {
+    if coordinates > points.len() {
+        return;
+    }
+    if room > out.len() {
+        return;
+    }
+    say_tracked(track(f, w, v, &points[0..coordinates], &mut out[0..room]));
+    say(b" run X", [digest_floats(out), 0], NO_FLOATS);
+}
+
+// A track of a few of the body's points, or of so many that all are one.
+pub fn run_track(f: &Floats, w: &Words, v: Convention, coordinates: usize, room: usize) {
+    let mut out = [2.5; 4100];
+    if coordinates <= 24 {
+        run_track_in(f, w, v, &points(), coordinates, room, &mut out);
+    } else {
+        let far = [0.5; 12291];
+        run_track_in(f, w, v, &far, coordinates, room, &mut out);
+    }
 }
 
 // Writes a word of the store from outside.

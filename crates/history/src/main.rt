@@ -24,6 +24,7 @@ use crate::calls::run_put;
 use crate::calls::run_report;
 use crate::calls::run_reweigh;
 use crate::calls::run_squeeze;
+use crate::calls::run_track;
 use crate::calls::run_write;
 use crate::line::say_runs;
 use crate::script::NO_WORD;
@@ -55,6 +56,13 @@ fn call(f: &mut Floats, w: &mut Words, first: u8, third: u8, n: [u64; 8], x: [f6
         b's' => run_squeeze(f, w),
         b'w' => run_write(w, n[1] as usize, n[2]),
         b'd' => run_density(f, w, convention(n[2], n[3], x[2], x[3])),
+        b't' => run_track(
+            f,
+            w,
+            convention(n[4], n[5], x[4], x[5]),
+            n[1] as usize,
+            n[2] as usize,
+        ),
         b'l' => run_list(f, w, convention(n[3], n[4], x[3], x[4]), n[1] as usize),
         _ => {
             if third == b'w' {

@@ -23,6 +23,8 @@ mod squeezes;
 #[cfg(original)]
 mod table;
 #[cfg(original)]
+mod tracks;
+#[cfg(original)]
 mod volumes;
 
 #[cfg(original)]
@@ -37,6 +39,7 @@ fn main() {
     squeezes::rows(&mut bench);
     closed::rows(&mut bench);
     readings::rows(&mut bench);
+    tracks::rows(&mut bench);
     if let Some(path) = std::env::args().nth(1) {
         program::rows(&mut bench, path);
     }

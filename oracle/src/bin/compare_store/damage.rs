@@ -21,6 +21,7 @@ fn calls(r: &mut Rng) -> Vec<Call> {
         Call::Squeeze,
     ];
     let by = histories::convention(r);
+    calls.push(histories::track(r));
     calls.extend([Call::Density(by, [1.0, 2.0, 3.0]), Call::Report(by), Call::List(by, cases::one(r, &[0, 6, 600, 3_072]))]);
     calls
 }

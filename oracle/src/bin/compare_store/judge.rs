@@ -1,5 +1,6 @@
 //! One call on the store beside the same call on a model, and histories of them.
 use crate::squeezes::{altered, touch_freed};
+use crate::tracks::apart;
 use oracle::cases;
 use oracle::held::Held;
 use oracle::histories::{self, Answer, Body, Call, Model, Places};
@@ -65,17 +66,23 @@ impl Runs {
                 let (no, pieces) = store::list(&self.floats, &self.words, by, out);
                 told(no, &[pieces.into()], Answer::Listed(pieces))
             }
+            Call::Track(by, points, _) => {
+                let (no, count) = store::track(&self.floats, &self.words, by, points, out);
+                told(no, &[count.into()], Answer::Tracked(count))
+            }
             _ => unreachable!("no reading"),
         }
     }
 }
 
-/// What was seen of answers: accepted and refused, by number; and of squeezes: how many freed vertices, freed none, were refused.
+/// What was seen of answers: accepted and refused, by number; of squeezes: how many freed vertices, freed none, were refused; of tracks:
+/// how many had points, had none, were refused as 14, as another number.
 #[derive(Default)]
 pub struct Seen {
     accepted: u64,
-    refused: [u64; 14],
+    refused: [u64; 15],
     squeezes: [u64; 3],
+    tracks: [u64; 4],
 }
 
 impl Seen {
@@ -88,6 +95,10 @@ impl Seen {
             (Call::Squeeze, Answer::Freed(1..)) => self.squeezes[0] += 1,
             (Call::Squeeze, Answer::Freed(0)) => self.squeezes[1] += 1,
             (Call::Squeeze, _) => self.squeezes[2] += 1,
+            (Call::Track(..), Answer::Tracked(1..)) => self.tracks[0] += 1,
+            (Call::Track(..), Answer::Tracked(0)) => self.tracks[1] += 1,
+            (Call::Track(..), Answer::Refused(14)) => self.tracks[2] += 1,
+            (Call::Track(..), _) => self.tracks[3] += 1,
             _ => {}
         }
     }
@@ -96,7 +107,9 @@ impl Seen {
         let refused = self.refused.iter().enumerate().filter(|(_, n)| **n > 0).map(|(no, n)| format!(", {n} refused as {no}"));
         let [freed, none, turned_away] = self.squeezes;
         let squeezes = format!("; of squeezes {freed} freed vertices, {none} freed none, {turned_away} refused");
-        format!("{} accepted{}{squeezes}", self.accepted, refused.collect::<String>())
+        let [written, empty, bad, other] = self.tracks;
+        let tracks = format!("; of tracks {written} written, {empty} without points, {bad} refused as 14, {other} as another");
+        format!("{} accepted{}{squeezes}{tracks}", self.accepted, refused.collect::<String>())
     }
 }
 
@@ -109,7 +122,7 @@ pub fn same(a: Answer, b: Answer) -> bool {
         (Answer::Steps(a, b), Answer::Steps(x, y)) => (a, b) == (x, y),
         (Answer::Freed(x), Answer::Freed(y)) => x == y,
         (Answer::Value(x), Answer::Value(y)) => floats(&[x], &[y]),
-        (Answer::Listed(x), Answer::Listed(y)) => x == y,
+        (Answer::Listed(x), Answer::Listed(y)) | (Answer::Tracked(x), Answer::Tracked(y)) => x == y,
         (Answer::Report(x), Answer::Report(y)) => {
             floats(&x.mass, &y.mass) && (x.kernels, x.pieces) == (y.kernels, y.pieces) && floats(&[x.error], &[y.error])
         }
@@ -138,8 +151,22 @@ fn wanted(before: &Runs, had: usize, (mut floats, mut words): (Vec<f64>, Vec<u32
     (Runs { floats, words }, own)
 }
 
-/// One call on both: the answer, the list, and the runs, which `fields` then says of the model. A refused call and a reading leave every
-/// bit; the model's answer is handed on.
+/// How many floats of a lent run an answer says are written.
+fn written(answer: Answer) -> usize {
+    match answer {
+        Answer::Listed(n) => 6 * n as usize,
+        Answer::Tracked(n) => n as usize,
+        _ => 0,
+    }
+}
+
+/// Whether the call only reads the store.
+fn reads(call: Call) -> bool {
+    matches!(call, Call::Density(..) | Call::Report(_) | Call::List(..) | Call::Track(..))
+}
+
+/// One call on both: the answer, the lent run, and the runs, which `fields` then says of the model. A refused call and a reading leave
+/// every bit; the model's answer is handed on.
 pub fn differs<M: Model>(
     runs: &mut Runs,
     model: &mut M,
@@ -151,13 +178,12 @@ pub fn differs<M: Model>(
     let had = if let Call::Squeeze = call { fields(model).0.len() } else { 0 };
     let (mut out, mut want_out) = (lent.to_vec(), lent.to_vec());
     let (told, want) = (runs.answer(call, &mut out), model.answer(call, &mut want_out));
-    let written = if let Answer::Listed(n) = want { 6 * n as usize } else { 0 };
-    let stays = matches!(want, Answer::Refused(_)) || matches!(call, Call::Density(..) | Call::Report(_) | Call::List(..));
+    let stays = matches!(want, Answer::Refused(_)) || reads(call);
     let (want_runs, own_floats) = wanted(&before, had, fields(model));
     let difference = if !same(told, want) {
         Some(format!("{told:?}, not {want:?}"))
-    } else if let Some(at) = float_differs(&out, &want_out, written) {
-        Some(told_of("list", at, &out, &want_out))
+    } else if let Some(at) = float_differs(&out, &want_out, written(want)) {
+        Some(told_of("lent float", at, &out, &want_out))
     } else if let Some(at) = float_differs(&runs.floats, &want_runs.floats, own_floats) {
         Some(told_of("float", at, &runs.floats, &want_runs.floats))
     } else if runs.words != want_runs.words {
@@ -171,9 +197,9 @@ pub fn differs<M: Model>(
     (difference, told, want)
 }
 
-/// A run for a list; no other call is lent one.
+/// A run for a list or a track; no other call is lent one.
 pub fn lent(r: &mut Rng, call: Call) -> Vec<f64> {
-    if let Call::List(_, room) = call { cases::garbage(r, room) } else { Vec::new() }
+    if let Call::List(_, room) | Call::Track(_, _, room) = call { cases::garbage(r, room) } else { Vec::new() }
 }
 
 pub fn histories(count: u64, r: Rng) -> Tally {
@@ -231,7 +257,7 @@ fn history(r: &mut Rng, i: u64, calls: usize, tally: &mut Tally, seen: &mut Seen
             Answer::Freed(freed) => touch_freed(r, &mut runs, freed),
             _ => {}
         }
-        let difference = difference.or_else(|| altered(&mut spared, &runs, call, &lent, told));
+        let difference = difference.or_else(|| altered(&mut spared, &runs, call, &lent, told)).or_else(|| apart(&runs, call));
         let bad = difference.is_some();
         tally.count(bad, || format!("history {i}, call {n} {call:?} on {body:?}: {}", difference.unwrap()));
         if bad {

@@ -201,7 +201,7 @@ fn convention(r: &mut Rng, by: oracle::conventions::Convention) -> String {
     }
 }
 
-/// The call's line; a list and a squeeze have none.
+/// The call's line; a list, a track and a squeeze have none.
 fn call_line(r: &mut Rng, call: Call) -> Option<String> {
     Some(match call {
         Call::Put(place, k) => {
@@ -213,7 +213,7 @@ fn call_line(r: &mut Rng, call: Call) -> Option<String> {
         Call::Advance(n) => format!("(advance {n})"),
         Call::Density(by, at) => format!("(density {} {})", convention(r, by), hs(r, &at)),
         Call::Report(by) => format!("(report {})", convention(r, by)),
-        Call::List(..) | Call::Squeeze => return None,
+        Call::List(..) | Call::Track(..) | Call::Squeeze => return None,
     })
 }
 

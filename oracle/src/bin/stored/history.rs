@@ -24,9 +24,11 @@ pub enum Step {
 /// The runs have room for 8 vertices and 12 faces, and a few words of excess.
 const FLOATS: usize = 1_787;
 const WORDS: usize = 135;
-/// What they hold before the first call, and what a list's run holds before each.
+/// What they hold before the first call, and what the run of a list or a track holds before each.
 const BEFORE: (f64, u32) = (1.5, 9);
-const LIST: [f64; 1_200] = [2.5; 1_200];
+const LENT: f64 = 2.5;
+const LIST: usize = 1_200;
+const TRACK: usize = 4_100;
 
 /// An uneven box, and two points more.
 #[rustfmt::skip]
@@ -101,10 +103,13 @@ impl Replay {
 
     /// The call and its answer; the runs are then as it leaves them.
     fn call(&mut self, call: Call) -> String {
-        let mut run = LIST;
+        let (mut run, room) = match call {
+            Call::List(_, room) => (vec![LENT; LIST], room),
+            Call::Track(_, _, room) => (vec![LENT; TRACK], room),
+            _ => (Vec::new(), 0),
+        };
         let told = match store_number(&self.floats, &self.words) {
             0 => {
-                let room = if let Call::List(_, room) = call { room } else { 0 };
                 let told = self.machine.as_mut().unwrap().answer(call, &mut run[..room]);
                 self.follow();
                 if let Answer::Freed(n) = told {
@@ -114,7 +119,7 @@ impl Replay {
             }
             no => Answer::Refused(no),
         };
-        let run = if let Call::List(..) = call { format!(" run {:016x}", digest_floats(&run)) } else { String::new() };
+        let run = if run.is_empty() { String::new() } else { format!(" run {:016x}", digest_floats(&run)) };
         format!("{}{}{run}", head(call), answer(told))
     }
 }
@@ -129,6 +134,7 @@ fn head(call: Call) -> String {
         Call::Density(by, _) => format!("density{}", convention(by)),
         Call::Report(by) => format!("report{}", convention(by)),
         Call::List(by, room) => format!("list {room}{}", convention(by)),
+        Call::Track(by, points, room) => format!("track {} {room}{}", points.len(), convention(by)),
     }
 }
 
@@ -152,6 +158,7 @@ fn answer(told: Answer) -> String {
             format!(" masses{} kernels {kernels} pieces {pieces} error{}", bits(&mass), bits(&[error]))
         }
         Answer::Listed(pieces) => format!(" pieces {pieces}"),
+        Answer::Tracked(points) => format!(" points {points}"),
     }
 }
 

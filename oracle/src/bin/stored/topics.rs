@@ -21,6 +21,7 @@ pub fn steps() -> Vec<Step> {
         meshless(),
         reopened(),
         squeezed(),
+        tracked(),
     ];
     topics.concat()
 }
@@ -98,6 +99,19 @@ fn list(by: Convention, room: usize) -> Step {
     Step::Call(Call::List(by, room))
 }
 
+/// The points of a track, no numbers and infinities among them, and those of a long one.
+#[rustfmt::skip]
+const POINTS: [f64; 24] = [
+    0.75, -0.5, 0.25,   0.25, -0.125, 0.5,   0.0, 0.0, 0.0,   -0.0, 0.0, 3.0,
+    NAN, 0.5, 0.5,   INFINITY, 1.0, 2.0,   1e300, 1.0, 1.0,   -2.0, 1.5, 0.125,
+];
+static FAR: [f64; 12_291] = [0.5; 12_291];
+
+fn track(by: Convention, coordinates: usize, room: usize) -> Step {
+    let points: &'static [f64] = if coordinates <= POINTS.len() { &POINTS } else { &FAR };
+    Step::Call(Call::Track(by, &points[..coordinates], room))
+}
+
 /// Nobody opened it: by its counts the runs are too short, then its corners are loose.
 fn unopened() -> Vec<Step> {
     vec![
@@ -106,6 +120,7 @@ fn unopened() -> Vec<Step> {
         report(RAW),
         list(RAW, 0),
         squeeze(),
+        track(RAW, 21, 7),
         Step::Write(0, 0),
         advance(0),
         put(32, one()),
@@ -115,6 +130,7 @@ fn unopened() -> Vec<Step> {
         report(rho0(1190.0)),
         list(mass(1.0, 1190.0), 0),
         squeeze(),
+        track(mass(1.0, 1190.0), 23, 0),
     ]
 }
 
@@ -282,6 +298,7 @@ fn damaged(at: usize, value: u32) -> Vec<Step> {
         report(RAW),
         list(RAW, 0),
         squeeze(),
+        track(RAW, 3, 0),
         Step::Mend(at),
     ]
 }
@@ -418,5 +435,37 @@ fn squeezed() -> Vec<Step> {
         squeeze(),
         open(24, 36, 2.0),
         report(RAW),
+    ]
+}
+
+/// Tracks with work left and without: of no point, of eight, of the most there may be; 8 comes before 14.
+fn tracked() -> Vec<Step> {
+    vec![
+        track(RAW, 24, 8),
+        put(0, thirteen()),
+        put(17, one()),
+        put(31, sixteen()),
+        advance(20),
+        track(RAW, 24, 8),
+        track(rho0(1190.0), 24, 12),
+        track(mass(0.0, 2000.0), 21, 7),
+        track(mass(1e9, 2000.0), 24, 8),
+        track(mass(1e9, 2000.0), 0, 0),
+        track(mass(1e9, 2000.0), 23, 8),
+        track(RAW, 0, 0),
+        track(RAW, 23, 8),
+        track(RAW, 22, 8),
+        track(RAW, 24, 7),
+        track(RAW, 12_289, 4_100),
+        track(RAW, 12_291, 4_100),
+        advance(u64::MAX),
+        track(mass(1e9, 2000.0), 24, 9),
+        track(rho0(NAN), 3, 1),
+        track(mass(1e9, 2000.0), 0, 5),
+        track(mass(1e9, 2000.0), 24, 7),
+        track(mass(1e9, 2000.0), 1, 1),
+        track(mass(1e9, 2000.0), 12_288, 4_096),
+        track(rho0(1190.0), 12_288, 4_095),
+        density(mass(1e9, 2000.0)),
     ]
 }
