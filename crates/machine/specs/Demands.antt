@@ -43,7 +43,7 @@ pub record Read (q : ℕ) (mesh : Mesh) (m : Machine) (s : Store) (r : Reading) 
   pub unfinished : needs r ≡ true → 0 < workLeft m → store q s (read r) .reply ≡ refused Unfinished
   pub only-then : store q s (read r) .reply ≡ refused Unfinished → (needs r ≡ true) × (0 < workLeft m)
   -- "Any other reading, its run long enough, answers and writes what demand 2's functions give, worked afresh on the
-  -- mesh opened and the kernels then in the machine's places"; where its run is too short both give 9
+  -- mesh opened and the kernels then in the machine's places"; both give 9 where a list's run is too short, and 14 of a track
   pub afresh : (store q s (read r) .reply ≡ refused Unfinished → ⊥)
       → (store q s (read r) .reply ≡ workedAfresh mesh (m .slots) r .reply)
       × (store q s (read r) .out ≡ workedAfresh mesh (m .slots) r .out)
