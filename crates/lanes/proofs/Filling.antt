@@ -1,73 +1,33 @@
--- A loop that sets each of 28 elements: what is shown of an element that is set, and what is kept of one that is not. Assumes nothing.
-use mathlib.Core.Path.{_≡_, refl, _∙_, subst, subst⁻¹}
-use mathlib.Core.Logic.{inl, inr}
+-- A loop that sets, or looks at, each of 28 elements: what is shown of them, also where that hangs on flags. Assumes nothing.
+use mathlib.Core.Path.{_≡_, subst, subst⁻¹}
 use Prim.Native.Nat.{ℕ, _+_, _/_, _^_, _≤_, _<_}
-use native.Mathlib.Nat.{eq-or-lt-of-le, ne-of-lt, ne-of-gt, lt-of-le-of-lt, lt-of-lt-of-le, one-mul, div-lt-iff-lt-mul}
+use native.Mathlib.Nat.{lt-of-le-of-lt, lt-of-lt-of-le, one-mul, div-lt-iff-lt-mul}
 use native.Mathlib.Omega.{arith}
 use mathlib.Core.List.{List}
-use lib.ListN.{getD, set, length, length-set}
-use lib.Seq.{getD-set-same, getD-set-other}
+use lib.ListN.{getD, set}
 use lib.Dec.{lit<}
 use lib.Pow.{pow-pos}
 use lib.Bits.{bitOr}
 use lib.Ieee.{Float, nan}
+use Rattle.base.specs.FillLaws.{Filled, up-to, fills-on}
 use Rattle.root.specs.Flags.{or-most, or-zero}
 use Rattle.lanes.specs.Factors.{All}
 
--- the elements below i are set, each as P says; the others are those of the list at first
-pub record Filled (P : ℕ → Float → Type 0) (first : List Float) (i : ℕ) (ys : List Float) : Type 0 where
-  pub within : i ≤ 28
-  pub long : length ys ≡ 28
-  pub done : (j : ℕ) → j < i → P j (getD ys j nan)
-  pub kept : (j : ℕ) → i ≤ j → getD ys j nan ≡ getD first j nan
-
-pub none-filled : {P : ℕ → Float → Type 0} (ys : List Float) → length ys ≡ 28 → Filled P ys 0 ys
-none-filled ys h = record { within = omega arith; long = h; done = λ j l. absurd (omega arith); kept = λ j l. refl }
-
-pub all-filled : {P : ℕ → Float → Type 0} {first ys : List Float} {i : ℕ} → Filled P first i ys → 28 ≤ i → All P ys
+pub all-filled : {P : ℕ → Float → Type 0} {first ys : List Float} {i : ℕ} → Filled 28 P first i ys → 28 ≤ i → All P ys
 all-filled f h = record { at = λ j l. f .done j (lt-of-lt-of-le l h) }
-
--- what holds below i and at i holds below i + 1
-up-to : {P : ℕ → Type 0} {i : ℕ} → ((j : ℕ) → j < i → P j) → P i → (j : ℕ) → j < i + 1 → P j
-up-to {P} {i} before last j l = elim (eq-or-lt-of-le (under l)) [
-  | inl e ↦ subst⁻¹ P e last
-  | inr g ↦ before j g
-]
-  where
-    under : j < i + 1 → j ≤ i
-    under k = omega arith
-
--- one more is set; what is shown of the others may become another statement that follows
-pub fills-on : {P Q : ℕ → Float → Type 0} {first ys : List Float} {i : ℕ} {y : Float} → Filled P first i ys → i < 28 → ((j : ℕ) (z : Float) → P j z → Q j z) → Q i y → Filled Q first (i + 1) (set ys i y)
-fills-on {P} {Q} {first} {ys} {i} {y} f h on q =
-    record {
-      within = omega arith;
-      long = length-set ys i y ∙ f .long;
-      done = up-to {P = λ (k : ℕ). Q k (getD (set ys i y) k nan)} (λ j g. subst⁻¹ (Q j) (getD-set-other ys i j y nan (ne-of-lt g)) (on j (getD ys j nan) (f .done j g))) (subst⁻¹ (Q i) (getD-set-same ys i y nan (subst⁻¹ (λ (n : ℕ). i < n) (f .long) h)) q);
-      kept = λ j l. getD-set-other ys i j y nan (ne-of-gt (over j l)) ∙ f .kept j (lower j l);
-    }
-  where
-    over : (j : ℕ) → i + 1 ≤ j → i < j
-    over j l = omega arith
-
-    lower : (j : ℕ) → i + 1 ≤ j → i ≤ j
-    lower j l = omega arith
-
-pub fills : {P : ℕ → Float → Type 0} {first ys : List Float} {i : ℕ} {y : Float} → Filled P first i ys → i < 28 → P i y → Filled P first (i + 1) (set ys i y)
-fills f h q = fills-on f h (λ j z p. p) q
 
 -- ---- where the elements are as P says only if C holds, which says that some flags are clear. Each turn or-es its own to them, so that C then says more
 abbrev pub If : Type 0 → (ℕ → Float → Type 0) → ℕ → Float → Type 0
 If C P j z = C → P j z
 
-pub fills-if : {C D : Type 0} {P : ℕ → Float → Type 0} {first ys : List Float} {i : ℕ} {y : Float} → Filled (If C P) first i ys → i < 28 → (D → C) → (D → P i y) → Filled (If D P) first (i + 1) (set ys i y)
+pub fills-if : {C D : Type 0} {P : ℕ → Float → Type 0} {first ys : List Float} {i : ℕ} {y : Float} → Filled 28 (If C P) first i ys → i < 28 → (D → C) → (D → P i y) → Filled 28 (If D P) first (i + 1) (set ys i y)
 fills-if f h on q = fills-on f h (λ j z p d. p (on d)) q
 
 -- C: the flag is 0
-pub fills-or : {P : ℕ → Float → Type 0} {first ys : List Float} {i : ℕ} {y : Float} (a b : ℕ) → Filled (If (a ≡ 0) P) first i ys → i < 28 → (b ≡ 0 → P i y) → Filled (If (bitOr a b ≡ 0) P) first (i + 1) (set ys i y)
+pub fills-or : {P : ℕ → Float → Type 0} {first ys : List Float} {i : ℕ} {y : Float} (a b : ℕ) → Filled 28 (If (a ≡ 0) P) first i ys → i < 28 → (b ≡ 0 → P i y) → Filled 28 (If (bitOr a b ≡ 0) P) first (i + 1) (set ys i y)
 fills-or a b f h q = fills-if f h (λ e. or-zero a b e .0) (λ e. q (or-zero a b e .1))
 
-pub all-if : {C : Type 0} {P : ℕ → Float → Type 0} {first ys : List Float} {i : ℕ} → Filled (If C P) first i ys → 28 ≤ i → C → All P ys
+pub all-if : {C : Type 0} {P : ℕ → Float → Type 0} {first ys : List Float} {i : ℕ} → Filled 28 (If C P) first i ys → 28 ≤ i → C → All P ys
 all-if f h e = record { at = λ j l. f .done j (lt-of-lt-of-le l h) e }
 
 -- ---- a loop that only looks: C says that no flag is set for the elements below i

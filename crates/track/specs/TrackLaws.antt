@@ -1,17 +1,17 @@
 -- Laws of a track and of loops over the elements of an array. Assumes nothing.
-use mathlib.Core.Path.{_≡_, refl, sym, ap, _∙_, subst⁻¹}
-use mathlib.Core.Logic.{inl, inr}
+use mathlib.Core.Path.{_≡_, refl, sym, ap, _∙_}
 use mathlib.Core.Bool.{true}
 use mathlib.Core.List.{List, [], _∷_, _++_, append-assoc, append-nil}
 use Prim.Native.Nat.{ℕ, zero, suc, _+_, _*_, _-_, _≤_, _<_}
-use native.Mathlib.Nat.{eq-or-lt-of-le, ne-of-lt, ne-of-gt, lt-of-lt-of-le, zero-add, add-zero, add-suc}
+use native.Mathlib.Nat.{lt-of-lt-of-le, zero-add, add-zero, add-suc}
 use native.Mathlib.Numerals.{add-one}
 use native.Mathlib.Omega.{arith}
 use lib.ListN.{length, getD, set, take, replicate, length-append, length-set, length-replicate, getD-replicate}
-use lib.Seq.{getD-set-same, getD-set-other, take-suc, take-all, getD-at}
+use lib.Seq.{take-suc, getD-at}
 use lib.Ieee.{Float, nan, lt}
 use Rattle.base.specs.Floats.{_⊕_, _⊖_, +0, abs}
 use Rattle.base.specs.Constants.{one, stayLimit}
+use Rattle.base.specs.FillLaws.{Filled}
 use Rattle.base.specs.LoopLaws.{Left, from-zero, goes, ended, times-suc}
 use Rattle.kernel.specs.declared.kernel.Kernel.{Kernel}
 use Rattle.density.specs.Densitize.{baseAt, densityOf, densityTo, densitizeOf}
@@ -20,40 +20,9 @@ use Rattle.runs.specs.RunLaws.{length-write, write-more, write-snoc, write-none
 use Rattle.track.specs.Track.{pointAt, stretch, along}
 use Rattle.track.specs.Lanes.{unitTerm, Lanes, lane, Thirds, Zeros, Added, BothAdded, Summed}
 
--- ---- a loop that sets elements of an array of n in their order: those below i are set, each as P says, the others are as at first
-pub record Filled (n : ℕ) (P : ℕ → Float → Type 0) (first : List Float) (i : ℕ) (ys : List Float) : Type 0 where
-  pub long : length ys ≡ n
-  pub done : (j : ℕ) → j < i → P j (getD ys j nan)
-  pub kept : (j : ℕ) → i ≤ j → getD ys j nan ≡ getD first j nan
-
-pub none-filled : {n : ℕ} {P : ℕ → Float → Type 0} (ys : List Float) → length ys ≡ n → Filled n P ys 0 ys
-none-filled ys h = record { long = h; done = λ j l. absurd (omega arith); kept = λ j l. refl }
-
+-- ---- a loop that sets elements of an array
 pub all-filled : {P : ℕ → Float → Type 0} {first ys : List Float} {i m : ℕ} → Filled 64 P first i ys → m ≤ i → Lanes m P ys
 all-filled f h = record { long = f .long; at = λ j l. f .done j (lt-of-lt-of-le l h) }
-
-up-to : {P : ℕ → Type 0} {i : ℕ} → ((j : ℕ) → j < i → P j) → P i → (j : ℕ) → j < i + 1 → P j
-up-to {P} {i} before last j l = elim (eq-or-lt-of-le (under l)) [
-  | inl e ↦ subst⁻¹ P e last
-  | inr g ↦ before j g
-]
-  where
-    under : j < i + 1 → j ≤ i
-    under k = omega arith
-
-pub fills : {n : ℕ} {P : ℕ → Float → Type 0} {first ys : List Float} {i : ℕ} {y : Float} → Filled n P first i ys → i < n → P i y → Filled n P first (i + 1) (set ys i y)
-fills {n} {P} {first} {ys} {i} {y} f h q =
-    record {
-      long = length-set ys i y ∙ f .long;
-      done = up-to {P = λ (k : ℕ). P k (getD (set ys i y) k nan)} (λ j g. subst⁻¹ (P j) (getD-set-other ys i j y nan (ne-of-lt g)) (f .done j g)) (subst⁻¹ (P i) (getD-set-same ys i y nan (subst⁻¹ (λ (l : ℕ). i < l) (f .long) h)) q);
-      kept = λ j l. getD-set-other ys i j y nan (ne-of-gt (over j l)) ∙ f .kept j (lower j l);
-    }
-  where
-    over : (j : ℕ) → i + 1 ≤ j → i < j
-    over j l = omega arith
-
-    lower : (j : ℕ) → i + 1 ≤ j → i ≤ j
-    lower j l = omega arith
 
 -- ---- one kernel more
 pub unit-is : (k : Kernel) (x y z : Float) → lt (abs (k .alpha ⊖ one)) stayLimit ≡ true

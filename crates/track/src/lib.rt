@@ -1,7 +1,7 @@
-// The density of a list of kernels along a track of points: up to 64 points at once stand in arrays, so that they are worked side by
-// side, and each point's sum runs over the kernels in list order.
-// Internal: every function here but `unit_term` has a `requires` and is called by proved code alone; a `length` of 64 stands where a
-// proof must carry an array's length.
+// The density of a list of kernels along a track of points: up to 64 points at once stand in arrays, so that they are
+// worked side by side, and each point's sum runs over the kernels in list order.
+// Internal: a function with a `requires` is called by proved code alone. A `length` of 64 stands where a proof must carry an
+// array's length.
 ghost use mathlib.Core.Path.{_≡_};
 ghost use mathlib.Core.Bool.{true};
 ghost use Prim.Native.Nat.{_+_, _*_, _≤_, min};
@@ -86,8 +86,8 @@ fn add_kernel(k: Kernel, m: usize, x: &[f64; 64], y: &[f64; 64], z: &[f64; 64], 
     }
 }
 
-// Adds two kernels that pass the strict test to m sums, k first: the points and sums are read once for both, and the quotients
-// keep the divider busy.
+// Adds two kernels that pass the strict test to m sums, k first. The points and the sums are read once for both, which
+// leaves the processor little but the quotients to wait for.
 fn add_units(
     k: Kernel,
     l: Kernel,
@@ -201,7 +201,8 @@ fn block(kernels: &[f64], n: usize, points: &[f64], at: usize, m: usize, out: &m
     copy_floats(out, at, &rho[..m]);
 }
 
-// How many of the points that are left are worked at once: two blocks of a like size rather than a long one and a short one.
+// How many of the points that are left are worked at once: two blocks of a like size rather than a long one and a short
+// one.
 fn share(left: usize) -> usize
     ensures { λ r. ⌜ (r ≤ 64) × (r ≤ left) × (min left 1 ≤ r) ⌝ }
 {

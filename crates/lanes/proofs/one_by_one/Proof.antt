@@ -1,13 +1,14 @@
 -- `one_by_one` meets its contract: a loop that sets each element. Assumes nothing.
 use Prim.Native.Nat.{_-_}
 use borrow.Author.Needs.{needs}
+use Rattle.base.specs.FillLaws.{Filled, none-filled, fills}
 use Rattle.lanes.specs.Factors.{factor, Of}
-use Rattle.lanes.proofs.Filling.{Filled, none-filled, fills, all-filled}
+use Rattle.lanes.proofs.Filling.{all-filled}
 use Rattle.lanes.proofs.one_by_one.Statement.{statement}
 use Rattle.lanes.proofs.one_by_one.Tie as tie
 
 abbrev Inv-loop : tie.InvT-loop
-Inv-loop x sigma g₀ i₀ g i = Filled (Of (factor sigma) x) g₀ i g
+Inv-loop x sigma g₀ i₀ g i = Filled 28 (Of (factor sigma) x) g₀ i g
 
 abbrev μ-loop : tie.MeasureT-loop
 μ-loop x sigma g₀ i₀ g i = 28 - i

@@ -4,10 +4,11 @@ use Prim.Native.Nat.{ℕ, _-_}
 use native.Mathlib.Omega.{arith}
 use lib.ListN.{getD}
 use lib.Ieee.{Float, nan}
+use Rattle.base.specs.FillLaws.{Filled, none-filled, fills}
 use Rattle.base.specs.Floats.{_⊕_}
 use Rattle.density.specs.Densitize.{densityOf}
 use Rattle.track.specs.Lanes.{lane}
-use Rattle.track.specs.TrackLaws.{Filled, none-filled, fills, all-filled}
+use Rattle.track.specs.TrackLaws.{all-filled}
 use borrow.Author.Needs.{needs}
 use Rattle.track.proofs.add_any.Statement.{statement}
 use Rattle.track.proofs.add_any.Tie as tie

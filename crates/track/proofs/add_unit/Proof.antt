@@ -4,9 +4,10 @@ use Prim.Native.Nat.{ℕ, _-_}
 use native.Mathlib.Omega.{arith}
 use lib.ListN.{getD}
 use lib.Ieee.{Float, nan}
+use Rattle.base.specs.FillLaws.{Filled, none-filled, fills}
 use Rattle.base.specs.Floats.{_⊕_}
 use Rattle.track.specs.Lanes.{unitTerm}
-use Rattle.track.specs.TrackLaws.{Filled, none-filled, fills, all-filled, lanes-unit}
+use Rattle.track.specs.TrackLaws.{all-filled, lanes-unit}
 use borrow.Author.Needs.{needs}
 use Rattle.track.proofs.add_unit.Statement.{statement}
 use Rattle.track.proofs.add_unit.Tie as tie

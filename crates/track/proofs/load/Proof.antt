@@ -3,7 +3,8 @@ use mathlib.Core.Path.{_≡_, refl}
 use Prim.Native.Nat.{ℕ, _+_, _*_, _-_}
 use lib.ListN.{getD}
 use lib.Ieee.{Float, nan}
-use Rattle.track.specs.TrackLaws.{Filled, none-filled, fills, all-filled}
+use Rattle.base.specs.FillLaws.{Filled, none-filled, fills}
+use Rattle.track.specs.TrackLaws.{all-filled}
 use borrow.Author.Needs.{needs}
 use Rattle.track.proofs.load.Statement.{statement}
 use Rattle.track.proofs.load.Tie as tie

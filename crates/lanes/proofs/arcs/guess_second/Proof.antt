@@ -2,15 +2,16 @@
 use Prim.Native.Nat.{_-_}
 use mathlib.Core.Path.{_≡_}
 use lib.ListN.{length}
+use Rattle.base.specs.FillLaws.{Filled, none-filled, fills}
 use Rattle.lanes.specs.Factors.{Of}
 use Rattle.lanes.specs.Stages.{radicand}
-use Rattle.lanes.proofs.Filling.{Filled, none-filled, fills, all-filled}
+use Rattle.lanes.proofs.Filling.{all-filled}
 use borrow.Author.Needs.{needs}
 use Rattle.lanes.proofs.arcs.guess_second.Statement.{statement}
 use Rattle.lanes.proofs.arcs.guess_second.Tie as tie
 
 abbrev Inv-loop : tie.InvT-loop
-Inv-loop v f₀ y₀ i₀ f y i = Filled (Of radicand v) f₀ i f × (length y ≡ 28)
+Inv-loop v f₀ y₀ i₀ f y i = Filled 28 (Of radicand v) f₀ i f × (length y ≡ 28)
 
 abbrev μ-loop : tie.MeasureT-loop
 μ-loop v f₀ y₀ i₀ f y i = 28 - i

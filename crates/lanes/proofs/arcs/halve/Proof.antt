@@ -4,18 +4,19 @@ use mathlib.Core.Path.{_≡_, subst⁻¹}
 use native.Mathlib.Nat.{le-refl}
 use lib.ListN.{getD}
 use lib.Ieee.{Float, nan, binary64}
+use Rattle.base.specs.FillLaws.{Filled, none-filled, fills}
 use Rattle.base.specs.Floats.{_⊕_, _⊘_}
 use Rattle.base.specs.Constants.{one}
 use Rattle.base.specs.Ranges.{Within}
 use Rattle.root.specs.Root.{squareRoot}
 use Rattle.lanes.proofs.Points.{halved-of}
-use Rattle.lanes.proofs.Filling.{Filled, If, Clear, none-filled, fills, fills-if, clear-or, clear-zero, all-filled, all-if}
+use Rattle.lanes.proofs.Filling.{If, Clear, fills-if, clear-or, clear-zero, all-filled, all-if}
 use borrow.Author.Needs.{needs}
 use Rattle.lanes.proofs.arcs.halve.Statement.{statement}
 use Rattle.lanes.proofs.arcs.halve.Tie as tie
 
 abbrev Inv-loop : tie.InvT-loop
-Inv-loop f y v₀ coarse₀ far₀ i₀ v coarse far i = Filled (λ (j : ℕ) (z : Float). Within 0 1 z) v₀ i v × Filled (If (Clear 54 coarse far) (λ (j : ℕ) (z : Float). z ≡ getD v₀ j nan ⊘ (one ⊕ squareRoot binary64 (getD f j nan)))) v₀ i v
+Inv-loop f y v₀ coarse₀ far₀ i₀ v coarse far i = Filled 28 (λ (j : ℕ) (z : Float). Within 0 1 z) v₀ i v × Filled 28 (If (Clear 54 coarse far) (λ (j : ℕ) (z : Float). z ≡ getD v₀ j nan ⊘ (one ⊕ squareRoot binary64 (getD f j nan)))) v₀ i v
 
 abbrev μ-loop : tie.MeasureT-loop
 μ-loop f y v₀ coarse₀ far₀ i₀ v coarse far i = 28 - i

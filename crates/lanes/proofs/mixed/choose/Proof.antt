@@ -5,14 +5,15 @@ use mathlib.Core.Bool.{cond}
 use native.Mathlib.Nat.{le-refl}
 use lib.ListN.{getD}
 use lib.Ieee.{Float, nan, le}
+use Rattle.base.specs.FillLaws.{Filled, none-filled, fills}
 use Rattle.base.specs.Constants.{tenth}
-use Rattle.lanes.proofs.Filling.{Filled, none-filled, fills, all-filled}
+use Rattle.lanes.proofs.Filling.{all-filled}
 use borrow.Author.Needs.{needs}
 use Rattle.lanes.proofs.mixed.choose.Statement.{statement}
 use Rattle.lanes.proofs.mixed.choose.Tie as tie
 
 abbrev Inv-loop : tie.InvT-loop
-Inv-loop t s g₀ i₀ g i = Filled (λ (j : ℕ) (z : Float). z ≡ cond (le tenth (getD t j nan)) (getD s j nan) (getD g₀ j nan)) g₀ i g
+Inv-loop t s g₀ i₀ g i = Filled 28 (λ (j : ℕ) (z : Float). z ≡ cond (le tenth (getD t j nan)) (getD s j nan) (getD g₀ j nan)) g₀ i g
 
 abbrev μ-loop : tie.MeasureT-loop
 μ-loop t s g₀ i₀ g i = 28 - i

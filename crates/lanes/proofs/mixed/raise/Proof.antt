@@ -3,15 +3,16 @@ use Prim.Native.Nat.{ℕ, _-_}
 use mathlib.Core.Path.{_≡_}
 use lib.ListN.{getD}
 use lib.Ieee.{Float, nan}
+use Rattle.base.specs.FillLaws.{Filled, none-filled, fills}
 use Rattle.lanes.specs.Factors.{Of}
 use Rattle.lanes.specs.Stages.{Sided, raised}
-use Rattle.lanes.proofs.Filling.{Filled, If, none-filled, fills, fills-or, all-filled, all-if, of-each}
+use Rattle.lanes.proofs.Filling.{If, fills-or, all-filled, all-if, of-each}
 use borrow.Author.Needs.{needs}
 use Rattle.lanes.proofs.mixed.raise.Statement.{statement}
 use Rattle.lanes.proofs.mixed.raise.Tie as tie
 
 abbrev Inv-loop : tie.InvT-loop
-Inv-loop t u₀ flag₀ i₀ u flag i = Filled (Of raised t) u₀ i u × Filled (If (flag ≡ 0) (λ (j : ℕ) (z : Float). Sided (getD t j nan))) u₀ i u
+Inv-loop t u₀ flag₀ i₀ u flag i = Filled 28 (Of raised t) u₀ i u × Filled 28 (If (flag ≡ 0) (λ (j : ℕ) (z : Float). Sided (getD t j nan))) u₀ i u
 
 abbrev μ-loop : tie.MeasureT-loop
 μ-loop t u₀ flag₀ i₀ u flag i = 28 - i

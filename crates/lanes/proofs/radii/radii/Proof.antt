@@ -2,17 +2,18 @@
 use Prim.Native.Nat.{ℕ, _-_}
 use mathlib.Core.Path.{_≡_, ap}
 use lib.Ieee.{Float}
+use Rattle.base.specs.FillLaws.{Filled, none-filled}
 use Rattle.base.specs.Floats.{_⊗_}
 use Rattle.lanes.specs.Factors.{Of}
 use Rattle.lanes.specs.Stages.{radius, Large, Low}
-use Rattle.lanes.proofs.Filling.{Filled, If, Clear, none-filled, fills-if, fills-or, clear-or, clear-zero, all-if}
+use Rattle.lanes.proofs.Filling.{If, Clear, fills-if, fills-or, clear-or, clear-zero, all-if}
 use borrow.Author.Needs.{needs}
 use Rattle.lanes.proofs.radii.radii.Statement.{statement}
 use Rattle.lanes.proofs.radii.radii.Tie as tie
 
 abbrev Inv-loop : tie.InvT-loop
 Inv-loop x y sigma t₀ coarse₀ far₀ low₀ high₀ i₀ t coarse far low high i =
-    Filled (If (Clear 62 coarse far) (Of (radius sigma) x)) t₀ i t × Filled (If (low ≡ 0) (λ (j : ℕ) (z : Float). Large z)) t₀ i t × Filled (If (high ≡ 0) (λ (j : ℕ) (z : Float). Low z)) t₀ i t
+    Filled 28 (If (Clear 62 coarse far) (Of (radius sigma) x)) t₀ i t × Filled 28 (If (low ≡ 0) (λ (j : ℕ) (z : Float). Large z)) t₀ i t × Filled 28 (If (high ≡ 0) (λ (j : ℕ) (z : Float). Low z)) t₀ i t
 
 abbrev μ-loop : tie.MeasureT-loop
 μ-loop x y sigma t₀ coarse₀ far₀ low₀ high₀ i₀ t coarse far low high i = 28 - i

@@ -3,16 +3,17 @@ use Prim.Native.Nat.{ℕ, _-_}
 use mathlib.Core.Path.{_≡_, _∙_}
 use lib.ListN.{getD}
 use lib.Ieee.{Float, nan}
+use Rattle.base.specs.FillLaws.{Filled, none-filled, fills}
 use Rattle.radial.specs.Radial.{radialG}
 use Rattle.lanes.specs.Stages.{Small}
 use Rattle.lanes.proofs.Points.{small-is}
-use Rattle.lanes.proofs.Filling.{Filled, If, none-filled, fills, fills-or, all-filled, all-if, of-each}
+use Rattle.lanes.proofs.Filling.{If, fills-or, all-filled, all-if, of-each}
 use borrow.Author.Needs.{needs}
 use Rattle.lanes.proofs.series.all_series.Statement.{statement}
 use Rattle.lanes.proofs.series.all_series.Tie as tie
 
 abbrev Inv-loop : tie.InvT-loop
-Inv-loop t g₀ flag₀ i₀ g flag i = Filled (λ (j : ℕ) (z : Float). Small (getD t j nan) → z ≡ radialG (getD t j nan)) g₀ i g × Filled (If (flag ≡ 0) (λ (j : ℕ) (z : Float). Small (getD t j nan))) g₀ i g
+Inv-loop t g₀ flag₀ i₀ g flag i = Filled 28 (λ (j : ℕ) (z : Float). Small (getD t j nan) → z ≡ radialG (getD t j nan)) g₀ i g × Filled 28 (If (flag ≡ 0) (λ (j : ℕ) (z : Float). Small (getD t j nan))) g₀ i g
 
 abbrev μ-loop : tie.MeasureT-loop
 μ-loop t g₀ flag₀ i₀ g flag i = 28 - i
