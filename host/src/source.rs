@@ -135,6 +135,6 @@ fn written(
     let (xyz, faces) = mesh.runs();
     let list = Kernel::flat(kernels);
     let mut out = vec![0.0; list.len()];
-    let told = call(&xyz, &faces, &list, &mut out);
+    let told = call(xyz, faces, &list, &mut out);
     Refusal::check(told.no).map(|()| Kernel::listed(&out, told.kernels as usize))
 }

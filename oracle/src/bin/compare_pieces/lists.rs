@@ -27,12 +27,12 @@ pub fn lists(count: u64, mut r: Rng) -> Tally {
             _ => need,
         };
         let before = cases::garbage(&mut r, room);
-        let refused = run.len() % 6 != 0 || room < need;
+        let refused = !run.len().is_multiple_of(6) || room < need;
         let text = if refused { None } else { Some((&list[..], error)) };
         tally.count(list_differs(&run, radius, text, &before), || {
             format!("{kernels:?}, {} floats, radius {radius:?}, room for {room}", run.len())
         });
-        ragged += u64::from(run.len() % 6 != 0);
+        ragged += u64::from(!run.len().is_multiple_of(6));
         short += u64::from(room < need);
         once += u64::from(room >= 96 * kernels.len());
     }
