@@ -20,7 +20,8 @@ const STATE_WORDS: usize = 3;
 /// Up to 32 kernels inside a mesh, with the work on them as far as it is done.
 ///
 /// Both runs that the archive works on are the store's own, so no call can overlap another's memory, and they
-/// hold a sound store from the opening on. Stores are independent: they may be used in different threads.
+/// hold a sound store from the opening on. Stores are independent: they may be used in different threads, and so
+/// may the readings of one store, the methods by `&self`.
 #[derive(Clone)]
 pub struct Store {
     pub(crate) floats: Vec<f64>,

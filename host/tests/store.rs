@@ -313,3 +313,49 @@ fn stores_work_in_threads() {
         assert_eq!(thread.join().unwrap(), alone);
     }
 }
+
+#[test]
+fn a_store_may_be_sent_and_shared() {
+    fn sent_and_shared<T: Send + Sync + 'static>() {}
+    sent_and_shared::<Store>();
+    sent_and_shared::<Refusal>();
+    sent_and_shared::<OpenError>();
+    sent_and_shared::<SnapshotError>();
+}
+
+#[test]
+fn one_store_is_read_by_many_threads() {
+    let mut store = filled();
+    store.advance(u64::MAX).unwrap();
+    let track = points(300);
+    let read = |by: Convention| {
+        let densities: Vec<u64> = store.densities(by, &track).unwrap().iter().map(bits).collect();
+        (densities, store.report(by).unwrap(), store.list(by).unwrap(), store.to_bytes())
+    };
+    let conventions = [Convention::Raw, Convention::Rho0 { bulk: 1500.0 }, BY_MASS];
+    let alone = conventions.map(read);
+    // each thread begins with another convention, so that different readings meet
+    std::thread::scope(|scope| {
+        for first in 0..8 {
+            let (alone, read) = (&alone, &read);
+            scope.spawn(move || {
+                for i in first..first + 60 {
+                    assert_eq!(read(conventions[i % 3]), alone[i % 3]);
+                }
+            });
+        }
+    });
+}
+
+#[test]
+fn a_store_goes_on_in_another_thread() {
+    let mut store = filled();
+    store.advance(9).unwrap();
+    let moved = std::thread::spawn(move || {
+        store.advance(u64::MAX).unwrap();
+        store
+    });
+    let mut here = filled();
+    here.advance(u64::MAX).unwrap();
+    assert_eq!(moved.join().unwrap().to_bytes(), here.to_bytes());
+}
