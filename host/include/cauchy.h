@@ -39,6 +39,18 @@
 #include <stddef.h>
 #include <stdint.h>
 
+/* The version of this file, of the host's part and of the packages, which stands in host/Cargo.toml. */
+#define CAUCHY_VERSION "0.1.0"
+
+/* Stands before every function that may refuse: an answer that is not looked at is a mistake. */
+#if defined(__GNUC__)
+#define CAUCHY_MUST_USE __attribute__((warn_unused_result))
+#elif defined(__cplusplus) && __cplusplus >= 201703L
+#define CAUCHY_MUST_USE [[nodiscard]]
+#else
+#define CAUCHY_MUST_USE
+#endif
+
 #ifdef __cplusplus
 extern "C" {
 #endif
@@ -191,39 +203,48 @@ typedef struct CauchyListPieces {
 
 /* Makes two runs a store of this mesh and body radius, every place empty; what they held does not matter.
  * The radius bounds the fits of exponents other than 1.                                        1 2 3 4 */
+CAUCHY_MUST_USE
 CauchyOpened cauchy_store_open(double *floats, size_t n_floats, uint32_t *words, size_t n_words, double radius,
                                const double *xyz, size_t n_xyz, const uint32_t *faces, size_t n_faces);
 
 /* Puts a kernel into a place, whatever that held, with all its work to do.                       4 5 6 */
+CAUCHY_MUST_USE
 CauchyPlaced cauchy_store_put(double *floats, size_t n_floats, uint32_t *words, size_t n_words, uint32_t place,
                               CauchyKernel kernel);
 
 /* Empties a place; answers `no`.                                                               4 5 6 7 */
+CAUCHY_MUST_USE
 uint32_t cauchy_store_clear(double *floats, size_t n_floats, uint32_t *words, size_t n_words, uint32_t place);
 
 /* Gives the kernel of a place another weight, its work kept; answers `no`.                     4 5 6 7 */
+CAUCHY_MUST_USE
 uint32_t cauchy_store_reweigh(double *floats, size_t n_floats, uint32_t *words, size_t n_words, uint32_t place,
                               double w);
 
 /* Takes the vertices that no face uses out of the mesh. The others keep their order, corners are renumbered to
  * match, and the doubles that are freed, the last of the old coordinates, become 0. It may come between any
  * two calls: no place, no step and no later reading changes by it.                                 4 5 */
+CAUCHY_MUST_USE
 CauchySqueezed cauchy_store_squeeze(double *floats, size_t n_floats, uint32_t *words, size_t n_words);
 
 /* Does up to `budget` steps of the work left, one face of one piece each. Every call looks the store over
  * first, some 2 ns a face, so budgets of many faces are cheapest. A budget of 0 tells what is left. 4 5 */
+CAUCHY_MUST_USE
 CauchySteps cauchy_store_advance(double *floats, size_t n_floats, uint32_t *words, size_t n_words, uint64_t budget);
 
 /* The density at a point.              4 5 8; 8 while work is left, by mass with a target above 0 only */
+CAUCHY_MUST_USE
 CauchyValue cauchy_store_density(const double *floats, size_t n_floats, const uint32_t *words, size_t n_words,
                                  CauchyConvention convention, CauchyVector point);
 
 /* Masses, counts and the greatest error.                                                         4 5 8 */
+CAUCHY_MUST_USE
 CauchyStoreReport cauchy_store_report(const double *floats, size_t n_floats, const uint32_t *words, size_t n_words,
                                       CauchyConvention convention);
 
 /* Writes the pieces as a kernel list, weights rescaled; doubles past them stay.
  *                                                                          4 5 8 9; 8 as for a density */
+CAUCHY_MUST_USE
 CauchyListed cauchy_store_list(const double *floats, size_t n_floats, const uint32_t *words, size_t n_words,
                                CauchyConvention convention, double *out, size_t n_out);
 
@@ -231,6 +252,7 @@ CauchyListed cauchy_store_list(const double *floats, size_t n_floats, const uint
  * cauchy_store_density answers at that point, but the store is looked over and the weights are rescaled once
  * for the whole track. `n_points` counts doubles, three a point. No points: nothing is written.
  *                                                                         4 5 8 14; 8 as for a density */
+CAUCHY_MUST_USE
 CauchyTrack cauchy_store_track(const double *floats, size_t n_floats, const uint32_t *words, size_t n_words,
                                CauchyConvention convention, const double *points, size_t n_points, double *out,
                                size_t n_out);
@@ -242,16 +264,20 @@ CauchyTrack cauchy_store_track(const double *floats, size_t n_floats, const uint
 CauchyKernel cauchy_kernel_from_file(CauchyFileKernel kernel, double default_alpha);
 
 /* Writes a kernel's pieces, on a body of this radius, as a kernel list; 96 doubles are always enough. 9 */
+CAUCHY_MUST_USE
 CauchyPieces cauchy_decompose(CauchyKernel kernel, double radius, double *out, size_t n_out);
 
 /* Writes the pieces of all kernels of a list, in its order. 96 doubles for each kernel are always enough, and
  * spare the fits that count the pieces of a shorter run first.                                       9 */
+CAUCHY_MUST_USE
 CauchyListPieces cauchy_decompose_list(const double *kernels, size_t n_kernels, double radius, double *out, size_t n_out);
 
 /* The density of a kernel list at a point.                                                           9 */
+CAUCHY_MUST_USE
 CauchyValue cauchy_densitize(const double *kernels, size_t n_kernels, CauchyVector point);
 
 /* Solves n equations, n + 1 cells each, the right-hand side last; answers `no`.                  10 11 */
+CAUCHY_MUST_USE
 uint32_t cauchy_solve(size_t n, const double *cells, size_t n_cells, double *answer, size_t n_answer);
 
 /* ---- Meshes --------------------------------------------------------------------------------------- */
@@ -259,43 +285,54 @@ uint32_t cauchy_solve(size_t n, const double *cells, size_t n_cells, double *ans
 /* Whether the mesh is closed, without which a mass inside it means nothing: no face names a corner twice, and
  * each edge of a face, from a corner to the next, occurs once over all faces, its reverse also once. A mesh
  * without faces is closed. It works in local memory, in passes over the faces; answers `no`.   1 2 3 22 */
+CAUCHY_MUST_USE
 uint32_t cauchy_closed(const double *xyz, size_t n_xyz, const uint32_t *faces, size_t n_faces);
 
 /* The integral of (1 + sigma^2 * |x - c|^2)^-1 inside the mesh.                                  1 2 3 */
+CAUCHY_MUST_USE
 CauchyValue cauchy_kernel_volume(const double *xyz, size_t n_xyz, const uint32_t *faces, size_t n_faces,
                                  CauchyVector c, double sigma);
 
 /* The enclosed volume, below 0 where the faces are inside out.                                   1 2 3 */
+CAUCHY_MUST_USE
 CauchyValue cauchy_body_volume(const double *xyz, size_t n_xyz, const uint32_t *faces, size_t n_faces);
 
 /* The centroid of the enclosed volume; zeros where that is tiny or NaN.                          1 2 3 */
+CAUCHY_MUST_USE
 CauchyPoint cauchy_volume_centroid(const double *xyz, size_t n_xyz, const uint32_t *faces, size_t n_faces);
 
 /* The mass of a kernel list inside the mesh, exponents taken as 1.                             1 2 3 9 */
+CAUCHY_MUST_USE
 CauchyValue cauchy_field_mass(const double *xyz, size_t n_xyz, const uint32_t *faces, size_t n_faces,
                               const double *kernels, size_t n_kernels);
 
 /* The report of a body of one density, which is taken as it is given.                            1 2 3 */
+CAUCHY_MUST_USE
 CauchyReport cauchy_homogeneous(double bulk, const double *xyz, size_t n_xyz, const uint32_t *faces, size_t n_faces);
 
 /* ---- The second implementation of the original (its "source" folder): other orders of operations --- */
 
 /* The density of a kernel list at a point.                                                           9 */
+CAUCHY_MUST_USE
 CauchyValue cauchy_source_density_at(const double *kernels, size_t n_kernels, CauchyVector point);
 
 /* The integral of (1 + sigma^2 * |x - c|^2)^-1 inside the mesh.                                  1 2 3 */
+CAUCHY_MUST_USE
 CauchyValue cauchy_source_kernel_volume(const double *xyz, size_t n_xyz, const uint32_t *faces, size_t n_faces,
                                         CauchyVector c, double sigma);
 
 /* The enclosed volume, without its sign.                                                         1 2 3 */
+CAUCHY_MUST_USE
 CauchyValue cauchy_source_enclosed_volume(const double *xyz, size_t n_xyz, const uint32_t *faces, size_t n_faces);
 
 /* Writes a kernel list rescaled to a target mass inside the mesh.                           1 2 3 9 12 */
+CAUCHY_MUST_USE
 CauchyKernels cauchy_source_normalize(const double *xyz, size_t n_xyz, const uint32_t *faces, size_t n_faces,
                                       const double *kernels, size_t n_kernels, double target, double *out, size_t n_out);
 
 /* Writes a kernel list stretched with its mesh and brought to its mass: `mean` density [kg/m^3] times the
  * mesh's volume, or `total` [kg] where `given` is 0.                                        1 2 3 9 12 */
+CAUCHY_MUST_USE
 CauchyKernels cauchy_source_calibrate(const double *xyz, size_t n_xyz, const uint32_t *faces, size_t n_faces,
                                       const double *kernels, size_t n_kernels, double total, double mean, uint32_t given,
                                       double *out, size_t n_out);

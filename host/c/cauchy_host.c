@@ -1,0 +1,143 @@
+/* The host's part of libcauchy, which is NOT PROVED: include/cauchy_host.h tells what each function does. It is
+ * compiled by the Makefile into the installed libraries, or by a program that takes the archive as it is. */
+#include "cauchy_host.h"
+
+#include <string.h>
+#include <xmmintrin.h>
+
+/* The words are those of the Rust crate; host/tests/declarations.py compares them. */
+const char *cauchy_refusal_text(uint32_t no) {
+    switch (no) {
+    case CAUCHY_ACCEPTED: return "accepted";
+    case CAUCHY_RAGGED: return "ragged: a count of coordinates or corners is not a multiple of 3";
+    case CAUCHY_OVERSIZE: return "oversize: more than 1,048,576 vertices or 2,097,152 faces";
+    case CAUCHY_LOOSE_CORNER: return "loose corner: a face names a vertex that is not there";
+    case CAUCHY_SHORT_STORE: return "short store: a run is too short for its mesh";
+    case CAUCHY_UNSOUND: return "unsound: the runs hold no sound store";
+    case CAUCHY_NO_PLACE: return "no place: the places are 0 to 31";
+    case CAUCHY_VACANT: return "vacant: the place is empty";
+    case CAUCHY_UNFINISHED: return "unfinished: work is left that this reading needs";
+    case CAUCHY_SHORT_LIST: return "short list: six floats are needed for each kernel";
+    case CAUCHY_BAD_MATRIX: return "bad matrix: more than 16 equations, or lengths that do not fit";
+    case CAUCHY_FLAT_PIVOT: return "flat pivot: the equations have no usable pivot in some column";
+    case CAUCHY_EXPONENT: return "exponent: some exponent is not 1";
+    case CAUCHY_BAD_TRACK: return "bad track: more than 4,096 points, or lengths that do not fit";
+    case CAUCHY_NOT_CLOSED: return "not closed: an edge does not occur once each way, or a face names a corner twice";
+    case CAUCHY_HOST_FOREIGN: return "not a snapshot of a store";
+    case CAUCHY_HOST_LENGTH: return "damaged: bytes are missing, or there are too many";
+    case CAUCHY_HOST_CHECKSUM: return "damaged: its checksum does not fit its bytes";
+    case CAUCHY_HOST_FLOAT_STATE: return "floating-point state is not the default";
+    case CAUCHY_HOST_SHORT_BYTES: return "short bytes: the snapshot needs more of them";
+    default: return "a number that no refusal has";
+    }
+}
+
+const char *cauchy_version(void) { return CAUCHY_VERSION; }
+
+/* Of MXCSR: subnormal operands as zero, the six masks, the rounding, subnormal results as zero. */
+int cauchy_float_state_default(void) {
+    const unsigned control = 0xffc0, masks = 0x1f80;
+    return (_mm_getcsr() & control) == masks;
+}
+
+/* ---- Snapshots ------------------------------------------------------------------------------------ */
+
+enum { HEAD = 24, CHECKSUM = 8 };
+static const uint8_t magic[8] = {'C', 'A', 'U', 'C', 'H', 'Y', '0', '1'};
+
+static void put_number(uint8_t *at, uint64_t number, int size) {
+    for (int i = 0; i < size; i++) at[i] = (uint8_t)(number >> 8 * i);
+}
+
+static uint64_t get_number(const uint8_t *at, int size) {
+    uint64_t number = 0;
+    for (int i = 0; i < size; i++) number |= (uint64_t)at[i] << 8 * i;
+    return number;
+}
+
+static uint64_t crc_of_byte(uint64_t rest) {
+    for (int bit = 0; bit < 8; bit++) rest = rest & 1 ? rest >> 1 ^ 0xc96c5795d7870f42 : rest >> 1;
+    return rest;
+}
+
+/* The CRC-64/XZ. Its table is made anew in each call, in 2 KiB of the stack, so that there is no state. */
+static uint64_t crc64(const uint8_t *bytes, size_t count) {
+    uint64_t table[256], sum = UINT64_MAX;
+    for (unsigned i = 0; i < 256; i++) table[i] = crc_of_byte(i);
+    for (size_t i = 0; i < count; i++) sum = sum >> 8 ^ table[(sum ^ bytes[i]) & 255];
+    return ~sum;
+}
+
+static CauchySnapshot snapshot(uint32_t no, size_t floats, size_t words) {
+    CauchySnapshot told = {no, 0, 0, 0};
+    if (no != CAUCHY_ACCEPTED) return told;
+    told.bytes = HEAD + 8 * floats + 4 * words + CHECKSUM, told.floats = floats, told.words = words;
+    return told;
+}
+
+/* 4 or 5 where the runs hold no sound store. A density as entered is refused for nothing else. */
+static uint32_t unsound(const double *floats, size_t n_floats, const uint32_t *words, size_t n_words) {
+    const CauchyConvention raw = {CAUCHY_RAW, 0, 0};
+    const CauchyVector origin = {0, 0, 0};
+    return cauchy_store_density(floats, n_floats, words, n_words, raw, origin).no;
+}
+
+/* Whether all that stands past the mesh is what squeezes leave: no word, and the zeros of whole vertices. */
+static int exact(const double *floats, size_t n_floats, const uint32_t *words, size_t n_words) {
+    uint64_t bits, stray = 0;
+    const size_t own = CAUCHY_STORE_FLOATS(words[0]);
+    for (size_t i = own; i < n_floats; i++) memcpy(&bits, floats + i, sizeof bits), stray |= bits;
+    return n_words == CAUCHY_STORE_WORDS(words[1]) && (n_floats - own) % 3 == 0 && stray == 0;
+}
+
+CauchySnapshot cauchy_snapshot_write(const double *floats, size_t n_floats, const uint32_t *words, size_t n_words,
+                                     uint8_t *bytes, size_t n_bytes) {
+    const uint32_t no = unsound(floats, n_floats, words, n_words);
+    if (no != CAUCHY_ACCEPTED) return snapshot(no, 0, 0);
+    const CauchySnapshot told = snapshot(0, CAUCHY_STORE_FLOATS(words[0]), CAUCHY_STORE_WORDS(words[1]));
+    if (n_bytes < told.bytes) return snapshot(CAUCHY_HOST_SHORT_BYTES, 0, 0);
+    uint8_t *at = bytes + HEAD;
+    uint64_t bits;
+    memcpy(bytes, magic, sizeof magic);
+    put_number(bytes + 8, told.floats, 8);
+    put_number(bytes + 16, told.words, 8);
+    for (size_t i = 0; i < told.floats; i++, at += 8) memcpy(&bits, floats + i, 8), put_number(at, bits, 8);
+    for (size_t i = 0; i < told.words; i++, at += 4) put_number(at, words[i], 4);
+    put_number(at, crc64(bytes, told.bytes - CHECKSUM), CHECKSUM);
+    return told;
+}
+
+CauchySnapshot cauchy_snapshot_look(const uint8_t *bytes, size_t n_bytes) {
+    if (n_bytes < sizeof magic || memcmp(bytes, magic, sizeof magic) != 0) return snapshot(CAUCHY_HOST_FOREIGN, 0, 0);
+    if (n_bytes < HEAD + CHECKSUM) return snapshot(CAUCHY_HOST_LENGTH, 0, 0);
+    const size_t body = n_bytes - HEAD - CHECKSUM;
+    const uint64_t floats = get_number(bytes + 8, 8), words = get_number(bytes + 16, 8);
+    /* each product is at most the body, so nothing overflows */
+    const int fits = floats <= body / 8 && words <= body / 4 && 8 * floats + 4 * words == body;
+    if (!fits) return snapshot(CAUCHY_HOST_LENGTH, 0, 0);
+    const size_t covered = n_bytes - CHECKSUM;
+    if (crc64(bytes, covered) != get_number(bytes + covered, CHECKSUM)) return snapshot(CAUCHY_HOST_CHECKSUM, 0, 0);
+    return snapshot(CAUCHY_ACCEPTED, floats, words);
+}
+
+static CauchyOpened not_opened(uint32_t no) {
+    const CauchyOpened told = {no, 0, 0};
+    return told;
+}
+
+CauchyOpened cauchy_snapshot_read(double *floats, size_t n_floats, uint32_t *words, size_t n_words,
+                                  const uint8_t *bytes, size_t n_bytes) {
+    if (!cauchy_float_state_default()) return not_opened(CAUCHY_HOST_FLOAT_STATE);
+    const CauchySnapshot whole = cauchy_snapshot_look(bytes, n_bytes);
+    if (whole.no != CAUCHY_ACCEPTED) return not_opened(whole.no);
+    if (n_floats < whole.floats || n_words < whole.words) return not_opened(CAUCHY_SHORT_STORE);
+    const uint8_t *at = bytes + HEAD;
+    uint64_t bits;
+    for (size_t i = 0; i < whole.floats; i++, at += 8) bits = get_number(at, 8), memcpy(floats + i, &bits, 8);
+    for (size_t i = 0; i < whole.words; i++, at += 4) words[i] = (uint32_t)get_number(at, 4);
+    const uint32_t no = unsound(floats, whole.floats, words, whole.words);
+    if (no != CAUCHY_ACCEPTED) return not_opened(no);
+    if (!exact(floats, whole.floats, words, whole.words)) return not_opened(CAUCHY_UNSOUND);
+    const CauchyOpened told = {CAUCHY_ACCEPTED, words[0], words[1]};
+    return told;
+}

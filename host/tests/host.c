@@ -1,0 +1,249 @@
+/* Tests c/cauchy_host.c, the part of the C interface that is not proved. Compiled as C11 and as C++17.
+ *   host              the checks
+ *   host --valgrind   fewer damaged bytes, and the floating-point state stays: valgrind does not follow its changes
+ *   host IN OUT       takes the snapshot IN, which another host wrote, writes it again and finds the same bytes;
+ *                     then does its work and writes the snapshot OUT */
+#include "cauchy_host.h"
+
+#include <math.h>
+#include <stdio.h>
+#include <stdlib.h>
+#include <string.h>
+#include <xmmintrin.h>
+
+static int checks;
+
+#define CHECK(condition)                                                        \
+    do {                                                                        \
+        checks++;                                                               \
+        if (!(condition)) {                                                     \
+            fprintf(stderr, "%s:%d: not so: %s\n", __FILE__, __LINE__, #condition); \
+            exit(1);                                                            \
+        }                                                                       \
+    } while (0)
+
+/* ---- A store of 5 vertices, one of them in no face, with two kernels and some work done -------------- */
+
+enum { V = 5, F = 4, N_XYZ = 3 * V, N_FACES = 3 * F, N_FLOATS = 1761 + N_XYZ, N_WORDS = 98 + N_FACES, SPARE = 2 };
+enum { BYTES = 32 + 8 * N_FLOATS + 4 * N_WORDS };
+
+static const double xyz[N_XYZ] = {-1, -2, -3, 7, 1, 0.5, 11, 12, 13, 0.25, 8, 2, 1.5, 3, 9};
+static const uint32_t faces[N_FACES] = {0, 3, 1, 0, 1, 4, 0, 4, 3, 1, 3, 4};
+
+static double floats[N_FLOATS + SPARE], again_floats[N_FLOATS + SPARE];
+static uint32_t words[N_WORDS + SPARE], again_words[N_WORDS + SPARE];
+static uint8_t bytes[BYTES + 16], again[BYTES + 16];
+
+static void make_store(void) {
+    CauchyKernel flat = {{1.25, 2.5, 3.75}, 0.375, 1100, 1}, steep = {{-0.5, 0.75, 1.5}, 0.625, 300, 2};
+    for (int i = 0; i < N_FLOATS + SPARE; i++) floats[i] = 500 + i;
+    for (int i = 0; i < N_WORDS + SPARE; i++) words[i] = 600 + (uint32_t)i;
+    const size_t n = N_FLOATS + SPARE, m = N_WORDS + SPARE;
+    CHECK(cauchy_store_open(floats, n, words, m, 17.5, xyz, N_XYZ, faces, N_FACES).no == 0);
+    CHECK(cauchy_store_put(floats, n, words, m, 3, flat).no == 0);
+    CHECK(cauchy_store_put(floats, n, words, m, 31, steep).no == 0);
+    CHECK(cauchy_store_advance(floats, n, words, m, 6).left == 14 * F - 6);
+}
+
+static void fill_again(void) {
+    for (int i = 0; i < N_FLOATS + SPARE; i++) again_floats[i] = 700 + i;
+    for (int i = 0; i < N_WORDS + SPARE; i++) again_words[i] = 800 + (uint32_t)i;
+}
+
+static int again_untouched(void) {
+    for (int i = 0; i < N_FLOATS + SPARE; i++) if (again_floats[i] != 700 + i) return 0;
+    for (int i = 0; i < N_WORDS + SPARE; i++) if (again_words[i] != 800 + (uint32_t)i) return 0;
+    return 1;
+}
+
+static CauchyOpened read_again(const uint8_t *from, size_t count) {
+    return cauchy_snapshot_read(again_floats, N_FLOATS + SPARE, again_words, N_WORDS + SPARE, from, count);
+}
+
+static int refused(CauchyOpened told, uint32_t no) { return told.no == no && told.verts == 0 && told.faces == 0; }
+
+/* ---- Texts, version, floating-point state ----------------------------------------------------------- */
+
+static void texts(void) {
+    const char *unknown = cauchy_refusal_text(999);
+    CHECK(!strcmp(cauchy_refusal_text(0), "accepted") && !strcmp(unknown, cauchy_refusal_text(UINT32_MAX)));
+    CHECK(!strcmp(cauchy_refusal_text(CAUCHY_LOOSE_CORNER), "loose corner: a face names a vertex that is not there"));
+    for (uint32_t no = CAUCHY_HOST_FOREIGN; no <= CAUCHY_HOST_SHORT_BYTES; no++)
+        CHECK(strcmp(cauchy_refusal_text(no), unknown));
+    CHECK(!strcmp(cauchy_version(), CAUCHY_VERSION));
+}
+
+/* every bit of control is judged, and no bit of status */
+static void float_state(void) {
+    const unsigned before = _mm_getcsr();
+    for (int bit = 0; bit < 16; bit++) {
+        _mm_setcsr(0x1f80u ^ 1u << bit);
+        const int told = cauchy_float_state_default();
+        const CauchyOpened opened = read_again(bytes, BYTES);
+        _mm_setcsr(before);
+        CHECK(told == (bit < 6) && opened.no == (bit < 6 ? 0u : (uint32_t)CAUCHY_HOST_FLOAT_STATE));
+    }
+    CHECK(cauchy_float_state_default() == 1);
+}
+
+/* ---- Snapshots ---------------------------------------------------------------------------------------- */
+
+static void writing(void) {
+    memset(bytes, 0xaa, sizeof bytes);
+    memset(again, 0xaa, sizeof again);
+    CauchySnapshot s = cauchy_snapshot_write(floats, N_FLOATS + SPARE, words, N_WORDS + SPARE, bytes, BYTES - 1);
+    CHECK(s.no == CAUCHY_HOST_SHORT_BYTES && s.bytes == 0 && s.floats == 0 && s.words == 0);
+    s = cauchy_snapshot_write(floats, N_FLOATS - 1, words, N_WORDS, bytes, BYTES);
+    CHECK(s.no == CAUCHY_SHORT_STORE && s.bytes == 0 && s.floats == 0 && s.words == 0);
+    CHECK(cauchy_snapshot_write(NULL, 0, NULL, 0, bytes, BYTES).no == CAUCHY_SHORT_STORE);
+    words[98] = V;
+    s = cauchy_snapshot_write(floats, N_FLOATS, words, N_WORDS, bytes, BYTES);
+    CHECK(s.no == CAUCHY_UNSOUND && s.bytes == 0 && s.floats == 0 && s.words == 0);
+    words[98] = faces[0];
+    CHECK(!memcmp(bytes, again, sizeof bytes));
+
+    /* what stands in longer runs past the store is left out */
+    CHECK(CAUCHY_SNAPSHOT_BYTES(V, F) == BYTES);
+    s = cauchy_snapshot_write(floats, N_FLOATS + SPARE, words, N_WORDS + SPARE, bytes, sizeof bytes);
+    CHECK(s.no == 0 && s.bytes == BYTES && s.floats == N_FLOATS && s.words == N_WORDS);
+    CHECK(cauchy_snapshot_write(floats, N_FLOATS, words, N_WORDS, again, BYTES).bytes == BYTES);
+    CHECK(!memcmp(bytes, again, sizeof bytes) && bytes[BYTES] == 0xaa && !memcmp(bytes, "CAUCHY01", 8));
+    CHECK(bytes[8] == N_FLOATS % 256 && bytes[9] == N_FLOATS / 256 && bytes[16] == N_WORDS);
+    CHECK(!memcmp(bytes + 24, floats, 8 * N_FLOATS) && !memcmp(bytes + 24 + 8 * N_FLOATS, words, 4 * N_WORDS));
+}
+
+static void reading(void) {
+    fill_again();
+    CauchyOpened short_floats = cauchy_snapshot_read(again_floats, N_FLOATS - 1, again_words, N_WORDS, bytes, BYTES);
+    CauchyOpened short_words = cauchy_snapshot_read(again_floats, N_FLOATS, again_words, N_WORDS - 1, bytes, BYTES);
+    CHECK(refused(short_floats, CAUCHY_SHORT_STORE) && refused(short_words, CAUCHY_SHORT_STORE) && again_untouched());
+    CauchySnapshot s = cauchy_snapshot_look(bytes, BYTES);
+    CHECK(s.no == 0 && s.bytes == BYTES && s.floats == N_FLOATS && s.words == N_WORDS);
+    CauchyOpened o = read_again(bytes, BYTES);
+    CHECK(o.no == 0 && o.verts == V && o.faces == F);
+    CHECK(!memcmp(again_floats, floats, 8 * N_FLOATS) && !memcmp(again_words, words, 4 * N_WORDS));
+    CHECK(again_floats[N_FLOATS] == 700 + N_FLOATS && again_words[N_WORDS] == 800 + N_WORDS);
+
+    /* the store goes on as if it had never stopped */
+    CHECK(cauchy_store_advance(again_floats, N_FLOATS, again_words, N_WORDS, UINT64_MAX).done == 14 * F - 6);
+    CHECK(cauchy_store_advance(floats, N_FLOATS, words, N_WORDS, UINT64_MAX).done == 14 * F - 6);
+    CHECK(!memcmp(again_floats, floats, 8 * N_FLOATS) && !memcmp(again_words, words, 4 * N_WORDS));
+}
+
+/* every damaged byte, or every 31st, every cut and a longer snapshot */
+static void damage(int stride) {
+    fill_again();
+    for (int i = 0; i < BYTES; i += stride) {
+        memcpy(again, bytes, BYTES);
+        again[i] ^= (uint8_t)(1 << i % 8);
+        const uint32_t no = i < 8 ? CAUCHY_HOST_FOREIGN : i < 24 ? CAUCHY_HOST_LENGTH : CAUCHY_HOST_CHECKSUM;
+        CHECK(refused(read_again(again, BYTES), no));
+    }
+    memcpy(again, bytes, BYTES);
+    for (int i = 0; i < 8; i++) CHECK(refused(read_again(again, i), CAUCHY_HOST_FOREIGN));
+    for (int i = 8; i < BYTES; i++) CHECK(refused(read_again(again, i), CAUCHY_HOST_LENGTH));
+    CHECK(refused(read_again(again, BYTES + 1), CAUCHY_HOST_LENGTH));
+    CHECK(refused(read_again(NULL, 0), CAUCHY_HOST_FOREIGN) && again_untouched());
+}
+
+static uint64_t crc_bit_by_bit(const uint8_t *from, size_t count) {
+    uint64_t sum = UINT64_MAX;
+    for (size_t i = 0; i < 8 * count; i++) {
+        const uint64_t low = (sum ^ (uint64_t)(from[i / 8] >> i % 8)) & 1;
+        sum = low ? sum >> 1 ^ 0xc96c5795d7870f42 : sum >> 1;
+    }
+    return ~sum;
+}
+
+/* A snapshot of any runs, with a checksum that fits. */
+static size_t forge(const double *f, size_t n_f, const uint32_t *w, size_t n_w) {
+    const uint64_t counts[2] = {n_f, n_w};
+    const size_t covered = 24 + 8 * n_f + 4 * n_w;
+    memcpy(again, "CAUCHY01", 8), memcpy(again + 8, counts, 16);
+    memcpy(again + 24, f, 8 * n_f), memcpy(again + 24 + 8 * n_f, w, 4 * n_w);
+    const uint64_t sum = crc_bit_by_bit(again, covered);
+    memcpy(again + covered, &sum, 8);
+    return covered + 8;
+}
+
+/* the cases of the Rust crate's own test, with the same answers */
+static void forgeries(void) {
+    static double f[1764];
+    static uint32_t w[101];
+    CHECK(crc_bit_by_bit((const uint8_t *)"123456789", 9) == 0x995dc9bbdf1939fa);
+    CHECK(refused(read_again(again, forge(f, 0, w, 0)), CAUCHY_SHORT_STORE));
+    CHECK(refused(read_again(again, forge(f, 1760, w, 98)), CAUCHY_SHORT_STORE));
+    CHECK(refused(read_again(again, forge(f, 1762, w, 98)), CAUCHY_UNSOUND));
+    CHECK(refused(read_again(again, forge(f, 1761, w, 101)), CAUCHY_UNSOUND));
+    const double strays[3] = {1, -0.0, NAN};
+    for (int i = 0; i < 3; i++) {
+        f[1763] = strays[i];
+        CHECK(refused(read_again(again, forge(f, 1764, w, 98)), CAUCHY_UNSOUND));
+    }
+    f[1763] = 0;
+    CHECK(read_again(again, forge(f, 1764, w, 98)).no == 0 && read_again(again, forge(f, 1761, w, 98)).no == 0);
+    w[2] = 18;
+    CHECK(refused(read_again(again, forge(f, 1761, w, 98)), CAUCHY_UNSOUND));
+    const uint64_t counts[3] = {UINT64_MAX, (uint64_t)1 << 61, (uint64_t)1 << 62};
+    for (int i = 0; i < 3; i++) {
+        memcpy(again + 8, &counts[i], 8), memcpy(again + 16, &counts[i], 8);
+        CHECK(refused(read_again(again, 32), CAUCHY_HOST_LENGTH));
+    }
+}
+
+/* after a squeeze the snapshot is shorter, and what squeezes freed elsewhere is taken too */
+static void squeezed(void) {
+    CHECK(cauchy_store_squeeze(floats, N_FLOATS, words, N_WORDS).freed == 3);
+    CauchySnapshot s = cauchy_snapshot_write(floats, N_FLOATS, words, N_WORDS, bytes, sizeof bytes);
+    CHECK(s.no == 0 && s.bytes == CAUCHY_SNAPSHOT_BYTES(V - 1, F) && s.floats == N_FLOATS - 3 && s.words == N_WORDS);
+    CauchyOpened o = read_again(bytes, s.bytes);
+    CHECK(o.no == 0 && o.verts == V - 1 && o.faces == F && !memcmp(again_floats, floats, 8 * (N_FLOATS - 3)));
+    o = read_again(again, forge(floats, N_FLOATS, words, N_WORDS));
+    CHECK(o.no == 0 && o.verts == V - 1 && o.faces == F && !memcmp(again_floats, floats, 8 * N_FLOATS));
+}
+
+/* ---- A snapshot of another host ----------------------------------------------------------------------- */
+
+static uint8_t *room(size_t count) {
+    uint8_t *at = (uint8_t *)calloc(count + 1, 1);
+    CHECK(at != NULL);
+    return at;
+}
+
+static void exchange(const char *in, const char *out) {
+    const size_t most = 1 << 24;
+    uint8_t *had = room(most);
+    FILE *file = fopen(in, "rb");
+    CHECK(file != NULL);
+    const size_t count = fread(had, 1, most, file);
+    CHECK(count > 0 && count < most && fclose(file) == 0);
+    const CauchySnapshot s = cauchy_snapshot_look(had, count);
+    CHECK(s.no == 0 && s.bytes == count);
+    double *f = (double *)room(8 * s.floats);
+    uint32_t *w = (uint32_t *)room(4 * s.words);
+    CHECK(cauchy_snapshot_read(f, s.floats, w, s.words, had, count).no == 0);
+    uint8_t *mine = room(count);
+    CHECK(cauchy_snapshot_write(f, s.floats, w, s.words, mine, count).bytes == count && !memcmp(mine, had, count));
+
+    const CauchySteps steps = cauchy_store_advance(f, s.floats, w, s.words, UINT64_MAX);
+    CHECK(steps.no == 0 && steps.done > 0 && steps.left == 0);
+    CHECK(cauchy_snapshot_write(f, s.floats, w, s.words, mine, count).bytes == count);
+    file = fopen(out, "wb");
+    CHECK(file != NULL && fwrite(mine, 1, count, file) == count && fclose(file) == 0);
+    free(had), free(f), free(w), free(mine);
+}
+
+int main(int count, char **arguments) {
+    if (count == 3) return exchange(arguments[1], arguments[2]), 0;
+    const int whole = count == 1;
+    texts();
+    make_store();
+    writing();
+    if (whole) float_state();
+    reading();
+    damage(whole ? 1 : 31);
+    forgeries();
+    squeezed();
+    printf("%d checks\n", checks);
+    return 0;
+}
