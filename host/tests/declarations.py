@@ -1,0 +1,256 @@
+"""Holds the declarations of the C interface to each other: include/cauchy.h, src/sys.rs with the types that the crate
+shows, and the exported functions of crates/cauchy. Compared are, for every function, the names, types and order of
+its arguments and its answer; for every struct, the names, types and order of its fields; the numbers of the
+refusals, and their words in Rust and C. The first difference is told. Then each of EDITS is made to the texts in
+memory and must be told too. Only the standard library is needed."""
+import re
+import sys
+from pathlib import Path
+
+# Rust's and Rattle's names of the types in C; a type of the crate is the C type with `Cauchy` before it.
+TYPES = {"f64": "double", "u32": "uint32_t", "u64": "uint64_t", "usize": "size_t", "u8": "uint8_t"}
+RATTLE_TYPES = {"V3": "Vector"}
+# Arguments that have a shorter name in Rattle.
+RATTLE_NAMES = {"k": "kernel", "default": "default_alpha"}
+C_TYPE = r"(?:const )?\w+ ?\*?"
+
+
+class Difference(Exception):
+    pass
+
+
+def need(condition, *words):
+    if not condition:
+        raise Difference(" ".join(str(word) for word in words))
+
+
+def code(text):
+    """The text without comments, white space squeezed to single spaces."""
+    text = re.sub(r"/\*.*?\*/", " ", text, flags=re.S)
+    return " ".join(re.sub(r"//[^\n]*", " ", text).split())
+
+
+# ---- C ------------------------------------------------------------------------------------------------------
+
+
+def c_variable(text):
+    """`const double *xyz` or `double c[3]` as (name, type)."""
+    found = re.fullmatch(r"(%s) ?(\w+)((?:\[\d+\])?)" % C_TYPE, text.strip())
+    need(found, "not understood in C:", text)
+    kind, name, array = found.groups()
+    return name, kind.replace(" *", "*").strip() + array
+
+
+def c_fields(body):
+    fields = []
+    for line in body.split(";")[:-1]:
+        first, *others = line.split(",")
+        fields.append(c_variable(first))
+        fields += [(other.strip(), fields[-1][1]) for other in others]
+    return fields
+
+
+def header(text):
+    """Functions, structs, enums, and the functions whose answer must be used. Nothing may be left over."""
+    text = re.sub(r"#(?:[^\n]*\\\n)*[^\n]*", "", re.sub(r"/\*.*?\*/", "", text, flags=re.S))
+    text = code(re.sub(r'extern "C" \{(.*)\}', r"\1", text, flags=re.S))
+    functions, structs, enums, must_use = {}, {}, [], set()
+
+    def struct(found):
+        need(found[1] == found[3], "two names of a struct:", found[1], found[3])
+        structs[found[1]] = c_fields(found[2])
+        return ""
+
+    def enum(found):
+        items = [item.split("=") for item in found[1].split(",")]
+        enums.append({name.strip(): int(number) for name, number in items})
+        return ""
+
+    def function(found):
+        marked, answer, name, arguments = found.groups()
+        need(name not in functions, "declared twice:", name)
+        arguments = [] if arguments == "void" else [c_variable(one) for one in arguments.split(",")]
+        functions[name] = (arguments, answer.replace(" *", "*").strip())
+        if marked:
+            must_use.add(name)
+        return ""
+
+    text = re.sub(r"typedef struct (\w+) \{(.*?)\} (\w+);", struct, text)
+    text = re.sub(r"enum \{(.*?)\};", enum, text)
+    text = re.sub(r"(CAUCHY_MUST_USE )?(%s) ?(cauchy_\w+)\((.*?)\);" % C_TYPE, function, text)
+    need(not text.strip(), "not understood in the header:", text.strip()[:80])
+    return functions, structs, enums, must_use
+
+
+# ---- Rust and Rattle ------------------------------------------------------------------------------------------
+
+
+def c_type(kind):
+    """A type of Rust as C has it."""
+    pointer = re.fullmatch(r"\*(const|mut) (\w+)", kind)
+    if pointer:
+        return ("const " if pointer[1] == "const" else "") + c_type(pointer[2]) + "*"
+    array = re.fullmatch(r"\[(\w+); (\d+)\]", kind)
+    if array:
+        return f"{c_type(array[1])}[{array[2]}]"
+    kind = RATTLE_TYPES.get(kind, kind)
+    return TYPES.get(kind) or "Cauchy" + re.sub("^Cauchy", "", kind)
+
+
+def rust_variables(text):
+    pairs = [one.split(":", 1) for one in text.split(",") if one.strip()]
+    return [(re.sub("^pub ", "", name.strip()), kind.strip()) for name, kind in pairs]
+
+
+def rust_structs(text):
+    """The structs laid out as in C, by their names in C."""
+    found = re.findall(r"#\[repr\(C\)\] (?:#\[derive\([^]]*\)\] )?pub struct (\w+) \{(.*?)\}", code(text))
+    return {c_type(name): [(field, c_type(kind)) for field, kind in rust_variables(body)] for name, body in found}
+
+
+def rust_functions(text):
+    block = re.search(r'unsafe extern "C" \{(.*)\}', code(text))[1]
+    functions = {}
+    for name, arguments, answer in re.findall(r"pub (?:safe )?fn (\w+)\((.*?)\) -> (\w+);", block):
+        functions[name] = ([(one, c_type(kind)) for one, kind in rust_variables(arguments)], c_type(answer))
+    need(len(functions) == block.count(" fn "), "sys.rs: a function that is not understood")
+    return functions
+
+
+def rattle_arguments(text):
+    """A run `&[T]` is a pointer and a count in C."""
+    for name, kind in rust_variables(text):
+        name = RATTLE_NAMES.get(name, name)
+        run = re.fullmatch(r"&(mut )?\[(\w+)\]", kind)
+        if run:
+            yield name, ("" if run[1] else "const ") + c_type(run[2]) + "*"
+            yield "n_" + name, "size_t"
+        else:
+            yield name, c_type(kind)
+
+
+def rattle_functions(text):
+    found = re.findall(r'pub extern "C" fn (\w+)\((.*?)\) -> (\w+) ensures', code(text))
+    need(len(found) == code(text).count('extern "C"'), "crates/cauchy: an exported function that is not understood")
+    return {name: (list(rattle_arguments(arguments)), c_type(answer)) for name, arguments, answer in found}
+
+
+# ---- The comparison ---------------------------------------------------------------------------------------------
+
+
+def same_names(what, ours, there, theirs):
+    for name in sorted(set(ours) | set(theirs)):
+        need(name in theirs, f"{what} {name} is in cauchy.h and not in {there}")
+        need(name in ours, f"{what} {name} is in {there} and not in cauchy.h")
+
+
+def same_list(what, ours, there, theirs):
+    for at, (one, other) in enumerate(zip(ours, theirs), 1):
+        need(one == other, f"{what} {at}: cauchy.h has {one[1]} {one[0]}, {there} {other[1]} {other[0]}")
+    need(len(ours) == len(theirs), f"{what}s: cauchy.h has {len(ours)}, {there} {len(theirs)}")
+
+
+def same_functions(ours, there, theirs):
+    same_names("function", ours, there, theirs)
+    for name, (arguments, answer) in ours.items():
+        same_list(f"{name}, argument", arguments, there, theirs[name][0])
+        need(answer == theirs[name][1], f"{name}, answer: cauchy.h has {answer}, {there} {theirs[name][1]}")
+
+
+def same_structs(ours, there, theirs):
+    same_names("struct", ours, there, theirs)
+    for name, fields in ours.items():
+        same_list(f"{name}, field", fields, there, theirs[name])
+
+
+def same_refusals(ours, of_host, rust, words_in_c):
+    """The numbers of cauchy.h and refusal.rs, and that C and Rust say the same words."""
+    numbers = dict(re.findall(r"^    (\w+) = (\d+),$", rust, flags=re.M))
+    names = {"CAUCHY_" + re.sub(r"(?<=[a-z])(?=[A-Z])", "_", name).upper(): name for name in numbers}
+    said = dict(re.findall(r'Refusal::(\w+) => (?:\{\s*)?"([^"]*)"', rust))
+    said_in_c = dict(re.findall(r'case (\w+): return "([^"]*)";', words_in_c))
+    same_names("refusal", set(ours) - {"CAUCHY_ACCEPTED"}, "refusal.rs", names)
+    same_names("refusal", {**ours, **of_host}, "cauchy_host.c", said_in_c)
+    for name, rust_name in names.items():
+        number, words = int(numbers[rust_name]), said[rust_name]
+        need(ours[name] == number, f"{name}: cauchy.h has {ours[name]}, refusal.rs {number}")
+        need(words == said_in_c[name], f"{name}: refusal.rs says '{words}', cauchy_host.c '{said_in_c[name]}'")
+
+
+def may_refuse(answer, structs):
+    return answer == "uint32_t" or (answer in structs and structs[answer][0] == ("no", "uint32_t"))
+
+
+def texts(root):
+    """All texts that declare something, by their names."""
+    host = ["include/cauchy.h", "include/cauchy_host.h", "c/cauchy_host.c"]
+    host += [f"src/{name}.rs" for name in ("sys", "kernel", "report", "refusal")]
+    paths = [root / "host" / name for name in host] + sorted((root / "crates/cauchy/src").glob("*.rt"))
+    others = ("kernel/src/kernel.rt", "mesh/src/vectors.rt", "density/src/report.rt")
+    paths += [root / "crates" / name for name in others]
+    return {path.relative_to(root).as_posix(): path.read_text(encoding="utf-8") for path in paths}
+
+
+def compare(has):
+    functions, structs, enums, must_use = header(has["host/include/cauchy.h"])
+    host_functions, _, host_enums, host_must_use = header(has["host/include/cauchy_host.h"])
+    rust = "".join(has[f"host/src/{name}.rs"] for name in ("sys", "kernel", "report"))
+    rattle = "\n".join(text for name, text in has.items() if name.endswith(".rt"))
+    same_functions(functions, "sys.rs", rust_functions(has["host/src/sys.rs"]))
+    same_structs(structs, "the crate", rust_structs(rust))
+    same_functions(functions, "crates/cauchy", rattle_functions(rattle))
+    same_structs(structs, "crates/cauchy", rust_structs(rattle))
+    (refusals,) = [names for names in enums if "CAUCHY_ACCEPTED" in names]
+    same_refusals(refusals, host_enums[0], has["host/src/refusal.rs"], has["host/c/cauchy_host.c"])
+    for name, (_, answer) in functions.items():
+        marked = name in must_use
+        need(marked == may_refuse(answer, structs), f"{name}: CAUCHY_MUST_USE goes with an answer that may refuse")
+    for name, (_, answer) in host_functions.items():
+        need(name in host_must_use or "char" in answer, f"{name}: CAUCHY_MUST_USE is missing")
+    return len(functions), len(structs)
+
+
+# Mistakes that must be told: the file, a text in it, what it becomes, and how the difference begins.
+EDITS = [
+    ("host/src/sys.rs", "place: u32,\n        w: f64,",
+     "w: f64,\n        place: u32,", "cauchy_store_reweigh, argument 5"),
+    ("host/src/sys.rs", "total: f64,\n        mean: f64,",
+     "mean: f64,\n        total: f64,", "cauchy_source_calibrate, argument 7"),
+    ("host/src/sys.rs", "budget: u64", "budget: u32", "cauchy_store_advance, argument 5"),
+    ("host/src/sys.rs", "points: *const f64", "points: *mut f64", "cauchy_store_track, argument 6"),
+    ("host/src/sys.rs", "n_out: usize,\n    ) -> Listed", "n_out: usize,\n    ) -> Track", "cauchy_store_list, answer"),
+    ("host/src/sys.rs", "    pub safe fn cauchy_ten(y: f64) -> f64;\n", "", "function cauchy_ten"),
+    ("host/src/sys.rs", "pub done: u64,\n    pub left: u64,",
+     "pub left: u64,\n    pub done: u64,", "CauchySteps, field 2"),
+    ("host/src/sys.rs", "pub freed: u32", "pub freed: u64", "CauchySqueezed, field 2"),
+    ("host/include/cauchy.h", "double sigma, w, alpha;", "double w, sigma, alpha;", "CauchyKernel, field 2"),
+    ("host/include/cauchy.h", "double radius, double *out",
+     "double *out, double radius", "cauchy_decompose, argument 2"),
+    ("host/include/cauchy.h", "CAUCHY_VACANT = 7", "CAUCHY_VACANT = 13", "CAUCHY_VACANT"),
+    ("host/include/cauchy.h", "CAUCHY_MUST_USE\nCauchyTrack", "CauchyTrack", "cauchy_store_track: CAUCHY_MUST_USE"),
+    ("host/c/cauchy_host.c", "vacant: the place", "vacant: a place", "CAUCHY_VACANT"),
+    ("crates/cauchy/src/stores.rt", "pub verts: u32,\n    pub faces: u32,",
+     "pub faces: u32,\n    pub verts: u32,", "CauchyOpened, field 2"),
+    ("crates/cauchy/src/volumes.rt", "c: V3, sigma: f64", "sigma: f64, c: V3", "cauchy_kernel_volume, argument 5"),
+]
+
+
+def each_edit_is_told(has):
+    for name, old, new, begins in EDITS:
+        need(old in has[name], f"{name} has '{old}' no more: choose another edit")
+        try:
+            compare({**has, name: has[name].replace(old, new, 1)})
+        except Difference as told:
+            need(str(told).startswith(begins), f"{name}, '{old}' become '{new}', was told as: {told}")
+        else:
+            raise Difference(f"{name}: '{old}' may become '{new}', and nothing is told")
+
+
+if __name__ == "__main__":
+    has = texts(Path(__file__).resolve().parents[2])
+    try:
+        counts = compare(has)
+        each_edit_is_told(has)
+    except Difference as difference:
+        sys.exit(f"declarations: {difference}")
+    print("declarations: %d functions and %d structs are the same in the header, in Rust and in the library" % counts)
