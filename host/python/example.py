@@ -2,6 +2,7 @@
 
     python3 host/python/example.py [TRACK.csv]
 
+It runs with the library in CAUCHY_SO, in the repository's target/staticlib or in an installed wheel.
 With a table that the program `cauchy` wrote, every density is compared with it, bit for bit.
 """
 import csv
@@ -39,13 +40,14 @@ def put_kernels(store):
 def main():
     store = open_store()
     put_kernels(store)
-    while store.advance(5000)[1] > 0:
-        pass
+    for done, left in store.work(5000):
+        if sys.stderr.isatty():
+            print(f"{done} of {done + left} steps", end="\r", file=sys.stderr)
     by_mass = cauchy.mass(4.5e11)
     report = store.report(by_mass)
     print(f"field mass {report.raw_mass:.6g} kg as entered, {report.applied_mass:.6g} kg by the convention mass")
     track = [[float(x) * 1000 for x in words] for words in rows("track.txt")]
-    densities = list(store.track(by_mass, track))
+    densities = store.density(by_mass, track).tolist()
     print(f"{len(track)} points, density {min(densities):.6g} to {max(densities):.6g} kg/m³")
     if len(sys.argv) > 1:
         with open(sys.argv[1], newline="") as table:

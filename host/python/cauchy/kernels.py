@@ -1,0 +1,79 @@
+"""Kernels without a store, and equations."""
+from array import array
+from typing import List, Optional
+
+from . import arrays
+from .library import CauchyFileKernel, MAX_PIECES, ask, call
+from .refusals import BadMatrix
+from .values import Kernel, KernelList, Pieces, answered_kernel, crossing_kernel, kernel_run, listed, vector
+
+
+def kernel_from_file(
+    c: arrays.Items, sigma: float, w: float, alpha: Optional[float] = None, default: float = 1.0
+) -> Kernel:
+    """A kernel of a file, in kilometres, as one in metres. An exponent that is None or not above 0 becomes the
+    default.
+
+    >>> kernel_from_file((1, 2, 3), 4, 500, None, 1.5)
+    Kernel(c=(1000.0, 2000.0, 3000.0), sigma=0.004, w=500.0, alpha=1.5)
+    """
+    centre = arrays.point(c, "the centre c")
+    numbers = arrays.number(sigma, "sigma"), arrays.number(w, "w")
+    exponent = 0.0 if alpha is None else arrays.number(alpha, "alpha")
+    given = CauchyFileKernel(centre, *numbers, exponent, alpha is not None)
+    return answered_kernel(ask("kernel_from_file", given, arrays.number(default, "default")))
+
+
+def decompose(kernel: Kernel, radius: float) -> Pieces:
+    """The pieces of a kernel on a body of this radius, and the fit's greatest error.
+
+    >>> pieces, error = decompose(Kernel((0, 0, 0), 0.01, 2, 2), 500)
+    >>> len(pieces), error < 0.01
+    (13, True)
+    """
+    out = array("d", [0.0]) * (MAX_PIECES * 6)
+    size = arrays.number(radius, "radius")
+    answer = call("decompose", crossing_kernel(kernel), size, *arrays.written(out).lent())
+    return Pieces(listed(out, answer.pieces), answer.error)
+
+
+def decompose_list(kernels: KernelList, radius: float) -> Pieces:
+    """The pieces of all kernels, in their order, and the greatest error of a fit.
+
+    >>> pieces, error = decompose_list([Kernel((0, 0, 0), 0.01, 2, 1), Kernel((0, 0, 0), 0.01, 2, 2)], 500)
+    >>> len(pieces), pieces[0], error < 0.01
+    (14, Kernel(c=(0.0, 0.0, 0.0), sigma=0.01, w=2.0, alpha=1.0), True)
+    """
+    run = kernel_run(kernels)
+    out = array("d", [0.0]) * (MAX_PIECES * run.count)
+    size = arrays.number(radius, "radius")
+    answer = call("decompose_list", *run.lent(), size, *arrays.written(out).lent())
+    return Pieces(listed(out, answer.pieces), answer.error)
+
+
+def densitize(kernels: KernelList, point: arrays.Items) -> float:
+    """The density of kernels at a point.
+
+    >>> densitize([Kernel((0, 0, 0), 1, 2, 1)], (1, 0, 0))
+    1.0
+    """
+    return float(call("densitize", *kernel_run(kernels).lent(), vector(point, "point")).value)
+
+
+def solve(n: int, cells: arrays.Items) -> List[float]:
+    """The answer of n equations, at most 16, with n + 1 cells each, the right-hand side last; the cells are flat or
+    in rows of n + 1.
+
+    >>> solve(2, [1, 1, 3, 1, 2, 5]), solve(2, [(1, 1, 3), (1, 2, 5)])
+    ([1.0, 2.0], [1.0, 2.0])
+    >>> solve(1, [0, 1])
+    Traceback (most recent call last):
+    cauchy.FlatPivot: flat pivot: the equations have no usable pivot in some column (no 11)
+    """
+    count = arrays.whole(n, "n")
+    if not 0 <= count <= 16:
+        raise BadMatrix()
+    run = arrays.floats(cells, "cells", count + 1)
+    answer = array("d", [0.0]) * count
+    call("solve", count, *run.lent(), *arrays.written(answer).lent())
+    return answer.tolist()

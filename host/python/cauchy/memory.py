@@ -1,0 +1,37 @@
+"""The two runs of a store: memory of its own, lent to the library, never resized."""
+import mmap
+from ctypes import c_double, c_uint32
+from typing import Any, Tuple
+
+from .arrays import Run
+
+# Runs of this size or more are asked for in large pages: the system hands them out several times as fast.
+_LARGE = 4 << 20
+
+
+def _zeros(size: int) -> mmap.mmap:
+    """Memory of zeros, private to the process and to its forks, which the system fills in where it is touched."""
+    memory = mmap.mmap(-1, size, flags=mmap.MAP_PRIVATE | mmap.MAP_ANONYMOUS)
+    if size >= _LARGE and hasattr(mmap, "MADV_HUGEPAGE"):
+        try:
+            memory.madvise(mmap.MADV_HUGEPAGE)
+        except OSError:  # a system without large pages
+            pass
+    return memory
+
+
+class Runs:
+    """The floats and the words of a store, as views that may be written, and as they are lent. While they are lent,
+    which is as long as this object lives, the memory cannot be resized or given back."""
+
+    __slots__ = ("floats", "words", "_lent")
+
+    def __init__(self, n_floats: int, n_words: int) -> None:
+        floats, words = _zeros(8 * n_floats), _zeros(4 * n_words)
+        self.floats = memoryview(floats).cast("d")
+        self.words = memoryview(words).cast("I")
+        self._lent = (*Run(floats, n_floats, c_double).lent(), *Run(words, n_words, c_uint32).lent())
+
+    def lent(self) -> Tuple[Any, ...]:
+        """Both as pointer and count: the first four arguments of every call on a store."""
+        return self._lent

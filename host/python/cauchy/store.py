@@ -1,0 +1,354 @@
+"""The store."""
+from array import array
+from typing import Any, Iterator, List, Optional, Tuple, Union, overload
+
+from . import arrays, snapshot
+from .library import FLOATS_BEFORE_MESH, MAX_PIECES, MAX_TRACK, PLACES, WORDS_BEFORE_MESH, call
+from .memory import Runs
+from .refusals import NoPlace, Refused, Unsound, check_float_state
+from .turns import Turns
+from .values import (
+    Convention, Held, Kernel, Placed, Steps, StoreReport, crossing_convention, crossing_kernel, listed, masses, vector,
+)
+
+# Where a place's kernel and state stand in the runs, and their sizes.
+_KERNELS_AT, _KERNEL_FLOATS = 1, 7
+_STATES_AT, _STATE_WORDS = 2, 3
+
+# The functions that only read a store, so that they may share it; the header's `const` says the same.
+READINGS = frozenset(("store_density", "store_report", "store_list", "store_track"))
+
+
+class Store:
+    """Up to 32 kernels inside a mesh, with the work on them as far as it is done.
+
+    The vertices are metres, three coordinates each; the faces are three numbers of vertices each, from 0, seen
+    anticlockwise from outside. Both are arrays, flat or in rows of three: see `cauchy.arrays`. The radius of the
+    body, in metres, bounds the fits of exponents other than 1.
+
+    A store may be used by several threads. Readings share it, and whatever changes it has it alone, in the order of
+    asking. A refused call changes nothing.
+
+    >>> store = Store(500, [0] * 9, [0, 1, 2])
+    >>> store
+    Store(vertices=3, faces=1, radius=500.0, filled=0)
+    >>> store.put(4, Kernel((0, 0, 0), 0.01, 300, 2))
+    Placed(pieces=13, need=13)
+    >>> store.reweigh(4, -20)
+    >>> store.advance(5), store.left()
+    (Steps(done=5, left=8), 8)
+    >>> store.report(RAW)
+    Traceback (most recent call last):
+    cauchy.Unfinished: unfinished: work is left that this reading needs (no 8)
+    >>> store.advance(2**70), store.report(RAW).pieces
+    (Steps(done=8, left=0), 13)
+    >>> store.clear(4)
+    >>> store.list(RAW), Store(1, [], []).left()
+    ([], 0)
+    >>> store.clear(2**32)
+    Traceback (most recent call last):
+    cauchy.NoPlace: no place: the places are 0 to 31 (no 6)
+    """
+
+    __slots__ = ("_runs", "_turns", "__weakref__")
+    _runs: Runs
+    _turns: Turns
+
+    def __init__(self, radius: float, vertices: arrays.Items, faces: arrays.Items) -> None:
+        check_float_state()
+        size = arrays.number(radius, "radius")
+        xyz, corners = arrays.floats(vertices, "vertices", 3), arrays.words(faces, "faces", 3)
+        runs = Runs(FLOATS_BEFORE_MESH + xyz.count, WORDS_BEFORE_MESH + corners.count)
+        call("store_open", *runs.lent(), size, *xyz.lent(), *corners.lent())
+        self._runs, self._turns = runs, Turns()
+
+    def _call(self, name: str, *arguments: Any) -> Any:
+        """Calls a function of the library on this store, in its turn."""
+        turn = self._turns.reading() if name in READINGS else self._turns.writing()
+        with turn:
+            return call(name, *self._runs.lent(), *arguments)
+
+    # ---- Changes ------------------------------------------------------------------------------------------
+
+    def put(self, place: int, kernel: Kernel) -> Placed:
+        """Puts a kernel into a place, whatever that held, with all its work to do; its pieces, and the steps that
+        they need."""
+        answer = self._call("store_put", _place(place), crossing_kernel(kernel))
+        return Placed(answer.pieces, answer.need)
+
+    def clear(self, place: int) -> None:
+        """Empties a place."""
+        self._call("store_clear", _place(place))
+
+    def reweigh(self, place: int, w: float) -> None:
+        """Gives the kernel of a place another weight; the work on it is kept."""
+        self._call("store_reweigh", _place(place), arrays.number(w, "w"))
+
+    def squeeze(self) -> int:
+        """Takes the vertices that no face uses out of the mesh; the coordinates freed, three a vertex. No place,
+        no step and no later reading changes by it, and the freed floats stay in the run, as zeros.
+
+        >>> store = Store(500, [8, 8, 8, 0, 0, 0, 6, 0, 0, 9, 9, 9, 0, 6, 0], [1, 2, 4])
+        >>> store.squeeze(), store.squeeze()
+        (6, 0)
+        >>> vertices, faces = store.mesh()
+        >>> vertices.tolist(), faces.tolist()                                     # doctest: +ELLIPSIS
+        ([...0.0, 0.0, 0.0..., ...6.0, 0.0, 0.0..., ...0.0, 6.0, 0.0...], [...0, 1, 2...])
+        """
+        return int(self._call("store_squeeze").freed)
+
+    def advance(self, budget: int) -> Steps:
+        """Does up to so many steps, one face of one piece each; the steps done and left. Every call looks the whole
+        store over first, so budgets of many faces are cheapest."""
+        steps = arrays.whole(budget, "budget")
+        if steps < 0:
+            raise ValueError(f"budget is a number of steps, and not {steps}")
+        answer = self._call("store_advance", min(steps, 2**64 - 1))
+        return Steps(answer.done, answer.left)
+
+    def left(self) -> int:
+        """The steps left."""
+        return self.advance(0).left
+
+    def work(self, portion: int = 1_000_000) -> Iterator[Steps]:
+        """Does the work that is left, in portions of so many steps. After each it gives the steps done since the
+        beginning and those left, so `done / (done + left)` is the progress. Without work it gives nothing.
+
+        >>> store = Store(500, [0] * 9, [0, 1, 2])
+        >>> store.put(4, Kernel((0, 0, 0), 0.01, 300, 2))
+        Placed(pieces=13, need=13)
+        >>> for done, left in store.work(5):
+        ...     print(done, left)
+        5 8
+        10 3
+        13 0
+        >>> list(store.work())
+        []
+        """
+        steps = arrays.whole(portion, "portion")
+        if steps <= 0:
+            raise ValueError(f"portion is a number of steps above 0, and not {steps}")
+        return self._portions(steps)
+
+    def _portions(self, steps: int) -> Iterator[Steps]:
+        done, left = 0, self.left()
+        while left > 0:
+            told = self.advance(steps)
+            done, left = done + told.done, told.left
+            yield Steps(done, left)
+
+    # ---- Readings -----------------------------------------------------------------------------------------
+
+    @overload
+    def density(self, convention: Convention, point: Tuple[float, float, float]) -> float:
+        ...
+
+    @overload
+    def density(self, convention: Convention, point: arrays.Items) -> Any:
+        ...
+
+    def density(self, convention: Convention, point: arrays.Items) -> Any:
+        """The density at a point, as a float; or at each of any number of points, given as rows of three, as an
+        array: numpy's where numpy is there, otherwise `array`. By mass with a target above 0 it needs all work done.
+
+        >>> store = Store(500, [0] * 9, [0, 1, 2])
+        >>> store.put(0, Kernel((0, 0, 0), 1, 2, 1))
+        Placed(pieces=1, need=1)
+        >>> store.density(RAW, (1, 0, 0))
+        1.0
+        >>> store.density(RAW, [(0, 0, 0), (1, 0, 0)]).tolist(), len(store.density(RAW, [(0, 0, 3)] * 10_000))
+        ([2.0, 1.0], 10000)
+        >>> store.density(RAW, (1, 0))
+        Traceback (most recent call last):
+        ValueError: point: 3 numbers, and not 2
+        """
+        crossing = crossing_convention(convention)
+        if not arrays.is_rows(point, "point"):
+            return float(self._call("store_density", crossing, vector(point, "point")).value)
+        points = arrays.floats(point, "point", 3)
+        answer = arrays.zeros(points.count // 3)
+        out = arrays.written(answer)
+        with self._turns.reading():
+            for start in range(0, max(out.count, 1), MAX_TRACK):  # no points are a track too, which may be refused
+                count = min(MAX_TRACK, out.count - start)
+                call("store_track", *self._runs.lent(), crossing, *points.part(3 * start, 3 * count),
+                     *out.part(start, count))
+        return answer
+
+    def track(self, convention: Convention, points: arrays.Items) -> Any:
+        """The density at each of up to 4,096 points, in order, as an array: what `density` gives, with the store
+        looked over once. The points are an array, flat or in rows of three.
+
+        >>> store = Store(500, [0] * 9, [0, 1, 2])
+        >>> store.put(0, Kernel((0, 0, 0), 1, 2, 1))
+        Placed(pieces=1, need=1)
+        >>> store.track(RAW, [(0, 0, 0), (1, 0, 0), (0, 0, 3)]).tolist(), store.track(RAW, []).tolist()
+        ([2.0, 1.0, 0.2], [])
+        >>> from array import array
+        >>> store.track(RAW, array("d", [0, 0, 0, 1, 0, 0])).tolist()
+        [2.0, 1.0]
+        >>> store.track(RAW, [(1, 2)])
+        Traceback (most recent call last):
+        ValueError: points[0]: 3 numbers, and not 2
+        >>> store.track(RAW, array("d", bytes(24 * 4097)))
+        Traceback (most recent call last):
+        cauchy.BadTrack: bad track: more than 4,096 points, or lengths that do not fit (no 14)
+        """
+        crossing = crossing_convention(convention)
+        run = arrays.floats(points, "points", 3)
+        answer = arrays.zeros(run.count // 3)
+        self._call("store_track", crossing, *run.lent(), *arrays.written(answer).lent())
+        return answer
+
+    def report(self, convention: Convention) -> StoreReport:
+        """The masses, with `kernels`, `pieces` and `error` beside them. It needs all work done."""
+        answer = self._call("store_report", crossing_convention(convention))
+        return StoreReport(**masses(answer.report), kernels=answer.kernels, pieces=answer.pieces, error=answer.error)
+
+    def list(self, convention: Convention) -> List[Kernel]:
+        """The pieces of all places, in order, as kernels with weights rescaled. By mass with a target above 0 it
+        needs all work done.
+
+        >>> store = Store(500, [0] * 9, [0, 1, 2])
+        >>> store.put(7, Kernel((0, 0, 0), 0.01, 300, 1))
+        Placed(pieces=1, need=1)
+        >>> store.list(rho0(1200))
+        [Kernel(c=(0.0, 0.0, 0.0), sigma=0.01, w=1200.0, alpha=1.0)]
+        """
+        out = array("d", [0.0]) * (PLACES * MAX_PIECES * 6)
+        answer = self._call("store_list", crossing_convention(convention), *arrays.written(out).lent())
+        return listed(out, answer.pieces)
+
+    def held(self, place: int) -> Optional[Held]:
+        """What a place holds; None where it is empty.
+
+        >>> store = Store(500, [0] * 9, [0, 1, 2])
+        >>> store.put(7, Kernel((1, 2, 3), 0.01, 300, 1))
+        Placed(pieces=1, need=1)
+        >>> store.held(7), store.held(8)
+        (Held(kernel=Kernel(c=(1.0, 2.0, 3.0), sigma=0.01, w=300.0, alpha=1.0), pieces=1, error=0.0), None)
+        """
+        which = _place(place)
+        if which >= PLACES:
+            raise NoPlace()
+        with self._turns.reading():
+            state = self._runs.words[_STATES_AT + _STATE_WORDS * which]
+            start = _KERNELS_AT + _KERNEL_FLOATS * which
+            x, y, z, sigma, w, alpha, error = self._runs.floats[start:start + _KERNEL_FLOATS]
+        return None if state == 0 else Held(Kernel((x, y, z), sigma, w, alpha), state - 1, error)
+
+    def mesh(self) -> Tuple[Any, Any]:
+        """Copies of the vertices and faces as the store keeps them: arrays of numpy in rows of three where numpy is
+        there, otherwise flat ones of the standard library.
+
+        >>> vertices, faces = Store(500, [0, 0, 0, 6, 0, 0, 0, 6, 0], [0, 1, 2]).mesh()
+        >>> faces.tolist() in ([0, 1, 2], [[0, 1, 2]])
+        True
+        """
+        with self._turns.reading():
+            verts, faces = self._runs.words[:2]
+            xyz = array("d", self._runs.floats[FLOATS_BEFORE_MESH:FLOATS_BEFORE_MESH + 3 * verts].tobytes())
+            corners = array("I", self._runs.words[WORDS_BEFORE_MESH:WORDS_BEFORE_MESH + 3 * faces].tobytes())
+        numpy = arrays.numpy()
+        if numpy is None:
+            return xyz, corners
+        return numpy.frombuffer(xyz).reshape(-1, 3), numpy.frombuffer(corners, dtype=numpy.uint32).reshape(-1, 3)
+
+    @property
+    def radius(self) -> float:
+        """The body's radius, m, as the store was opened with."""
+        return float(self._runs.floats[0])
+
+    @property
+    def floats(self) -> memoryview:
+        """The store's run of floats, as a view that cannot be written, resized or replaced. It shows the store as it
+        is now: while another thread changes the store, the view may show it half changed. `to_bytes` and `copy` are
+        taken between calls.
+
+        >>> store = Store(500, [0] * 9, [0, 1, 2])
+        >>> store.floats[0], store.floats.readonly, len(store.floats), list(store.words[98:])
+        (500.0, True, 1770, [0, 1, 2])
+        """
+        return self._runs.floats.toreadonly()
+
+    @property
+    def words(self) -> memoryview:
+        """The store's run of words, as a view like that of its floats."""
+        return self._runs.words.toreadonly()
+
+    def __repr__(self) -> str:
+        with self._turns.reading():
+            verts, faces, *states = self._runs.words[:_STATES_AT + _STATE_WORDS * PLACES]
+        filled = sum(state > 0 for state in states[::_STATE_WORDS])
+        return f"Store(vertices={verts}, faces={faces}, radius={self.radius}, filled={filled})"
+
+    # ---- Copies and snapshots -----------------------------------------------------------------------------
+
+    def to_bytes(self) -> bytes:
+        """The store as a snapshot: bytes with a checksum, as the Rust crate and the program `cauchy` write and read
+        them.
+
+        >>> store = Store(500, [0] * 9, [0, 1, 2])
+        >>> Store.from_bytes(store.to_bytes()).to_bytes() == store.to_bytes()
+        True
+        """
+        with self._turns.reading():
+            return snapshot.write(self._runs)
+
+    @classmethod
+    def from_bytes(cls, data: Union[bytes, bytearray, memoryview]) -> "Store":
+        """The store of a snapshot, from which it goes on. `SnapshotError` where the bytes are not one.
+
+        >>> data = bytearray(Store(500, [0] * 9, [0, 1, 2]).to_bytes())
+        >>> data[100] ^= 1
+        >>> Store.from_bytes(data)
+        Traceback (most recent call last):
+        cauchy.SnapshotError: damaged: its checksum does not fit its bytes
+        """
+        check_float_state()
+        store = cls._of(snapshot.read(data))
+        try:
+            store._check()
+        except Refused as refusal:
+            raise snapshot.SnapshotError("refused") from refusal
+        return store
+
+    def copy(self) -> "Store":
+        """A store like this one, with memory of its own."""
+        with self._turns.reading():
+            runs = Runs(len(self._runs.floats), len(self._runs.words))
+            runs.floats[:], runs.words[:] = self._runs.floats, self._runs.words
+        return self._of(runs)
+
+    @classmethod
+    def _of(cls, runs: Runs) -> "Store":
+        store = cls.__new__(cls)
+        store._runs, store._turns = runs, Turns()
+        return store
+
+    def _check(self) -> None:
+        """Refuses runs that are no sound store as an opening and squeezes leave it: past the mesh there is no word,
+        and no float but the zeros of whole vertices."""
+        self.left()
+        verts, faces = self._runs.words[:2]
+        freed = self._runs.floats[FLOATS_BEFORE_MESH + 3 * verts:]
+        exact = len(self._runs.words) == WORDS_BEFORE_MESH + 3 * faces
+        if not exact or len(freed) % 3 != 0 or any(freed.cast("B")):
+            raise Unsound()
+
+    def __copy__(self) -> "Store":
+        return self.copy()
+
+    def __deepcopy__(self, memo: Any) -> "Store":
+        return self.copy()
+
+    def __reduce__(self) -> Tuple[Any, ...]:
+        return Store.from_bytes, (self.to_bytes(),)
+
+
+def _place(place: int) -> int:
+    """A place as C takes it; ctypes would cut a number of more than 32 bits to another place."""
+    which = arrays.whole(place, "place")
+    if not 0 <= which < 2**32:
+        raise NoPlace()
+    return which
