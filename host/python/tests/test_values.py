@@ -1,0 +1,171 @@
+"""Values: what they take, that they do not change, and how they compare and print. Refusals: their classes."""
+import copy
+import dataclasses
+import pickle
+import unittest
+from fractions import Fraction
+
+import cauchy
+from bodies import sphere
+from cauchy import RAW, Convention, Kernel, Store, mass, rho0
+
+NAN = float("nan")
+
+
+class Wrong(unittest.TestCase):
+    """A missing or wrong number is never taken as another one."""
+
+    def refused(self, kind, words, call, *arguments):
+        with self.subTest(call=call, arguments=arguments), self.assertRaisesRegex(kind, words):
+            call(*arguments)
+
+    def test_kernels(self):
+        self.refused(TypeError, "alpha", Kernel, (0, 0, 0), 1, 2)
+        self.refused(TypeError, "sigma", Kernel)
+        for centre in ((1, 2), (), (1, 2, 3, 4), []):
+            self.refused(ValueError, "centre", Kernel, centre, 1, 2, 1)
+        for centre in (None, 5, "abc", b"abc", {1, 2, 3}, {0: 1, 1: 2, 2: 3}, (x for x in (1, 2, 3)), ("1", "2", "3"),
+                       (1, 2, None), (1, 2, 1j), (True, 0, 0)):
+            self.refused(TypeError, "centre", Kernel, centre, 1, 2, 1)
+        for number in (None, "1", b"1", 1j, True, [1], object()):
+            self.refused(TypeError, "sigma", Kernel, (0, 0, 0), number, 2, 1)
+            self.refused(TypeError, "w is", Kernel, (0, 0, 0), 1, number, 1)
+            self.refused(TypeError, "alpha", Kernel, (0, 0, 0), 1, 2, number)
+        self.refused(ValueError, "sigma", Kernel, (0, 0, 0), 10**400, 2, 1)
+
+    def test_conventions(self):
+        self.refused(TypeError, "target", mass)
+        self.refused(TypeError, "target", mass, None)
+        self.refused(TypeError, "bulk", rho0, "1190")
+        self.refused(TypeError, "bulk", Convention, "mass", 1)
+        self.refused(TypeError, "kind", Convention, 2, 1, 1)
+        self.refused(ValueError, "kind", Convention, "rho1", 1, 1)
+
+    def test_calls_on_a_store(self):
+        store = Store(500, *sphere(0))
+        kernel = Kernel((0, 0, 0), 1, 2, 1)
+        before = store.to_bytes()
+        for point in ((1, 2), (), (1, 2, 3, 4)):
+            self.refused(ValueError, "point", store.density, RAW, point)
+            self.refused(ValueError, r"points\[1\]", store.track, RAW, [(0, 0, 0), point])
+        self.refused(TypeError, "point", store.density, RAW, None)
+        self.refused(TypeError, "convention", store.density, None, (0, 0, 0))
+        self.refused(TypeError, "convention", store.report, 0)
+        self.refused(TypeError, "kernel", store.put, 0, ((0, 0, 0), 1, 2, 1))
+        for place in (None, "0", 0.0, True, [0]):
+            self.refused(TypeError, "place", store.put, place, kernel)
+        for place in (-1, 32, 2**32, 2**64, -2**70):
+            for call in (lambda place: store.put(place, kernel), store.clear, store.held):
+                self.refused(cauchy.NoPlace, "no place", call, place)
+        self.refused(TypeError, "budget", store.advance, 5.0)
+        self.refused(ValueError, "budget", store.advance, -1)
+        for portion in (0, -1):
+            self.refused(ValueError, "portion", store.work, portion)
+        self.refused(TypeError, "w is", store.reweigh, 0, None)
+        self.assertEqual(store.to_bytes(), before)
+
+    def test_kernel_lists(self):
+        self.refused(TypeError, r"kernels\[1\]", cauchy.densitize, [Kernel((0, 0, 0), 1, 2, 1), None], (0, 0, 0))
+        self.refused(TypeError, "kernels", cauchy.densitize, None, (0, 0, 0))
+
+    def test_other_real_numbers_are_taken(self):
+        kernel = Kernel((Fraction(1, 2), 1, 2), Fraction(1, 4), 2, 1)
+        self.assertEqual((kernel.c, kernel.sigma), ((0.5, 1.0, 2.0), 0.25))
+        self.assertTrue(all(type(x) is float for x in (*kernel.c, kernel.sigma, kernel.w, kernel.alpha)))
+
+
+class Values(unittest.TestCase):
+    def all_values(self):
+        store = Store(500, *sphere(0))
+        store.put(3, Kernel((0, 0, 0), 0.01, 3, 2))
+        list(store.work())
+        yield from (Kernel((1, 2, 3), 4, 5, 6), RAW, rho0(), mass(1), store.report(RAW), store.held(3), store.put(0, Kernel(
+            (0, 0, 0), 1, 2, 1)), store.advance(1), cauchy.homogeneous(1190, *sphere(0)))
+
+    def test_they_cannot_be_changed(self):
+        for value in self.all_values():
+            names = value._fields if isinstance(value, tuple) else [f.name for f in dataclasses.fields(value)]
+            for name in (*names, "other"):
+                with self.subTest(value=value, name=name), self.assertRaises(AttributeError):
+                    setattr(value, name, 1)
+
+    def test_copies_are_equal_and_hash_alike(self):
+        for value in self.all_values():
+            for other in (copy.copy(value), copy.deepcopy(value), pickle.loads(pickle.dumps(value))):
+                self.assertEqual(value, other)
+                self.assertEqual(hash(value), hash(other))
+                self.assertIn(other, {value})
+            self.assertRegex(repr(value), rf"^{type(value).__name__}\(\w+=")
+
+    def test_each_number_tells_values_apart(self):
+        kernel = Kernel((1, 2, 3), 4, 5, 6)
+        others = [Kernel((0, 2, 3), 4, 5, 6), Kernel((1, 0, 3), 4, 5, 6), Kernel((1, 2, 0), 4, 5, 6),
+                  Kernel((1, 2, 3), 0, 5, 6), Kernel((1, 2, 3), 4, 0, 6), Kernel((1, 2, 3), 4, 5, 0)]
+        self.assertEqual(len({kernel, *others}), 7)
+        self.assertNotEqual(kernel, (1, 2, 3, 4, 5, 6))
+        self.assertNotEqual(mass(5), rho0(5))
+
+    def test_nan_equals_nan_and_zeros_are_equal(self):
+        self.assertEqual(Kernel((NAN, 0.0, 1), 1, -NAN, 1), Kernel((float("nan"), -0.0, 1), 1, NAN, 1))
+        self.assertEqual(len({Kernel((NAN, 0.0, 1), 1, NAN, 1), Kernel((float("nan"), -0.0, 1), 1, NAN, 1)}), 1)
+        self.assertNotEqual(Kernel((NAN, 0, 1), 1, 1, 1), Kernel((0, 0, 1), 1, 1, 1))
+
+    def test_users_cannot_write_the_runs_of_a_store(self):
+        store = Store(500, *sphere(0))
+        with self.assertRaises(TypeError):
+            store.floats[0] = 1.0
+        with self.assertRaises(TypeError):
+            store.words[0] = 1
+        for name in ("floats", "words", "radius", "more"):
+            with self.assertRaises(AttributeError):
+                setattr(store, name, None)
+        with self.assertRaises((BufferError, ValueError)):
+            store.floats.obj.close()
+        with self.assertRaises((BufferError, ValueError, SystemError)):
+            store.words.obj.resize(8192)
+        self.assertEqual(store.left(), 0)
+
+
+class Refusals(unittest.TestCase):
+    def test_each_has_a_class_that_pickles(self):
+        for number, kind in cauchy.REFUSALS.items():
+            self.assertTrue(issubclass(kind, cauchy.Refused) and kind.number == number)
+            again = pickle.loads(pickle.dumps(kind()))
+            self.assertEqual((type(again), str(again)), (kind, f"{kind.meaning} (no {number})"))
+
+    def test_a_number_that_is_not_known(self):
+        with self.assertRaises(cauchy.UnknownRefusal) as told:
+            cauchy.refusals.check(77)
+        self.assertEqual((told.exception.number, pickle.loads(pickle.dumps(told.exception)).number), (77, 77))
+
+    def test_the_calls_answer_them(self):
+        store = Store(500, *sphere(0))
+        store.put(0, Kernel((0, 0, 0), 1, 2, 1))
+        vertices, faces = sphere(0)
+        wide = [Kernel((0, 0, 0), 1, 2, 2)]
+        told = {
+            cauchy.Ragged: lambda: Store(1, [0] * 8, []),
+            cauchy.Oversize: lambda: Store(1, bytearray_view(3 * 1048577), []),
+            cauchy.LooseCorner: lambda: Store(1, vertices, [(0, 1, 6)]),
+            cauchy.NoPlace: lambda: store.clear(32),
+            cauchy.Vacant: lambda: store.reweigh(1, 2),
+            cauchy.Unfinished: lambda: store.report(RAW),
+            cauchy.ShortList: lambda: cauchy.densitize(memoryview(bytearray(40)).cast("d"), (0, 0, 0)),
+            cauchy.BadMatrix: lambda: cauchy.solve(2, [1, 2, 3]),
+            cauchy.FlatPivot: lambda: cauchy.solve(1, [0, 1]),
+            cauchy.Exponent: lambda: cauchy.source_normalize(vertices, faces, wide, 1),
+            cauchy.BadTrack: lambda: store.track(RAW, [0] * 4),
+            cauchy.NotClosed: lambda: cauchy.closed(vertices, faces[1:]),
+        }
+        for kind, call in told.items():
+            with self.subTest(kind=kind), self.assertRaises(kind):
+                call()
+        self.assertEqual(set(cauchy.REFUSALS.values()) - set(told), {cauchy.ShortStore, cauchy.Unsound})
+
+
+def bytearray_view(count):
+    return memoryview(bytearray(8 * count)).cast("d")
+
+
+if __name__ == "__main__":
+    unittest.main()
