@@ -215,9 +215,7 @@ def _buffer(values: Any, name: str) -> Optional[memoryview]:
 
 def _viewed(view: memoryview, name: str, kind: _Kind) -> Run:
     """A buffer as a run: in place where its layout is the library's, otherwise copied or converted."""
-    order, code = _format(view)
-    if len(code) != 1 or code not in kind.same + kind.taken or array(code).itemsize != view.itemsize:
-        raise TypeError(f"{name}: {kind.said}, and not a buffer of the format {view.format!r}")
+    order, code = _format(view, name, kind)
     count = view.nbytes // view.itemsize
     if order not in _NATIVE or code not in kind.same:
         return Run(_converted(view, name, kind), count, kind.cell)
@@ -228,11 +226,13 @@ def _viewed(view: memoryview, name: str, kind: _Kind) -> Run:
     return Run(array(kind.code, view.tobytes()), count, kind.cell)
 
 
-def _format(view: memoryview) -> Tuple[str, str]:
-    """The byte order and the code of a buffer's items; a format of more than one code stays together."""
-    if view.format[:1] in "@=<>!":
-        return view.format[:1], view.format[1:]
-    return "", view.format
+def _format(view: memoryview, name: str, kind: _Kind) -> Tuple[str, str]:
+    """The byte order and the code of a buffer's items, which are of a kind that is taken."""
+    prefix = 1 if view.format[:1] in tuple("@=<>!") else 0
+    order, code = view.format[:prefix], view.format[prefix:]
+    if len(code) != 1 or code not in kind.same + kind.taken or array(code).itemsize != view.itemsize:
+        raise TypeError(f"{name}: {kind.said}, and not a buffer of the format {view.format!r}")
+    return order, code
 
 
 def _converted(view: memoryview, name: str, kind: _Kind) -> Any:
@@ -240,7 +240,7 @@ def _converted(view: memoryview, name: str, kind: _Kind) -> Any:
     module = _loaded_numpy()
     if module is not None:
         return _converted_by_numpy(module, view, kind)
-    order, code = _format(view)
+    order, code = _format(view, name, kind)
     items = array(code, view.tobytes())
     if order not in _NATIVE:
         items.byteswap()
@@ -273,9 +273,11 @@ def _items(values: Any, name: str) -> Sequence[Any]:
 def _row(values: Any, name: str, width: int, kind: _Kind) -> Sequence[Any]:
     """The items of a row, or of a point, as many as that has."""
     view = None if isinstance(values, (tuple, list)) else _buffer(values, name)
-    if view is not None and view.ndim != 1:
-        raise ValueError(f"{name}: {width} numbers, and not of the shape {view.shape}")
-    count = len(values) if view is None else len(view)
+    if view is not None:
+        _format(view, name, kind)
+        if view.ndim != 1:
+            raise ValueError(f"{name}: {width} numbers, and not of the shape {view.shape}")
+    count = len(values if view is None else view)
     if count != width:
         raise ValueError(f"{name}: {width} numbers, and not {count}")
     if view is None:

@@ -11,7 +11,7 @@ _LARGE = 4 << 20
 
 def _zeros(size: int) -> mmap.mmap:
     """Memory of zeros, private to the process and to its forks, which the system fills in where it is touched."""
-    memory = mmap.mmap(-1, size, flags=mmap.MAP_PRIVATE | mmap.MAP_ANONYMOUS)
+    memory = mmap.mmap(-1, max(size, 1), flags=mmap.MAP_PRIVATE | mmap.MAP_ANONYMOUS)
     if size >= _LARGE and hasattr(mmap, "MADV_HUGEPAGE"):
         try:
             memory.madvise(mmap.MADV_HUGEPAGE)
@@ -28,8 +28,8 @@ class Runs:
 
     def __init__(self, n_floats: int, n_words: int) -> None:
         floats, words = _zeros(8 * n_floats), _zeros(4 * n_words)
-        self.floats = memoryview(floats).cast("d")
-        self.words = memoryview(words).cast("I")
+        self.floats = memoryview(floats)[:8 * n_floats].cast("d")
+        self.words = memoryview(words)[:4 * n_words].cast("I")
         self._lent = (*Run(floats, n_floats, c_double).lent(), *Run(words, n_words, c_uint32).lent())
 
     def lent(self) -> Tuple[Any, ...]:

@@ -8,7 +8,7 @@ from cauchy import RAW, Kernel, Store, Unfinished, mass, rho0
 from cauchy.turns import Turns
 
 RUNS = 1000
-VERTICES, FACES = sphere(2)  # 128 faces
+VERTICES, FACES = sphere(3)  # 512 faces
 
 
 def kernel(place):
@@ -50,10 +50,11 @@ class Threads(unittest.TestCase):
         self.assertEqual(wrong, 0, f"of {RUNS} runs")
 
     def figures_of_two(self, store):
-        faults = []
+        faults, start = [], threading.Barrier(2)
 
         def run(places):
             try:
+                start.wait(10)
                 work(store, places)
             except Exception as fault:  # told below, in the test's own thread
                 faults.append(fault)
