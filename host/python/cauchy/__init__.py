@@ -24,8 +24,8 @@ Placed(pieces=1, need=4)
 A wrong argument is a TypeError or a ValueError, and a refusal of the library a `Refused` with a class for each number.
 Vertices, faces, points and kernel lists may be arrays of numpy or of the standard library: see `cauchy.arrays`.
 
-The library is found in CAUCHY_SO, beside this package, or in the repository's target/staticlib, where host/shared
-makes it. `python3 -m cauchy` runs the examples of this package.
+The library is found in CAUCHY_SO, in this package, or in the repository's target/staticlib, where host/shared makes
+it. `python3 -m cauchy` runs the examples of this package.
 """
 from .arrays import Floats, Items
 from .kernels import decompose, decompose_list, densitize, kernel_from_file, solve

@@ -5,9 +5,10 @@ point is three of them. An array is one of
 
 - a buffer: an array of the standard library or of numpy, a memoryview, an array of ctypes. Flat or in rows. It is
   lent as it is, without a copy, where it has the library's own layout: doubles (or 32-bit integers, for corners) in
-  the machine's byte order, contiguous, aligned and writable. Otherwise it is copied: gaps and negative steps are
-  left out, float32, integers and the other byte order are converted. Bytes, bools, complex numbers, longdouble,
-  float16, objects, records and masked arrays are refused.
+  the machine's byte order, contiguous and aligned. Otherwise it is copied: gaps and negative steps are left out,
+  float32, integers and the other byte order are converted. (A buffer that cannot be written is also copied where
+  numpy is not imported.) Bytes, bools, complex numbers, longdouble, float16, objects, records and masked arrays are
+  refused.
 - what numpy takes as an array, such as a table of pandas, where numpy is there.
 - a sequence of numbers, or of rows.
 
@@ -122,20 +123,33 @@ def is_rows(values: Items, name: str) -> bool:
 # ---- Runs that are lent -----------------------------------------------------------------------------------
 
 
+class _Double(c_double):
+    """The first double of a run; `owner` keeps the memory of a run that is only read."""
+
+    owner: Any
+
+
+class _Word(c_uint32):
+    """The first word of a run, likewise."""
+
+    owner: Any
+
+
 class _Kind(NamedTuple):
     """What a run is made of."""
 
     code: str  # its items, as `array` names them
+    size: int  # of an item, in bytes
     same: str  # the formats of a buffer that are lent as they are
     taken: str  # those that are converted
-    cell: Union[Type[c_double], Type[c_uint32]]
+    cell: Union[Type[_Double], Type[_Word]]
     item: type  # what an item of a sequence must be
     said: str
 
 
-_FLOATS = _Kind("d", "d", "fhHiIlLqQ", c_double, Real, "numbers")
+_FLOATS = _Kind("d", 8, "d", "fhHiIlLqQ", _Double, Real, "numbers")
 # A negative corner is as far outside every mesh when its 32 bits are taken without a sign.
-_WORDS = _Kind("I", "Ii", "hHlLqQ", c_uint32, Integral, "whole numbers")
+_WORDS = _Kind("I", 4, "Ii", "hHlLqQ", _Word, Integral, "whole numbers")
 
 # A corner that no mesh has. Numbers that have no 32 bits become this one, which the library refuses.
 NOWHERE = 2**32 - 1
@@ -146,10 +160,8 @@ class Run:
 
     __slots__ = ("first", "count", "size")
 
-    def __init__(self, owner: Any, count: int, cell: Any) -> None:
-        self.first = cell.from_buffer(owner) if count else None
-        self.count = count
-        self.size = 4 if cell is c_uint32 else 8
+    def __init__(self, first: Union[_Double, _Word, None], count: int, size: int) -> None:
+        self.first, self.count, self.size = first, count, size
 
     def lent(self) -> Tuple[Any, int]:
         """Pointer and count, two arguments side by side."""
@@ -159,9 +171,14 @@ class Run:
         """Pointer and count of some of the items."""
         return (None if self.first is None else byref(self.first, self.size * start)), count
 
-    def address(self) -> Optional[int]:
-        """Where the items are."""
-        return None if self.first is None else addressof(self.first)
+    def address(self) -> int:
+        """Where the items are; 0 where there is none."""
+        return 0 if self.first is None else addressof(self.first)
+
+
+def _of(memory: Any, count: int, kind: _Kind) -> Run:
+    """The run of a writable buffer that has the library's layout."""
+    return Run(kind.cell.from_buffer(memory) if count else None, count, kind.size)
 
 
 def floats(values: Items, name: str, width: int) -> Run:
@@ -176,14 +193,14 @@ def words(values: Items, name: str, width: int) -> Run:
 
 def written(out: Any) -> Run:
     """A new array of doubles, to be written."""
-    return Run(out, len(out), c_double)
+    return _of(out, len(out), _FLOATS)
 
 
 def _run(values: Items, name: str, width: int, kind: _Kind) -> Run:
     view = _buffer(values, name)
     if view is None:
         flat = _packed(_flat(values, name, width, kind), name, kind)
-        return Run(flat, len(flat), kind.cell)
+        return _of(flat, len(flat), kind)
     if not (view.ndim == 1 or view.ndim == 2 and view.shape is not None and view.shape[1] == width):
         raise ValueError(f"{name}: flat or rows of {width}, and not of the shape {view.shape}")
     return _viewed(view, name, kind)
@@ -217,13 +234,23 @@ def _viewed(view: memoryview, name: str, kind: _Kind) -> Run:
     """A buffer as a run: in place where its layout is the library's, otherwise copied or converted."""
     order, code = _format(view, name, kind)
     count = view.nbytes // view.itemsize
-    if order not in _NATIVE or code not in kind.same:
-        return Run(_converted(view, name, kind), count, kind.cell)
-    if view.c_contiguous and not view.readonly:
-        run = Run(view, count, kind.cell)
-        if (run.address() or 0) % run.size == 0:
+    if order in _NATIVE and code in kind.same and view.c_contiguous:
+        run = _in_place(view, count, kind)
+        if run is not None and run.address() % kind.size == 0:
             return run
-    return Run(array(kind.code, view.tobytes()), count, kind.cell)
+    return _of(_converted(view, name, kind), count, kind)
+
+
+def _in_place(view: memoryview, count: int, kind: _Kind) -> Optional[Run]:
+    """A run in the memory of a buffer. Where a buffer cannot be written, numpy alone tells where it is."""
+    if count == 0 or not view.readonly:
+        return _of(view, count, kind)
+    module = _loaded_numpy()
+    if module is None:
+        return None
+    first = kind.cell.from_address(module.asarray(view).ctypes.data)
+    first.owner = view
+    return Run(first, count, kind.size)
 
 
 def _format(view: memoryview, name: str, kind: _Kind) -> Tuple[str, str]:
@@ -236,7 +263,7 @@ def _format(view: memoryview, name: str, kind: _Kind) -> Tuple[str, str]:
 
 
 def _converted(view: memoryview, name: str, kind: _Kind) -> Any:
-    """A copy of a buffer of another format, in the library's own layout."""
+    """A copy of a buffer in the library's own layout."""
     module = _loaded_numpy()
     if module is not None:
         return _converted_by_numpy(module, view, kind)
@@ -244,7 +271,7 @@ def _converted(view: memoryview, name: str, kind: _Kind) -> Any:
     items = array(code, view.tobytes())
     if order not in _NATIVE:
         items.byteswap()
-    return _packed(items, name, kind)
+    return items if code == kind.code else _packed(items, name, kind)
 
 
 def _converted_by_numpy(module: Any, view: memoryview, kind: _Kind) -> Any:
@@ -283,7 +310,7 @@ def _row(values: Any, name: str, width: int, kind: _Kind) -> Sequence[Any]:
     if view is None:
         return _items(values, name)
     run = _viewed(view, name, kind)
-    return array(kind.code, string_at(addressof(run.first), run.size * count)).tolist()
+    return array(kind.code, string_at(run.address(), kind.size * count)).tolist()
 
 
 def _flat(values: Any, name: str, width: int, kind: _Kind) -> Sequence[Any]:

@@ -143,13 +143,13 @@ PROTOTYPES: Dict[str, Tuple[Any, ...]] = {
 
 
 def _places() -> List[Path]:
-    """Where the library may be: CAUCHY_SO alone where that is set; else beside this file, as a wheel has it, or in
+    """Where the library may be: CAUCHY_SO alone where that is set; else inside the package, as a wheel has it, or in
     the repository."""
     named = os.environ.get("CAUCHY_SO")
     if named:
         return [Path(named)]
     here = Path(__file__).resolve().parent
-    return [here / "libcauchy.so", (here / "../../../target/staticlib/libcauchy.so").resolve()]
+    return [here / "lib/libcauchy.so", (here / "../../../target/staticlib/libcauchy.so").resolve()]
 
 
 def _load() -> ctypes.CDLL:

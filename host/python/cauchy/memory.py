@@ -1,9 +1,8 @@
 """The two runs of a store: memory of its own, lent to the library, never resized."""
 import mmap
-from ctypes import c_double, c_uint32
 from typing import Any, Tuple
 
-from .arrays import Run
+from .arrays import floats as lent_floats, words as lent_words
 
 # Runs of this size or more are asked for in large pages: the system hands them out several times as fast.
 _LARGE = 4 << 20
@@ -30,7 +29,7 @@ class Runs:
         floats, words = _zeros(8 * n_floats), _zeros(4 * n_words)
         self.floats = memoryview(floats)[:8 * n_floats].cast("d")
         self.words = memoryview(words)[:4 * n_words].cast("I")
-        self._lent = (*Run(floats, n_floats, c_double).lent(), *Run(words, n_words, c_uint32).lent())
+        self._lent = (*lent_floats(self.floats, "floats", 1).lent(), *lent_words(self.words, "words", 1).lent())
 
     def lent(self) -> Tuple[Any, ...]:
         """Both as pointer and count: the first four arguments of every call on a store."""

@@ -189,7 +189,7 @@ class Numpy(Cases):
     def test_doubles_and_corners_in_place(self):
         faces = np.array(FACES)
         for values in (self.rows, self.rows.ravel(), self.rows[1:], self.rows[:0].reshape(0, 3)):
-            self.in_place(values, values.ctypes.data if values.size else None)
+            self.in_place(values, values.ctypes.data if values.size else 0)
         self.right(self.rows)
         for kind in (np.uint32, np.int32, "<u4", "<i4"):
             values = faces.astype(kind)
@@ -217,6 +217,23 @@ class Numpy(Cases):
         field = np.zeros(12, dtype=[("a", "u1"), ("x", "f8")])
         field["x"] = FLAT
         self.converted_both_ways(self.right, rows, memory, field["x"])
+        self.in_place(rows, rows.ctypes.data)
+        faces = np.array(FACES, dtype=np.uint32)
+        faces.flags.writeable = False
+        self.converted_both_ways(self.right_faces, faces)
+        self.in_place(faces, faces.ctypes.data, arrays.words)
+
+    def test_memory_that_only_the_run_keeps(self):
+        class Table:
+            def __array__(self, dtype=None, copy=None):
+                rows = np.repeat(np.array(POINTS), 5000, axis=0)
+                rows.flags.writeable = False
+                return rows
+
+        pointer, count = arrays.floats(Table(), "points", 3).lent()
+        others = [np.full(60000, 7.0) for _ in range(20)]
+        self.assertEqual((ctypes.c_double * 3).from_address(ctypes.addressof(pointer._obj))[:], list(POINTS[0]))
+        self.assertEqual((count, len(others)), (60000, 20))
 
     def test_other_numbers(self):
         kinds = ("f4", ">f4", ">f8", "i8", ">i8", "i4", ">i4", "u4", "i2", ">i2")

@@ -1,0 +1,29 @@
+"""A user's program, for mypy alone. Each line that is to be found wrong says so, and mypy tells where it is not."""
+from array import array
+from typing import List, Tuple
+
+import cauchy
+
+store: cauchy.Store = cauchy.Store(1.0, array("d", [0.0] * 9), [(0, 1, 2)])
+kernel = cauchy.Kernel((0.0, 0.0, 0.0), 1.0, 2.0, 1)
+placed: cauchy.Placed = store.put(0, kernel)
+need: int = placed.need
+progress: List[float] = [done / (done + left) for done, left in store.work(5)]
+report: cauchy.StoreReport = store.report(cauchy.mass(4.5e11))
+masses: Tuple[float, int] = (report.applied_mass, report.kernels)
+density: float = store.density(cauchy.RAW, (0.0, 0.0, 0.0))
+densities: cauchy.Floats = store.density(cauchy.RAW, [(0.0, 0.0, 0.0)])
+again: cauchy.Store = cauchy.Store.from_bytes(store.to_bytes())
+pieces: List[cauchy.Kernel] = cauchy.decompose(kernel, 500).pieces
+number: int = cauchy.NoPlace.number
+
+cauchy.Kernel((0.0, 0.0), 1.0, 2.0, 1.0)  # type: ignore[arg-type]
+cauchy.Kernel((0.0, 0.0, 0.0), 1.0, 2.0)  # type: ignore[call-arg]
+kernel.w = 5.0  # type: ignore[misc]
+store.put("0", kernel)  # type: ignore[arg-type]
+store.put(0, (0.0, 0.0, 0.0, 1.0, 2.0, 1.0))  # type: ignore[arg-type]
+store.floats = array("d")  # type: ignore[misc, assignment]
+store.report(0)  # type: ignore[arg-type]
+store.advance(0.5)  # type: ignore[arg-type]
+cauchy.mass()  # type: ignore[call-arg]
+text: str = store.density(cauchy.RAW, (0.0, 0.0, 0.0))  # type: ignore[assignment]
