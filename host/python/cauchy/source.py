@@ -68,7 +68,9 @@ def source_calibrate(
     return _rewritten("source_calibrate", vertices, faces, kernels, mass, density, mean is not None)
 
 
-def _rewritten(name: str, vertices: arrays.Items, faces: arrays.Items, kernels: KernelList, *numbers: Any) -> List[Kernel]:
+def _rewritten(
+    name: str, vertices: arrays.Items, faces: arrays.Items, kernels: KernelList, *numbers: Any
+) -> List[Kernel]:
     """The kernels that a function writes."""
     run = kernel_run(kernels)
     out = array("d", [0.0]) * run.count

@@ -343,7 +343,7 @@ class Store:
         return self.copy()
 
     def __reduce__(self) -> Tuple[Any, ...]:
-        return Store.from_bytes, (self.to_bytes(),)
+        return type(self).from_bytes, (self.to_bytes(),)
 
 
 def _place(place: int) -> int:

@@ -1,6 +1,7 @@
 """Arrays of every layout: lent without a copy, converted, or refused, and never a wrong figure."""
 import ctypes
 import importlib.util
+import os
 import subprocess
 import sys
 import unittest
@@ -84,6 +85,7 @@ class Buffers(Cases):
         big = (ctypes.c_double.__ctype_be__ * 12)(*FLAT)
         for values in (gaps, backward, shifted, big, memoryview(run).toreadonly(), memoryview(run.tobytes()).cast("d")):
             self.right(values)
+            self.assertEqual(arrays.floats(values, "points", 3).address() % 8, 0)
         for code in "fhilq":
             self.right(array(code, map(int, FLAT) if code != "f" else FLAT))
         for code in "hHlLqQ":
@@ -104,17 +106,20 @@ class Buffers(Cases):
 
     def test_what_is_refused(self):
         run = array("d", FLAT)
-        for values in (run.tobytes(), bytearray(run.tobytes()), memoryview(run).cast("B"), array("b", range(12)),
-                       array("B", range(12)), "1 2 3", {1.0, 2.0, 3.0}, {0: 1, 1: 2, 2: 3}, None, 5, iter(FLAT), [1, 2, "3"],
-                       [None] * 3, [True, 0, 0], [1j, 0, 0], [(1, 2, 3), 4], [(1, 2, 3), "abc"], [(1, 2, 3), b"abc"],
-                       (ctypes.c_bool * 3)(1, 0, 1), (ctypes.c_char * 24)()):
+        of_bytes = (run.tobytes(), bytearray(run.tobytes()), memoryview(run).cast("B"), array("b", range(12)),
+                    array("B", range(12)), "1 2 3", (ctypes.c_bool * 3)(1, 0, 1), (ctypes.c_char * 24)())
+        in_no_order = ({1.0, 2.0, 3.0}, {0: 1, 1: 2, 2: 3}, iter(FLAT), None, 5)
+        of_others = ([1, 2, "3"], [None] * 3, [True, 0, 0], [1j, 0, 0], [(1, 2, 3), 4], [(1, 2, 3), "abc"],
+                     [(1, 2, 3), b"abc"])
+        for values in (*of_bytes, *in_no_order, *of_others):
             with self.subTest(values=values):
                 self.refused(values)
         self.refused(memoryview(run).cast("B").cast("d", (3, 4)), ValueError)
         self.refused(memoryview(run).cast("B").cast("d", (1, 4, 3)), ValueError)
         self.refused([(1, 2, 3), (1, 2)], ValueError)
         self.refused([10**400, 0, 0], ValueError)
-        for faces in (array("d", [0, 1, 2]), array("f", [0, 1, 2]), [0.0, 1.0, 2.0], [True, 1, 2], "012", b"\0\1\2", [None] * 3):
+        for faces in (array("d", [0, 1, 2]), array("f", [0, 1, 2]), [0.0, 1.0, 2.0], [True, 1, 2], "012", b"\0\1\2",
+                      [None] * 3):
             with self.subTest(faces=faces), self.assertRaises(TypeError):
                 Store(500, VERTICES, faces)
 
@@ -153,7 +158,7 @@ class Buffers(Cases):
         program = ("import sys, cauchy; s = cauchy.Store(1, [0] * 9, [0, 1, 2]); s.density(cauchy.RAW, (0, 0, 0));"
                    "assert 'numpy' not in sys.modules; t = s.track(cauchy.RAW, [(0, 0, 0)]); print(type(t).__module__)")
         told = subprocess.run([sys.executable, "-c", program], check=True, stdout=subprocess.PIPE,
-                              env={**__import__("os").environ, "PYTHONPATH": ":".join(filter(None, sys.path))})
+                              env={**os.environ, "PYTHONPATH": os.pathsep.join(filter(None, sys.path))})
         self.assertEqual(told.stdout.decode().strip(), "numpy" if HAS_NUMPY else "array")
 
     def test_answers_without_numpy(self):
@@ -217,6 +222,7 @@ class Numpy(Cases):
         field = np.zeros(12, dtype=[("a", "u1"), ("x", "f8")])
         field["x"] = FLAT
         self.converted_both_ways(self.right, rows, memory, field["x"])
+        self.assertEqual(arrays.floats(memory, "points", 3).address() % 8, 0)
         self.in_place(rows, rows.ctypes.data)
         faces = np.array(FACES, dtype=np.uint32)
         faces.flags.writeable = False
@@ -283,7 +289,8 @@ class Numpy(Cases):
 
     def test_numbers_and_points_of_numpy(self):
         for kind in (np.float64, np.float32, np.int32, np.uint8):
-            self.assertEqual(Kernel(np.array([1, 2, 3], dtype="i4"), kind(4), kind(5), kind(6)), Kernel((1, 2, 3), 4, 5, 6))
+            centre = np.array([1, 2, 3], dtype="i4")
+            self.assertEqual(Kernel(centre, kind(4), kind(5), kind(6)), Kernel((1, 2, 3), 4, 5, 6))
         self.assertEqual(self.store.held(np.int64(0)), self.store.held(0))
         for wrong in (np.bool_(True), np.complex128(1), np.array([1.0]), np.array(1.0), np.datetime64("2020")):
             with self.subTest(wrong=wrong), self.assertRaises(TypeError):

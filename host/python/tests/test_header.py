@@ -58,9 +58,9 @@ class Declarations(unittest.TestCase):
 
     def test_changes_of_the_header_are_seen(self):
         changes = [
-            ("uint32_t place,\n                              double w", "double w,\n                    uint32_t place"),
+            ("uint32_t place,\n                              double w", "double w,\n           uint32_t place"),
             ("uint64_t budget", "uint32_t budget"),
-            ("CauchyVector c, double sigma);\n\n/* The enclosed volume, below", "double sigma, CauchyVector c);\n\n/* The"),
+            ("CauchyVector c, double sigma);\n\n/* The enclosed volume, b", "double sigma, CauchyVector c);\n\n/* b"),
             ("double sigma, w, alpha;\n} CauchyKernel;", "double w, sigma, alpha;\n} CauchyKernel;"),
             ("uint64_t done, left;", "uint32_t done, left;"),
             ("double cauchy_ten(double y);", ""),
@@ -80,7 +80,7 @@ class Declarations(unittest.TestCase):
 
     def test_readings_share_a_store_only_where_its_runs_are_const(self):
         functions, _, _, _ = header(TEXT)
-        of_stores = {name[len("cauchy_"):]: arguments for name, (arguments, _) in functions.items() if "_store_" in name}
+        of_stores = {name[7:]: arguments for name, (arguments, _) in functions.items() if "_store_" in name}
         const = {name for name, arguments in of_stores.items() if arguments[0][1] == "const double*"}
         self.assertEqual(const, store.READINGS)
         for name in const:

@@ -11,7 +11,7 @@ from pathlib import Path
 
 import cauchy
 from bodies import sphere
-from cauchy import RAW, Kernel, SnapshotError, Store, mass
+from cauchy import Kernel, SnapshotError, Store, mass
 from cauchy.snapshot import _bytewise, crc64
 
 ROOT = Path(__file__).resolve().parents[3]

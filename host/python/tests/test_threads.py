@@ -1,6 +1,7 @@
 """Threads on one store: figures as of one thread, readings that share, and turns in the order of asking."""
 import sys
 import threading
+import time
 import unittest
 
 from bodies import sphere
@@ -89,8 +90,10 @@ class Order(unittest.TestCase):
 
     def asking(self, count):
         """Waits until so many ask."""
-        while len(self.turns._asking) != count:
-            pass
+        until = time.monotonic() + 10
+        while len(self.turns._asking) != count and time.monotonic() < until:
+            time.sleep(0.001)
+        self.assertEqual(len(self.turns._asking), count)
 
     def tearDown(self):
         for thread in self.threads:

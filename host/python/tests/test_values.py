@@ -79,8 +79,8 @@ class Values(unittest.TestCase):
         store = Store(500, *sphere(0))
         store.put(3, Kernel((0, 0, 0), 0.01, 3, 2))
         list(store.work())
-        yield from (Kernel((1, 2, 3), 4, 5, 6), RAW, rho0(), mass(1), store.report(RAW), store.held(3), store.put(0, Kernel(
-            (0, 0, 0), 1, 2, 1)), store.advance(1), cauchy.homogeneous(1190, *sphere(0)))
+        yield from (Kernel((1, 2, 3), 4, 5, 6), RAW, rho0(), mass(1), cauchy.homogeneous(1190, *sphere(0)))
+        yield from (store.report(RAW), store.held(3), store.put(0, Kernel((0, 0, 0), 1, 2, 1)), store.advance(1))
 
     def test_they_cannot_be_changed(self):
         for value in self.all_values():

@@ -1,4 +1,5 @@
 """The wheel, built and installed into a fresh venv without a network, and its examples there."""
+import importlib.util
 import os
 import re
 import shutil
@@ -44,9 +45,7 @@ class Wheel(unittest.TestCase):
         python = builder()
         if python is None:
             self.skipTest("no Python here has pip, setuptools and wheel")
-        try:
-            import ensurepip  # noqa: F401
-        except ImportError:
+        if importlib.util.find_spec("ensurepip") is None:
             self.skipTest("this Python makes no venv with pip")
         with tempfile.TemporaryDirectory() as folder:
             self.installed(Path(folder), self.built(Path(folder), python))
