@@ -22,13 +22,16 @@ except ImportError:  # setuptools below 70
         bdist_wheel = object  # no wheel can be built; setuptools says so
 
 
+REPOSITORY = Path(__file__).resolve().parents[2]
+
+
 def make_library(target):
     """Puts libcauchy.so where the package is built."""
     named = os.environ.get("CAUCHY_SO")
     if named:
         shutil.copyfile(named, target)
         return
-    place = os.environ.get("CAUCHY_LIB_DIR") or Path(__file__).resolve().parents[2] / "target/staticlib"
+    place = os.environ.get("CAUCHY_LIB_DIR") or REPOSITORY / "target/staticlib"
     archive = Path(place) / "libcauchy.a"
     if not archive.is_file():
         raise SystemExit(f"{archive} is not there: run host/archive, or set CAUCHY_LIB_DIR or CAUCHY_SO")
@@ -39,9 +42,13 @@ def make_library(target):
 class WithLibrary(build_py):
     def run(self):
         super().run()
-        folder = Path(self.build_lib) / "cauchy/lib"  # of its own: beside the modules it would be taken for one
-        folder.mkdir(exist_ok=True)
-        make_library(folder / "libcauchy.so")
+        package = Path(self.build_lib) / "cauchy"
+        library = package / "lib/libcauchy.so"  # in a folder of its own: beside the modules it would be taken for one
+        library.parent.mkdir(exist_ok=True)
+        make_library(library)
+        notice = REPOSITORY / "NOTICE"  # the licence of what the library was carried across from
+        if notice.is_file():
+            shutil.copyfile(notice, package / "NOTICE")
 
 
 class ForAnyPython3(bdist_wheel):

@@ -214,6 +214,8 @@ _NATIVE = ("", "@", "=", "<" if sys.byteorder == "little" else ">")
 
 def _buffer(values: Any, name: str) -> Optional[memoryview]:
     """The buffer of an argument, or None where it is a sequence. What can be neither is refused."""
+    if isinstance(values, (tuple, list)):
+        return None
     if isinstance(values, (str, bytes, bytearray, Mapping, Set)):
         raise TypeError(f"{name}: an array or a sequence of numbers, and not of the type {_kind_name(values)}")
     loaded = _loaded_numpy()
@@ -299,7 +301,7 @@ def _items(values: Any, name: str) -> Sequence[Any]:
 
 def _row(values: Any, name: str, width: int, kind: _Kind) -> Sequence[Any]:
     """The items of a row, or of a point, as many as that has."""
-    view = None if isinstance(values, (tuple, list)) else _buffer(values, name)
+    view = _buffer(values, name)
     if view is not None:
         _format(view, name, kind)
         if view.ndim != 1:

@@ -34,7 +34,7 @@ def decompose(kernel: Kernel, radius: float) -> Pieces:
     out = array("d", [0.0]) * (MAX_PIECES * 6)
     size = arrays.number(radius, "radius")
     answer = call("decompose", crossing_kernel(kernel), size, *arrays.written(out).lent())
-    return Pieces(listed(out, answer.pieces), answer.error)
+    return Pieces(tuple(listed(out, answer.pieces)), answer.error)
 
 
 def decompose_list(kernels: KernelList, radius: float) -> Pieces:
@@ -48,7 +48,7 @@ def decompose_list(kernels: KernelList, radius: float) -> Pieces:
     out = array("d", [0.0]) * (MAX_PIECES * run.count)
     size = arrays.number(radius, "radius")
     answer = call("decompose_list", *run.lent(), size, *arrays.written(out).lent())
-    return Pieces(listed(out, answer.pieces), answer.error)
+    return Pieces(tuple(listed(out, answer.pieces)), answer.error)
 
 
 def densitize(kernels: KernelList, point: arrays.Items) -> float:

@@ -5,7 +5,7 @@ itself and its copies and can be found in a set; 0.0 and -0.0 are equal, as ever
 """
 from array import array
 from dataclasses import dataclass, fields
-from typing import Any, Dict, List, NamedTuple, Sequence, Tuple, Union
+from typing import Any, Dict, Iterator, List, NamedTuple, Sequence, Tuple, Union
 
 from . import arrays
 from .library import (
@@ -171,11 +171,15 @@ class Steps(NamedTuple):
     left: int
 
 
-class Pieces(NamedTuple):
-    """Pieces of kernels, and the greatest error of a fit as a fraction of its kernel's peak."""
+@dataclass(frozen=True, eq=False)
+class Pieces(Value):
+    """Pieces of kernels, and the greatest error of a fit as a fraction of its kernel's peak; a pair of both."""
 
-    pieces: List[Kernel]
+    pieces: Tuple[Kernel, ...]
     error: float
+
+    def __iter__(self) -> Iterator[Any]:
+        return iter((self.pieces, self.error))
 
 
 # ---- To and from the library ------------------------------------------------------------------------------

@@ -1,4 +1,5 @@
 """Threads on one store: figures as of one thread, readings that share, and turns in the order of asking."""
+import os
 import sys
 import threading
 import time
@@ -67,6 +68,19 @@ class Threads(unittest.TestCase):
             thread.join()
         self.assertEqual(faults, [])
         return figures(store)
+
+
+class Processes(unittest.TestCase):
+    def test_a_fork_has_a_store_of_its_own(self):
+        store = Store(500, VERTICES, FACES)
+        before = store.to_bytes()
+        child = os.fork()
+        if child == 0:
+            try:
+                store.put(0, kernel(0))
+            finally:
+                os._exit(store.to_bytes() == before)
+        self.assertEqual((os.waitpid(child, 0)[1], store.to_bytes()), (0, before))
 
 
 class Order(unittest.TestCase):

@@ -80,6 +80,7 @@ class Values(unittest.TestCase):
         store.put(3, Kernel((0, 0, 0), 0.01, 3, 2))
         list(store.work())
         yield from (Kernel((1, 2, 3), 4, 5, 6), RAW, rho0(), mass(1), cauchy.homogeneous(1190, *sphere(0)))
+        yield cauchy.decompose(Kernel((NAN, 0, 0), 0.01, 3, 2), NAN)
         yield from (store.report(RAW), store.held(3), store.put(0, Kernel((0, 0, 0), 1, 2, 1)), store.advance(1))
 
     def test_they_cannot_be_changed(self):

@@ -58,7 +58,7 @@ class Wheel(unittest.TestCase):
         (wheel,) = folder.glob("*.whl")
         self.assertRegex(wheel.name, r"^cauchy-[\d.]+-py3-none-linux_x86_64\.whl$")
         names = zipfile.ZipFile(wheel).namelist()
-        self.assertTrue({"cauchy/lib/libcauchy.so", "cauchy/py.typed", "cauchy/store.py"} <= set(names))
+        self.assertTrue({"cauchy/lib/libcauchy.so", "cauchy/py.typed", "cauchy/store.py", "cauchy/NOTICE"} <= set(names))
         self.assertFalse([name for name in names if "test" in name])
         return wheel
 

@@ -14,7 +14,7 @@ masses: Tuple[float, int] = (report.applied_mass, report.kernels)
 density: float = store.density(cauchy.RAW, (0.0, 0.0, 0.0))
 densities: cauchy.Floats = store.density(cauchy.RAW, [(0.0, 0.0, 0.0)])
 again: cauchy.Store = cauchy.Store.from_bytes(store.to_bytes())
-pieces: List[cauchy.Kernel] = cauchy.decompose(kernel, 500).pieces
+pieces: Tuple[cauchy.Kernel, ...] = cauchy.decompose(kernel, 500).pieces
 number: int = cauchy.NoPlace.number
 
 cauchy.Kernel((0.0, 0.0), 1.0, 2.0, 1.0)  # type: ignore[arg-type]
