@@ -7,12 +7,13 @@ import re
 import sys
 from pathlib import Path
 
+from header import header
+
 # Rust's and Rattle's names of the types in C; a type of the crate is the C type with `Cauchy` before it.
 TYPES = {"f64": "double", "u32": "uint32_t", "u64": "uint64_t", "usize": "size_t", "u8": "uint8_t"}
 RATTLE_TYPES = {"V3": "Vector"}
 # Arguments that have a shorter name in Rattle.
 RATTLE_NAMES = {"k": "kernel", "default": "default_alpha"}
-C_TYPE = r"(?:const )?\w+ ?\*?"
 
 
 class Difference(Exception):
@@ -28,58 +29,6 @@ def code(text):
     """The text without comments, white space squeezed to single spaces."""
     text = re.sub(r"/\*.*?\*/", " ", text, flags=re.S)
     return " ".join(re.sub(r"//[^\n]*", " ", text).split())
-
-
-# ---- C ------------------------------------------------------------------------------------------------------
-
-
-def c_variable(text):
-    """`const double *xyz` or `double c[3]` as (name, type)."""
-    found = re.fullmatch(r"(%s) ?(\w+)((?:\[\d+\])?)" % C_TYPE, text.strip())
-    need(found, "not understood in C:", text)
-    kind, name, array = found.groups()
-    return name, kind.replace(" *", "*").strip() + array
-
-
-def c_fields(body):
-    fields = []
-    for line in body.split(";")[:-1]:
-        first, *others = line.split(",")
-        fields.append(c_variable(first))
-        fields += [(other.strip(), fields[-1][1]) for other in others]
-    return fields
-
-
-def header(text):
-    """Functions, structs, enums, and the functions whose answer must be used. Nothing may be left over."""
-    text = re.sub(r"#(?:[^\n]*\\\n)*[^\n]*", "", re.sub(r"/\*.*?\*/", "", text, flags=re.S))
-    text = code(re.sub(r'extern "C" \{(.*)\}', r"\1", text, flags=re.S))
-    functions, structs, enums, must_use = {}, {}, [], set()
-
-    def struct(found):
-        need(found[1] == found[3], "two names of a struct:", found[1], found[3])
-        structs[found[1]] = c_fields(found[2])
-        return ""
-
-    def enum(found):
-        items = [item.split("=") for item in found[1].split(",")]
-        enums.append({name.strip(): int(number) for name, number in items})
-        return ""
-
-    def function(found):
-        marked, answer, name, arguments = found.groups()
-        need(name not in functions, "declared twice:", name)
-        arguments = [] if arguments == "void" else [c_variable(one) for one in arguments.split(",")]
-        functions[name] = (arguments, answer.replace(" *", "*").strip())
-        if marked:
-            must_use.add(name)
-        return ""
-
-    text = re.sub(r"typedef struct (\w+) \{(.*?)\} (\w+);", struct, text)
-    text = re.sub(r"enum \{(.*?)\};", enum, text)
-    text = re.sub(r"(CAUCHY_MUST_USE )?(%s) ?(cauchy_\w+)\((.*?)\);" % C_TYPE, function, text)
-    need(not text.strip(), "not understood in the header:", text.strip()[:80])
-    return functions, structs, enums, must_use
 
 
 # ---- Rust and Rattle ------------------------------------------------------------------------------------------
@@ -251,6 +200,6 @@ if __name__ == "__main__":
     try:
         counts = compare(has)
         each_edit_is_told(has)
-    except Difference as difference:
+    except (Difference, ValueError) as difference:
         sys.exit(f"declarations: {difference}")
     print("declarations: %d functions and %d structs are the same in the header, in Rust and in the library" % counts)

@@ -11,7 +11,7 @@ HERE = Path(__file__).resolve().parent
 
 def main() -> bool:
     """Whether a test fails."""
-    sys.path[:0] = [str(HERE), str(HERE.parent)]
+    sys.path[:0] = [str(HERE), str(HERE.parent), str(HERE.parents[1] / "tests")]
     loader = unittest.defaultTestLoader
     suite = loader.loadTestsFromNames(sys.argv[1:]) if sys.argv[1:] else loader.discover(str(HERE))
     told = unittest.TextTestRunner(verbosity=0).run(suite)

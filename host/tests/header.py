@@ -1,4 +1,5 @@
-"""Reads a C header of plain declarations, such as include/cauchy.h. It uses the standard library alone."""
+"""Reads a C header of plain declarations, such as include/cauchy.h, for the tests that hold others to it. It uses the
+standard library alone."""
 import re
 from typing import Any, Dict, List, Set, Tuple
 
@@ -28,6 +29,8 @@ def header(text: str) -> Tuple[Dict[str, Tuple[Variables, str]], Dict[str, Varia
 
     def function(found: Any) -> str:
         mark, answer, name, arguments = found.groups()
+        if name in functions:
+            raise ValueError(f"declared twice: {name}")
         listed = [] if arguments == "void" else [_variable(one) for one in arguments.split(",")]
         functions[name] = listed, _type(answer)
         must_use.update([name] if mark else [])
