@@ -1,22 +1,12 @@
 /* Holds include/cauchy.h to the archive: calls every function with a distinct value in every argument and
  * field, and compares every field of its answer with a figure worked here. Compiled as C11 and as C++17. */
 #include "cauchy.h"
+#include "check.h"
 
 #include <math.h>
 #include <stdio.h>
 #include <stdlib.h>
 #include <string.h>
-
-static int checks;
-
-#define CHECK(condition)                                                        \
-    do {                                                                        \
-        checks++;                                                               \
-        if (!(condition)) {                                                     \
-            fprintf(stderr, "%s:%d: not so: %s\n", __FILE__, __LINE__, #condition); \
-            exit(1);                                                            \
-        }                                                                       \
-    } while (0)
 
 static int near(double got, double want, double relative) { return fabs(got - want) <= relative * fabs(want); }
 

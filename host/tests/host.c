@@ -4,23 +4,13 @@
  *   host IN OUT       takes the snapshot IN, which another host wrote, writes it again and finds the same bytes;
  *                     then does its work and writes the snapshot OUT */
 #include "cauchy_host.h"
+#include "check.h"
 
 #include <math.h>
 #include <stdio.h>
 #include <stdlib.h>
 #include <string.h>
 #include <xmmintrin.h>
-
-static int checks;
-
-#define CHECK(condition)                                                        \
-    do {                                                                        \
-        checks++;                                                               \
-        if (!(condition)) {                                                     \
-            fprintf(stderr, "%s:%d: not so: %s\n", __FILE__, __LINE__, #condition); \
-            exit(1);                                                            \
-        }                                                                       \
-    } while (0)
 
 /* ---- A store of 5 vertices, one of them in no face, with two kernels and some work done -------------- */
 
