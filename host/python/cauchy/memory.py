@@ -31,6 +31,12 @@ class Runs:
         self.words = memoryview(words)[:4 * n_words].cast("I")
         self._lent = (*lent_floats(self.floats, "floats", 1).lent(), *lent_words(self.words, "words", 1).lent())
 
+    def copy(self) -> "Runs":
+        """The same numbers in other memory."""
+        runs = Runs(len(self.floats), len(self.words))
+        runs.floats[:], runs.words[:] = self.floats, self.words
+        return runs
+
     def lent(self) -> Tuple[Any, ...]:
         """Both as pointer and count: the first four arguments of every call on a store."""
         return self._lent

@@ -64,9 +64,7 @@ class Store:
 
     def _call(self, name: str, *arguments: Any) -> Any:
         """Calls a function of the library on this store, in its turn."""
-        turn = self._turns.reading() if name in READINGS else self._turns.writing()
-        with turn:
-            return call(name, *self._runs.lent(), *arguments)
+        return self._turns.run(name not in READINGS, lambda: call(name, *self._runs.lent(), *arguments))
 
     # ---- Changes ------------------------------------------------------------------------------------------
 
@@ -168,11 +166,14 @@ class Store:
         points = arrays.floats(point, "point", 3)
         answer = arrays.zeros(points.count // 3)
         out = arrays.written(answer)
-        with self._turns.reading():
+
+        def tracks() -> None:
             for start in range(0, max(out.count, 1), MAX_TRACK):  # no points are a track too, which may be refused
                 count = min(MAX_TRACK, out.count - start)
                 call("store_track", *self._runs.lent(), crossing, *points.part(3 * start, 3 * count),
                      *out.part(start, count))
+
+        self._turns.run(False, tracks)
         return answer
 
     def track(self, convention: Convention, points: arrays.Items) -> Any:
@@ -231,11 +232,11 @@ class Store:
         which = _place(place)
         if which >= PLACES:
             raise NoPlace()
-        with self._turns.reading():
-            state = self._runs.words[_STATES_AT + _STATE_WORDS * which]
-            start = _KERNELS_AT + _KERNEL_FLOATS * which
-            x, y, z, sigma, w, alpha, error = self._runs.floats[start:start + _KERNEL_FLOATS]
-        return None if state == 0 else Held(Kernel((x, y, z), sigma, w, alpha), state - 1, error)
+        start, state = _KERNELS_AT + _KERNEL_FLOATS * which, _STATES_AT + _STATE_WORDS * which
+        pieces, fields = self._turns.run(
+            False, lambda: (self._runs.words[state] - 1, self._runs.floats[start:start + _KERNEL_FLOATS].tolist()))
+        x, y, z, sigma, w, alpha, error = fields
+        return None if pieces < 0 else Held(Kernel((x, y, z), sigma, w, alpha), pieces, error)
 
     def mesh(self) -> Tuple[Any, Any]:
         """Copies of the vertices and faces as the store keeps them: arrays of numpy in rows of three where numpy is
@@ -245,14 +246,17 @@ class Store:
         >>> faces.tolist() in ([0, 1, 2], [[0, 1, 2]])
         True
         """
-        with self._turns.reading():
-            verts, faces = self._runs.words[:2]
-            xyz = array("d", self._runs.floats[FLOATS_BEFORE_MESH:FLOATS_BEFORE_MESH + 3 * verts].tobytes())
-            corners = array("I", self._runs.words[WORDS_BEFORE_MESH:WORDS_BEFORE_MESH + 3 * faces].tobytes())
+        xyz, corners = self._turns.run(False, self._copied_mesh)
         numpy = arrays.numpy()
         if numpy is None:
             return xyz, corners
         return numpy.frombuffer(xyz).reshape(-1, 3), numpy.frombuffer(corners, dtype=numpy.uint32).reshape(-1, 3)
+
+    def _copied_mesh(self) -> Tuple[Any, Any]:
+        verts, faces = self._runs.words[:2]
+        xyz = self._runs.floats[FLOATS_BEFORE_MESH:FLOATS_BEFORE_MESH + 3 * verts]
+        corners = self._runs.words[WORDS_BEFORE_MESH:WORDS_BEFORE_MESH + 3 * faces]
+        return array("d", xyz.tobytes()), array("I", corners.tobytes())
 
     @property
     def radius(self) -> float:
@@ -277,8 +281,8 @@ class Store:
         return self._runs.words.toreadonly()
 
     def __repr__(self) -> str:
-        with self._turns.reading():
-            verts, faces, *states = self._runs.words[:_STATES_AT + _STATE_WORDS * PLACES]
+        words = self._turns.run(False, self._runs.words[:_STATES_AT + _STATE_WORDS * PLACES].tolist)
+        verts, faces, *states = words
         filled = sum(state > 0 for state in states[::_STATE_WORDS])
         return f"Store(vertices={verts}, faces={faces}, radius={self.radius}, filled={filled})"
 
@@ -292,8 +296,8 @@ class Store:
         >>> Store.from_bytes(store.to_bytes()).to_bytes() == store.to_bytes()
         True
         """
-        with self._turns.reading():
-            return snapshot.write(self._runs)
+        data: bytes = self._turns.run(False, lambda: snapshot.write(self._runs))
+        return data
 
     @classmethod
     def from_bytes(cls, data: Union[bytes, bytearray, memoryview]) -> "Store":
@@ -315,10 +319,7 @@ class Store:
 
     def copy(self) -> "Store":
         """A store like this one, with memory of its own."""
-        with self._turns.reading():
-            runs = Runs(len(self._runs.floats), len(self._runs.words))
-            runs.floats[:], runs.words[:] = self._runs.floats, self._runs.words
-        return self._of(runs)
+        return self._of(self._turns.run(False, self._runs.copy))
 
     @classmethod
     def _of(cls, runs: Runs) -> "Store":

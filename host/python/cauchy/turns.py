@@ -1,60 +1,46 @@
 """Turns on one store: readings share it, and whatever writes has it alone."""
-from collections import deque
-from contextlib import contextmanager
-from threading import Condition
-from typing import Deque, Iterator
+from threading import Lock
+from typing import Any, Callable, List
+
+
+class _Turn:
+    """One who asked: a lock that is held until the turn is over, and whether it is to be alone."""
+
+    __slots__ = ("held", "alone")
+
+    def __init__(self, alone: bool) -> None:
+        self.held, self.alone = Lock(), alone
 
 
 class Turns:
-    """A readers-writer lock, in the order of asking: a writer waits for the readings before it, and readings that
-    ask later wait for the writer. So neither kind can starve the other.
+    """A readers-writer lock, in the order of asking: a writer waits for all who asked before it, a reading for the
+    writers who did. So neither kind can starve the other.
 
-    It is held around calls of the library alone and never twice by one thread. A signal handler that uses a store
+    Each turn has a lock of its own, held from before it asks until it is over, and waits for those before it one by
+    one. So wherever a turn is interrupted, as by Ctrl-C, its lock is free again, and all others still wait for one
+    another. Nothing else need be put in order: a turn that is over but still in the list holds no one up.
+
+    A turn is taken around calls of the library alone, and never inside another. A signal handler that uses a store
     which the main thread is using would wait for ever.
     """
 
-    __slots__ = ("_changed", "_asking", "_readers")
+    __slots__ = ("_asked",)
 
     def __init__(self) -> None:
-        self._changed = Condition()
-        self._asking: Deque[object] = deque()  # first come, first served; a writer stays first until it is done
-        self._readers = 0
+        self._asked: List[_Turn] = []  # in order; it is copied, and gains and loses turns, in one step of Python each
 
-    def _wait(self, alone: bool) -> None:
-        """Waits until all who asked before are served and, where it is to be alone, until no one reads."""
-        ticket = object()
-        self._asking.append(ticket)
-        try:
-            while self._asking[0] is not ticket or alone and self._readers > 0:
-                self._changed.wait()
-        except BaseException:
-            self._asking.remove(ticket)
-            self._changed.notify_all()
-            raise
-
-    @contextmanager
-    def reading(self) -> Iterator[None]:
-        """A turn that is shared with other readings."""
-        with self._changed:
-            self._wait(alone=False)
-            self._asking.popleft()
-            self._readers += 1
-            self._changed.notify_all()
-        try:
-            yield
-        finally:
-            with self._changed:
-                self._readers -= 1
-                self._changed.notify_all()
-
-    @contextmanager
-    def writing(self) -> Iterator[None]:
-        """A turn of one's own."""
-        with self._changed:
-            self._wait(alone=True)
-        try:
-            yield
-        finally:
-            with self._changed:
-                self._asking.popleft()
-                self._changed.notify_all()
+    def run(self, alone: bool, action: Callable[[], Any]) -> Any:
+        """What an action gives, in a turn that is shared with other readings or is its own."""
+        mine = _Turn(alone)
+        with mine.held:
+            self._asked.append(mine)
+            try:
+                for turn in self._asked.copy():
+                    if turn is mine:
+                        break
+                    if alone or turn.alone:
+                        with turn.held:  # it is over
+                            pass
+                return action()
+            finally:
+                self._asked.remove(mine)

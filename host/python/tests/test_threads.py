@@ -1,5 +1,7 @@
 """Threads on one store: figures as of one thread, readings that share, and turns in the order of asking."""
 import os
+import random
+import signal
 import sys
 import threading
 import time
@@ -89,25 +91,21 @@ class Order(unittest.TestCase):
     def setUp(self):
         self.turns, self.told, self.threads = Turns(), [], []
 
-    def start(self, name, turn):
-        entered, leave = threading.Event(), threading.Event()
+    def start(self, name, alone):
+        """A thread that asks, the last of all so far."""
+        entered, leave, before = threading.Event(), threading.Event(), self.turns._asked.copy()
 
-        def run():
-            with turn():
-                self.told.append(name)
-                entered.set()
-                leave.wait(10)
+        def action():
+            self.told.append(name)
+            entered.set()
+            leave.wait(10)
 
-        self.threads.append(threading.Thread(target=run))
+        self.threads.append(threading.Thread(target=self.turns.run, args=(alone, action)))
         self.threads[-1].start()
-        return entered, leave
-
-    def asking(self, count):
-        """Waits until so many ask."""
         until = time.monotonic() + 10
-        while len(self.turns._asking) != count and time.monotonic() < until:
+        while set(self.turns._asked) <= set(before) and time.monotonic() < until:
             time.sleep(0.001)
-        self.assertEqual(len(self.turns._asking), count)
+        return entered, leave
 
     def tearDown(self):
         for thread in self.threads:
@@ -115,50 +113,67 @@ class Order(unittest.TestCase):
             self.assertFalse(thread.is_alive())
 
     def test_readings_share_and_a_writer_is_alone(self):
-        first = self.start("first", self.turns.reading)
-        second = self.start("second", self.turns.reading)
+        first, second = self.start("first", False), self.start("second", False)
         self.assertTrue(first[0].wait(10) and second[0].wait(10))
-        writer = self.start("writer", self.turns.writing)
-        self.asking(1)
+        writer = self.start("writer", True)
         first[1].set()
         self.assertFalse(writer[0].wait(0.05))
         second[1].set()
         self.assertTrue(writer[0].wait(10))
+        reading = self.start("reading", False)
+        self.assertFalse(reading[0].wait(0.05))
         writer[1].set()
+        self.assertTrue(reading[0].wait(10))
+        reading[1].set()
 
-    def test_a_writer_waits_for_no_later_reading_and_a_reading_for_no_later_writer(self):
-        first = self.start("first", self.turns.reading)
-        first[0].wait(10)
-        writer = self.start("writer", self.turns.writing)
-        self.asking(1)
-        later = self.start("later", self.turns.reading)
-        self.asking(2)
-        last = self.start("last", self.turns.writing)
-        self.asking(3)
-        for one in (first, writer, later, last):
-            one[1].set()
+    def test_turns_come_in_the_order_of_asking(self):
+        names = ["reading", "writer", "later reading", "later writer", "last reading"]
+        turns = [self.start(name, "writer" in name) for name in names]
+        for _, leave in turns:
+            leave.set()
         for thread in self.threads:
             thread.join(10)
-        self.assertEqual(self.told, ["first", "writer", "later", "last"])
+        self.assertEqual(self.told, names)
 
     def test_a_turn_ends_with_an_error_inside(self):
-        for turn in (self.turns.reading, self.turns.writing):
-            with self.assertRaises(KeyError), turn():
-                raise KeyError
-        with self.turns.writing():
-            pass
+        for alone in (False, True):
+            with self.assertRaises(ZeroDivisionError):
+                self.turns.run(alone, lambda: 1 / 0)
+        self.assertEqual(self.turns.run(True, lambda: 5), 5)
+        self.assertEqual(self.turns._asked, [])
 
-    def test_one_who_stops_waiting_holds_no_one_up(self):
-        with self.turns.reading():
-            def interrupted():
-                raise KeyboardInterrupt
-            self.turns._changed.wait, kept = interrupted, self.turns._changed.wait
-            with self.assertRaises(KeyboardInterrupt), self.turns.writing():
-                pass
-            self.turns._changed.wait = kept
-            with self.turns.reading():
-                pass
-        with self.turns.writing():
+
+class Interrupted(Exception):
+    pass
+
+
+@unittest.skipIf(sys.version_info < (3, 10), "a `with` of Python below 3.10 may lose its lock to a signal")
+class Interrupts(unittest.TestCase):
+    """A signal at any moment, as by Ctrl-C, leaves a store that goes on."""
+
+    def setUp(self):
+        def interrupt(*_):
+            raise Interrupted
+
+        kept = signal.signal(signal.SIGALRM, interrupt)
+        self.addCleanup(signal.signal, signal.SIGALRM, kept)
+
+    def test_no_one_waits_for_one_who_was_interrupted(self):
+        store, pick = Store(500, VERTICES, FACES), random.Random(20)
+        for _ in range(300):
+            self.interrupt(store, pick.uniform(20e-6, 400e-6))
+            other = threading.Thread(target=store.left, daemon=True)
+            other.start()
+            other.join(20)
+            self.assertFalse(other.is_alive())
+
+    def interrupt(self, store, after):
+        try:
+            signal.setitimer(signal.ITIMER_REAL, after)
+            while True:
+                store.reweigh(0, 1.0) if store.held(0) else store.put(0, kernel(0))
+                store.density(RAW, (1, 2, 3))
+        except Interrupted:
             pass
 
 
