@@ -37,9 +37,13 @@ measuredAs (Value x) = accepted (x ∷ [])
 measuredAs (Refused r) = refused r
 
 -- the answer of a call whose arguments are so checked
+abbrev pub granted : Checked → Answer → Answer
+granted Passed a = a
+granted (Failed r) a = refused r
+
+-- and where it answers floats alone
 abbrev pub answered : Checked → List Float → Answer
-answered Passed xs = accepted xs
-answered (Failed r) xs = refused r
+answered c xs = granted c (accepted xs)
 
 -- an answer, and the words of a run that is lent to be written as they are then
 pub record Outcome : Type 0 where

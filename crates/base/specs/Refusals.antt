@@ -1,7 +1,7 @@
 -- The numbers of 01's table of refusals, "The store", and of 02's. Definitions only.
 use Prim.Native.Nat.{ℕ}
 use Rattle.base.specs.declared.refusal.Refusal.{Refusal}
-use Rattle.base.specs.declared.refusal.Refusal.the-variants.{Ragged, Oversize, LooseCorner, ShortStore, Unsound, NoPlace, Vacant, Unfinished, ShortList, BadMatrix, FlatPivot, Exponent, BadLine, BadTrack, Unclosed}
+use Rattle.base.specs.declared.refusal.Refusal.the-variants.{Ragged, Oversize, LooseCorner, ShortStore, Unsound, NoPlace, Vacant, Unfinished, ShortList, BadMatrix, FlatPivot, Exponent, BadLine, BadTrack, ManyKernels, Unclosed}
 
 abbrev pub number : Refusal → ℕ
 -- coordinate or index count not a multiple of 3
@@ -32,5 +32,7 @@ number Exponent = 12
 number BadLine = 13
 -- a track of more than 4,096 points, of a coordinate count that isn't a multiple of 3, or with a run that is too short (02, L1)
 number BadTrack = 14
+-- more than 32 kernels to be billed (02, L3)
+number ManyKernels = 15
 -- a face names a corner twice, or a directed edge or its reverse does not occur once
 number Unclosed = 22

@@ -32,6 +32,8 @@ pub enum Refusal {
     BadLine,
     // 14: a track is too long or not of threes, or its run is too short
     BadTrack,
+    // 15: more than 32 kernels are to be billed
+    ManyKernels,
     // 22: the mesh is not closed
     Unclosed,
 }
@@ -67,6 +69,7 @@ pub fn refusal_number(refusal: Refusal) -> u32
         Refusal::Exponent => 12,
         Refusal::BadLine => 13,
         Refusal::BadTrack => 14,
+        Refusal::ManyKernels => 15,
         Refusal::Unclosed => 22,
     }
 }

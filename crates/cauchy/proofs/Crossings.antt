@@ -27,6 +27,9 @@ use Rattle.put.specs.PutAnswer.{placed}
 use Rattle.advance.specs.declared.advance.Advanced.{Advanced}
 use Rattle.advance.specs.declared.advance.Advanced.the-variants as advancing
 use Rattle.advance.specs.AdvanceAnswer.{advanced}
+use Rattle.bill.specs.declared.Billed.{Billed}
+use Rattle.bill.specs.declared.Billed.the-variants as billing
+use Rattle.bill.specs.BillAnswer.{billed}
 use Rattle.readings.specs.Readings.{reported}
 use Rattle.readings.specs.declared.reports.Reported.{Reported}
 use Rattle.readings.specs.declared.reports.Reported.the-variants as reporting
@@ -39,6 +42,7 @@ use Rattle.readings.specs.declared.tracks.TrackRead.the-variants as tracks
 use Rattle.readings.specs.TrackAnswer.{trackRead}
 use Rattle.cauchy.specs.Crossing.{numberFrom, piecesFrom, listPiecesFrom}
 use Rattle.cauchy.specs.Volumes.{valueFrom}
+use Rattle.cauchy.specs.Bills.{billFrom}
 use Rattle.cauchy.specs.StoreCrossing.{openedFrom, placedFrom, stepsFrom, reportFrom, listedFrom, trackFrom}
 
 -- the reply of a number and values, which count where the number is 0
@@ -84,3 +88,7 @@ lists (listing.Refused r) = rw (never-zero r) refl
 pub tracked : (d : TrackRead) → let c = trackFrom (trackRead d) in told (c .no) (c .points ∷ []) [] ≡ trackRead d
 tracked (tracks.Points n) = refl
 tracked (tracks.Refused r) = rw (never-zero r) refl
+
+pub bills : (b : Billed) → let c = billFrom (billed b) in told (c .no) (c .steps ∷ c .floats ∷ []) [] ≡ billed b
+bills (billing.Due steps floats) = refl
+bills (billing.Refused r) = rw (never-zero r) refl

@@ -1,4 +1,5 @@
 // The C interface: every function that libcauchy.a exports. None has a `requires`.
+pub mod bills;
 pub mod kernels;
 pub mod meshes;
 pub mod numbers;

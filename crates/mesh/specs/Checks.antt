@@ -25,9 +25,12 @@ allBelow v (k ∷ ks) = ltb k v && allBelow v ks
 abbrev pub ragged : ℕ → List ℕ → Bool
 ragged coordinates corners = not (eqb (coordinates % 3) 0) || not (eqb (length corners % 3) 0)
 
--- 2: "V or F above limit"
+-- 2: "V or F above limit", of the two counts and of a mesh
+abbrev pub aboveLimit : ℕ → ℕ → Bool
+aboveLimit verts faces = ltb vertexLimit verts || ltb faceLimit faces
+
 abbrev pub oversize : ℕ → List ℕ → Bool
-oversize coordinates corners = ltb vertexLimit (coordinates / 3) || ltb faceLimit (length corners / 3)
+oversize coordinates corners = aboveLimit (coordinates / 3) (length corners / 3)
 
 -- refusals 1, 2 and 3 ("index ≥ V") of a mesh of so many coordinates and of these corners: the lowest that applies
 unfoldable pub meshCheck : ℕ → List ℕ → Checked

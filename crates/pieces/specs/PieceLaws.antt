@@ -17,7 +17,7 @@ use Rattle.solve.specs.Elimination.{eliminated}
 use Rattle.solve.specs.Solve.{answers}
 use Rattle.fit.specs.Fit.{zeros, scalesOf, coefficientsOf}
 use Rattle.fit.specs.FitLaws.{zero-least, error-least, error-one}
-use Rattle.pieces.specs.Pieces.{delta, stays, sizeOf, curveOf, none, itself, keep, keepAt, kept, fitted, decomposed, pieceAlpha}
+use Rattle.pieces.specs.Pieces.{delta, stays, sizeOf, mostPieces, curveOf, none, itself, keep, keepAt, kept, fitted, decomposed, pieceAlpha}
 use Rattle.kernel.specs.declared.kernel.Kernel.{Kernel}
 use Rattle.pieces.specs.declared.pieces.Size.{Size}
 use Rattle.pieces.specs.declared.pieces.Pieces.{Pieces}
@@ -52,10 +52,6 @@ kept-count terms sigma scales coefs p h = omega (arith, go terms 0 0 p (omega ar
     go : (k i j : ℕ) (q : Pieces) → q .count ≤ j → times (keepAt sigma scales coefs) k i q .count ≤ j + k
     go zero i j q l = omega arith
     go (suc k) i j q l = omega (arith, go k (suc i) (j + 1) (keepAt sigma scales coefs i q) (keep-count q (sigma ⊗ getD scales i nan) (getD coefs i nan) l))
-
--- the most pieces that a kernel of this exponent can have, whatever its sigma and the radius
-abbrev pub mostPieces : Float → ℕ
-mostPieces alpha = cond (stays alpha) 1 (sizeOf (delta alpha) .terms)
 
 pub pieces-within : (k : Kernel) (radius : Float) → decomposed k radius .count ≤ mostPieces (k .alpha)
 unfolding decomposed fitted

@@ -32,6 +32,10 @@ sizeOf d =
     cond (le d one) (record { terms = 13; samples = 39 })
     (cond (lt one d) (record { terms = 16; samples = 48 }) (record { terms = 0; samples = 24 }))
 
+-- the most pieces that a kernel of this exponent can have, whatever its sigma and the radius
+abbrev pub mostPieces : Float → ℕ
+mostPieces alpha = cond (stays alpha) 1 (sizeOf (delta alpha) .terms)
+
 -- what is fitted: radius' = max(radius, 1), umax = max(sigma·radius', 1)
 abbrev pub curveOf : Kernel → Float → Curve
 curveOf k radius =

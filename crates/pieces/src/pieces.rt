@@ -32,7 +32,7 @@ pub struct Pieces {
 }
 
 // The size of the fit of an exponent that is delta away from 1.
-fn size_of(delta: f64) -> Size
+pub fn size_of(delta: f64) -> Size
     ensures { λ r. ⌜ r ≡ sizeOf delta ⌝ }
 {
     if delta <= 1.0 {

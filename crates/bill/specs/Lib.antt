@@ -1,0 +1,3 @@
+pub mod Bill
+pub mod BillAnswer
+pub mod Rows
