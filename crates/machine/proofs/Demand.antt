@@ -100,7 +100,7 @@ module _ (wd : ℕ) (fm : Width wd) (exF : List Float) (exW : List ℕ) where
       let s = same m v c in
       next s (reading o m v g) (subst (λ (t : Store). Each wd exF exW o (machine m c .next) t cs) (sym (s .fields)) (each o cs (machine m c .next) (kept m v c .valid) (from-next o m c g)))
 
-  last : (cs : List Call) (m : Machine) → Valid (m .mesh) (m .slots) → (leaves wd (holding m exF exW) cs ≡ holding (after-all m cs) exF exW) × Valid (after-all m cs .mesh) (after-all m cs .slots)
+  pub last : (cs : List Call) (m : Machine) → Valid (m .mesh) (m .slots) → (leaves wd (holding m exF exW) cs ≡ holding (after-all m cs) exF exW) × Valid (after-all m cs .mesh) (after-all m cs .slots)
   last [] m v = (refl, v)
   last (c ∷ cs) m v =
       let i = last cs (machine m c .next) (kept m v c .valid) in
@@ -131,14 +131,14 @@ module _ (wd : ℕ) (fm : Width wd) (r : Float) (xs : List Float) (ks : List ℕ
   abbrev exW : List ℕ
   exW = excessW wd ks ws
 
-  passed : n ≡ 0 → openCheck wd (length xs) ks (length fs) (length ws) ≡ Passed
+  pub passed : n ≡ 0 → openCheck wd (length xs) ks (length fs) (length ws) ≡ Passed
   passed = row wd xs ks (length fs) (length ws) .none
 
   refuses : 0 < n → openStep wd fs ws r xs ks ≡ after (refusedBy n) fs ws
   unfolding openStep
   refuses h = row wd xs ks (length fs) (length ws) .some h fs ws _
 
-  holds : n ≡ 0 → leaving (openStep wd fs ws r xs ks) ≡ holding (opened r xs ks) exF exW
+  pub holds : n ≡ 0 → leaving (openStep wd fs ws r xs ks) ≡ holding (opened r xs ks) exF exW
   holds h = ap leaving (opens wd fm r xs ks fs ws (passed h))
 
   accepts : n ≡ 0 → Accepted wd r xs ks fs ws

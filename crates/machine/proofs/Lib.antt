@@ -16,3 +16,5 @@ pub mod Opened
 pub mod Refused
 pub mod Listed
 pub mod Demand
+pub mod Tally
+pub mod Billed

@@ -40,7 +40,7 @@ sixes-append : (a b : List Kernel) → sixes (a ++ b) ≡ sixes a ++ sixes b
 sixes-append [] b = refl
 sixes-append (k ∷ a) b = ap (λ (l : List Float). six k ++ l) (sixes-append a b) ∙ sym (append-assoc (six k) (sixes a) (sixes b))
 
-pieces-length : (k : Kernel) (fit : Pieces) (n : ℕ) → length (piecesTo k fit n) ≡ n
+pub pieces-length : (k : Kernel) (fit : Pieces) (n : ℕ) → length (piecesTo k fit n) ≡ n
 pieces-length k fit zero = refl
 pieces-length k fit (suc n) = length-append (piecesTo k fit n) (pieceAt k fit n ∷ []) ∙ omega (arith, pieces-length k fit n)
 

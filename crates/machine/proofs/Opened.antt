@@ -36,7 +36,7 @@ write-front : {A : Type 0} (l vs : List A) (n : ℕ) → length vs ≡ n → wri
 unfolding write
 write-front l vs n e = rw e refl
 
-none-at : (n i : ℕ) → getD (replicate n empty) i empty ≡ empty
+pub none-at : (n i : ℕ) → getD (replicate n empty) i empty ≡ empty
 none-at zero i = refl
 none-at (suc n) zero = refl
 none-at (suc n) (suc i) = none-at n i

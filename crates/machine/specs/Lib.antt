@@ -4,3 +4,4 @@ pub mod Valid
 pub mod Fresh
 pub mod Calls
 pub mod Demands
+pub mod Bills
