@@ -1,5 +1,6 @@
 //! The proved functions of 01's "Roots and powers" and `radial_g`, as libcauchy.a exports them, and what a comparison needs: one NaN,
 //! distances in ulp, inputs that can be repeated. [`steps`] works 01's steps a second time, sharing nothing with the proved code.
+pub mod bill;
 pub mod cases;
 pub mod closed;
 #[cfg(original)]
