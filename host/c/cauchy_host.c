@@ -22,6 +22,7 @@ const char *cauchy_refusal_text(uint32_t no) {
     case CAUCHY_FLAT_PIVOT: return "flat pivot: the equations have no usable pivot in some column";
     case CAUCHY_EXPONENT: return "exponent: some exponent is not 1";
     case CAUCHY_BAD_TRACK: return "bad track: more than 4,096 points, or lengths that do not fit";
+    case CAUCHY_MANY_KERNELS: return "many kernels: a bill takes at most 32";
     case CAUCHY_NOT_CLOSED: return "not closed: an edge does not occur once each way, or a face names a corner twice";
     case CAUCHY_HOST_FOREIGN: return "not a snapshot of a store";
     case CAUCHY_HOST_LENGTH: return "damaged: bytes are missing, or there are too many";

@@ -59,20 +59,21 @@ extern "C" {
 
 enum {
     CAUCHY_ACCEPTED = 0,
-    CAUCHY_RAGGED = 1,       /* a count of coordinates or corners that is not a multiple of 3 */
-    CAUCHY_OVERSIZE = 2,     /* more vertices or faces than the limits below */
-    CAUCHY_LOOSE_CORNER = 3, /* a corner names a vertex that is not there */
-    CAUCHY_SHORT_STORE = 4,  /* a run of the store is too short for its mesh */
-    CAUCHY_UNSOUND = 5,      /* the runs hold no sound store */
-    CAUCHY_NO_PLACE = 6,     /* the place is 32 or above */
-    CAUCHY_VACANT = 7,       /* the place to be cleared or reweighed is empty */
-    CAUCHY_UNFINISHED = 8,   /* work is left that this reading needs: advance first */
-    CAUCHY_SHORT_LIST = 9,   /* the run to be written is too short, or a kernel list is not of sixes */
-    CAUCHY_BAD_MATRIX = 10,  /* n above 16, or lengths that do not go with n */
-    CAUCHY_FLAT_PIVOT = 11,  /* the equations have no usable pivot in some column */
-    CAUCHY_EXPONENT = 12,    /* an exponent is not 1, where only 1 can be integrated */
-    CAUCHY_BAD_TRACK = 14,   /* a track of more than 4,096 points or not of threes, or its run is too short */
-    CAUCHY_NOT_CLOSED = 22   /* the mesh is not closed */
+    CAUCHY_RAGGED = 1,        /* a count of coordinates or corners that is not a multiple of 3 */
+    CAUCHY_OVERSIZE = 2,      /* more vertices or faces than the limits below */
+    CAUCHY_LOOSE_CORNER = 3,  /* a corner names a vertex that is not there */
+    CAUCHY_SHORT_STORE = 4,   /* a run of the store is too short for its mesh */
+    CAUCHY_UNSOUND = 5,       /* the runs hold no sound store */
+    CAUCHY_NO_PLACE = 6,      /* the place is 32 or above */
+    CAUCHY_VACANT = 7,        /* the place to be cleared or reweighed is empty */
+    CAUCHY_UNFINISHED = 8,    /* work is left that this reading needs: advance first */
+    CAUCHY_SHORT_LIST = 9,    /* the run to be written is too short, or a kernel list is not of sixes */
+    CAUCHY_BAD_MATRIX = 10,   /* n above 16, or lengths that do not go with n */
+    CAUCHY_FLAT_PIVOT = 11,   /* the equations have no usable pivot in some column */
+    CAUCHY_EXPONENT = 12,     /* an exponent is not 1, where only 1 can be integrated */
+    CAUCHY_BAD_TRACK = 14,    /* a track of more than 4,096 points or not of threes, or its run is too short */
+    CAUCHY_MANY_KERNELS = 15, /* more kernels to be billed than a store has places */
+    CAUCHY_NOT_CLOSED = 22    /* the mesh is not closed */
 };
 
 /* ---- Sizes ---------------------------------------------------------------------------------------- */
@@ -199,6 +200,11 @@ typedef struct CauchyListPieces {
     double error;             /* the greatest error of a fit, 0 where none was needed */
 } CauchyListPieces;
 
+typedef struct CauchyBill {
+    uint32_t no;
+    uint64_t steps, floats; /* the most steps that puts charge, and the most doubles that a list needs */
+} CauchyBill;
+
 /* ---- The store ------------------------------------------------------------------------------------ */
 
 /* Makes two runs a store of this mesh and body radius, every place empty; what they held does not matter.
@@ -271,6 +277,15 @@ CauchyPieces cauchy_decompose(CauchyKernel kernel, double radius, double *out, s
  * spare the fits that count the pieces of a shorter run first.                                       9 */
 CAUCHY_MUST_USE
 CauchyListPieces cauchy_decompose_list(const double *kernels, size_t n_kernels, double radius, double *out, size_t n_out);
+
+/* The bill before the work: what up to 32 kernels take on a mesh of so many vertices and faces, whatever its
+ * radius. Puts of them charge at most so many steps, and a list of them needs at most so many doubles. Nothing
+ * is fitted: 1 piece is counted for a kernel that stays (an exponent within 1e-9 of 1), none for a NaN exponent,
+ * and for another the most that it can have: 13 where |alpha - 1| <= 1, else 16. Both numbers are exact where
+ * every kernel stays or has a NaN exponent. `n_kernels` counts doubles, six a kernel.
+ *                                                                                               2 9 15 */
+CAUCHY_MUST_USE
+CauchyBill cauchy_bill(const double *kernels, size_t n_kernels, uint32_t verts, uint32_t faces);
 
 /* The density of a kernel list at a point.                                                           9 */
 CAUCHY_MUST_USE

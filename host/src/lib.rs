@@ -33,6 +33,7 @@
 //! argument. This crate is not proved; it lends the archive private vectors, and turns its numbers into types.
 #![warn(missing_docs)]
 
+mod bill;
 mod convention;
 mod float_state;
 mod kernel;
@@ -46,6 +47,7 @@ pub mod source;
 mod store;
 mod sys;
 
+pub use bill::{Bill, bill};
 pub use convention::Convention;
 pub use float_state::FloatState;
 pub use kernel::{FileKernel, Kernel, MAX_PIECES, Pieces, density, pieces};

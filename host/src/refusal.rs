@@ -41,13 +41,15 @@ pub enum Refusal {
     Exponent = 12,
     /// A track has more than 4,096 points, or the run to be written is too short for it.
     BadTrack = 14,
+    /// More kernels are to be billed than a store has places.
+    ManyKernels = 15,
     /// The mesh is not closed.
     NotClosed = 22,
 }
 
 impl Refusal {
     /// All refusals, by rising number.
-    pub const ALL: [Refusal; 14] = [
+    pub const ALL: [Refusal; 15] = [
         Refusal::Ragged,
         Refusal::Oversize,
         Refusal::LooseCorner,
@@ -61,13 +63,15 @@ impl Refusal {
         Refusal::FlatPivot,
         Refusal::Exponent,
         Refusal::BadTrack,
+        Refusal::ManyKernels,
         Refusal::NotClosed,
     ];
 
     /// The specification's number.
     ///
     /// ```
-    /// assert_eq!(cauchy::Refusal::ALL.map(|r| r.number()), [1, 2, 3, 4, 5, 6, 7, 8, 9, 10, 11, 12, 14, 22]);
+    /// let numbers = cauchy::Refusal::ALL.map(|refusal| refusal.number());
+    /// assert_eq!(numbers, [1, 2, 3, 4, 5, 6, 7, 8, 9, 10, 11, 12, 14, 15, 22]);
     /// ```
     pub fn number(self) -> u32 {
         self as u32
@@ -93,6 +97,7 @@ impl Refusal {
             Refusal::FlatPivot => "flat pivot: the equations have no usable pivot in some column",
             Refusal::Exponent => "exponent: some exponent is not 1",
             Refusal::BadTrack => "bad track: more than 4,096 points, or lengths that do not fit",
+            Refusal::ManyKernels => "many kernels: a bill takes at most 32",
             Refusal::NotClosed => {
                 "not closed: an edge does not occur once each way, or a face names a corner twice"
             }

@@ -119,6 +119,13 @@ pub struct ListPieces {
     pub error: f64,
 }
 
+#[repr(C)]
+pub struct Bill {
+    pub no: u32,
+    pub steps: u64,
+    pub floats: u64,
+}
+
 // Each run is a pointer and a count of elements. The functions end and stay within their runs for all
 // lengths and contents, so a call is sound where its slices are: Rust's references are aligned,
 // initialised and, where they are written, unshared.
@@ -215,6 +222,7 @@ unsafe extern "C" {
         out: *mut f64,
         n_out: usize,
     ) -> ListPieces;
+    pub fn cauchy_bill(kernels: *const f64, n_kernels: usize, verts: u32, faces: u32) -> Bill;
     pub fn cauchy_densitize(kernels: *const f64, n_kernels: usize, point: Vector) -> Value;
     pub fn cauchy_solve(
         n: usize,

@@ -296,6 +296,45 @@ static void decompose_lists(void) {
     CHECK(p.no == 0 && p.kernels == 0 && p.pieces == 0 && p.error == 0);
 }
 
+/* What puts of the kernels charge and a list of them needs: exact for those that stay or have no exponent, and the
+ * most that it can be for others. */
+static void bills(void) {
+    static const double alphas[] = {1, 1 + 0.5e-9, NAN, 2, 0, 1 + 2e-9, 2.25, -0.25, INFINITY, -INFINITY};
+    static const uint64_t pieces[] = {1, 1, 0, 13, 13, 13, 16, 16, 16, 16};
+    static double many[6 * 33 + 1], many_before[6 * 33 + 1];
+    uint64_t sum = 0;
+    for (int i = 0; i < 10; i++) {
+        write_kernel(many + 6 * i, kernel(1.25 + i, 2.5, 3.75, 0.375, 1100, alphas[i]));
+        sum += pieces[i];
+        const CauchyBill b = cauchy_bill(many + 6 * i, 6, V, F), all = cauchy_bill(many, 6 * (i + 1), V, F);
+        CHECK(b.no == 0 && b.steps == pieces[i] * F && b.floats == 6 * pieces[i]);
+        CHECK(all.no == 0 && all.steps == sum * F && all.floats == 6 * sum);
+    }
+    /* the store of this test charged and listed no more */
+    double two[12];
+    write_kernel(two, steep());
+    write_kernel(two + 6, flat());
+    CauchyBill b = cauchy_bill(two, 12, V, F);
+    CHECK(b.no == 0 && b.steps == 14 * F && b.floats == 14 * 6);
+
+    for (int i = 0; i < 33; i++) write_kernel(many + 6 * i, kernel(i, 2.5, 3.75, 0.375, 1100, 5 + i));
+    memcpy(many_before, many, sizeof many);
+    b = cauchy_bill(many, 6 * 32, CAUCHY_MAX_VERTICES, CAUCHY_MAX_FACES);
+    CHECK(b.no == 0 && b.steps == (uint64_t)32 * 16 * CAUCHY_MAX_FACES && b.floats == 32 * 16 * 6);
+    b = cauchy_bill(NULL, 0, V, F);
+    CHECK(b.no == 0 && b.steps == 0 && b.floats == 0);
+    /* the first that applies: 2, then 9, then 15 */
+    b = cauchy_bill(many, 6 * 33, V, F);
+    CHECK(b.no == CAUCHY_MANY_KERNELS && b.steps == 0 && b.floats == 0);
+    b = cauchy_bill(many, 6 * 33 + 1, V, F);
+    CHECK(b.no == CAUCHY_SHORT_LIST && b.steps == 0 && b.floats == 0);
+    b = cauchy_bill(many, 6 * 33 + 1, CAUCHY_MAX_VERTICES + 1, F);
+    CHECK(b.no == CAUCHY_OVERSIZE && b.steps == 0 && b.floats == 0);
+    b = cauchy_bill(many, 6 * 33, V, CAUCHY_MAX_FACES + 1);
+    CHECK(b.no == CAUCHY_OVERSIZE && b.steps == 0 && b.floats == 0);
+    CHECK(cauchy_bill(many, 6, UINT32_MAX, 0).no == CAUCHY_OVERSIZE && !memcmp(many, many_before, sizeof many));
+}
+
 /* The density along a track of 19 points, with weights scaled by the convention. */
 static void check_track(CauchyConvention v, const double *scaled) {
     enum { POINTS = 19 };
@@ -493,6 +532,7 @@ int main(void) {
     advance();
     list_store();
     decompose_lists();
+    bills();
     readings();
     refused_tracks();
     kernels();

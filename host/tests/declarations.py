@@ -175,6 +175,8 @@ EDITS = [
     ("host/include/cauchy.h", "double sigma, w, alpha;", "double w, sigma, alpha;", "CauchyKernel, field 2"),
     ("host/include/cauchy.h", "double radius, double *out",
      "double *out, double radius", "cauchy_decompose, argument 2"),
+    ("host/include/cauchy.h", "uint32_t verts, uint32_t faces);",
+     "uint32_t faces, uint32_t verts);", "cauchy_bill, argument 3"),
     ("host/include/cauchy.h", "CAUCHY_VACANT = 7", "CAUCHY_VACANT = 13", "CAUCHY_VACANT"),
     ("host/include/cauchy.h", "CAUCHY_MUST_USE\nCauchyTrack", "CauchyTrack", "cauchy_store_track: CAUCHY_MUST_USE"),
     ("host/c/cauchy_host.c", "vacant: the place", "vacant: a place", "CAUCHY_VACANT"),

@@ -84,6 +84,39 @@ fn a_stopped_run_goes_on_from_its_snapshot() {
 }
 
 #[test]
+fn the_bill_comes_before_the_work() {
+    let folder = Folder::new("bill");
+    let fitted = "bill      at most 56 steps, and a list of at most 84 floats (672 bytes)\n          \
+                  an upper bound: 13 or 16 pieces are assumed for each kernel to be fitted (1 of 2)\n";
+    let before = folder.files();
+    let said = folder.goes("bill a.obj k.txt");
+    assert!(said.starts_with("mesh      a.obj\n          4 vertices, 4 faces\nkernels   k.txt"), "{said}");
+    let (head, time) = said.split_once("time      ").unwrap();
+    assert!(head.ends_with(fitted), "{said}");
+    assert!(
+        time.starts_with("about ") && time.contains("an estimate") && time.contains(" ns a step\n"),
+        "{said}"
+    );
+    assert!(folder.files() == before);
+    let said = folder.goes("run a.obj k.txt --raw");
+    assert!(said.contains(&format!("{fitted}work      56 steps done, none left\n")), "{said}");
+
+    folder.write("flat.txt", "0.1 0.15 0.05 2 1200 1\n0.1 0.15 0.05 2 1200 1\n");
+    let exact = "bill      exactly 8 steps, and a list of exactly 12 floats (96 bytes)\n          \
+                 exact: no kernel is to be fitted\n";
+    assert!(folder.goes("bill a.obj flat.txt --mesh-unit m").contains(exact));
+    let said = folder.goes("run a.obj flat.txt --raw --snapshot s.snap");
+    assert!(said.contains(&format!("{exact}work      8 steps done")), "{said}");
+    assert!(!folder.goes("resume s.snap --raw").contains("bill"));
+
+    folder.fails("bill none.obj k.txt", 1, "none.obj: no such file");
+    folder.fails("bill a.obj a.obj", 1, "a.obj, line 1: a kernel has six numbers");
+    folder.fails("bill a.obj k.txt --raw", 2, "bill takes no option but --mesh-unit");
+    folder.write("large.obj", format!("{BODY}{}", "f 1 3 2\n".repeat(2_097_149)));
+    folder.fails("bill large.obj k.txt", 1, "large.obj: oversize: ");
+}
+
+#[test]
 fn the_convention_is_named_and_followed() {
     let folder = Folder::new("conventions");
     let raw = folder.goes("run a.obj k.txt --raw");

@@ -1,6 +1,7 @@
 //! The crate over the archive, as a user sees it.
 use cauchy::{
-    Convention, Kernel, MAX_TRACK, Mesh, OpenError, Placed, Refusal, SnapshotError, Steps, Store, density,
+    Bill, Convention, Kernel, MAX_PIECES, MAX_TRACK, Mesh, OpenError, Placed, Refusal, SnapshotError, Steps,
+    Store, bill, density,
 };
 
 const VERTICES: [[f64; 3]; 4] = [[0.0, 0.0, 0.0], [900.0, 0.0, 0.0], [0.0, 800.0, 0.0], [0.0, 0.0, 700.0]];
@@ -61,6 +62,53 @@ fn steps_add_up() {
     assert_eq!(store.left(), Ok(0));
     assert_eq!(store.put(5, FLAT), Ok(Placed { pieces: 1, need: 4 }));
     assert_eq!(store.advance(u64::MAX), Ok(Steps { done: 4, left: 0 }));
+}
+
+/// Kernels of every kind: two that stay, one without an exponent, and others.
+fn of_all_kinds() -> Vec<Kernel> {
+    let alphas = [1.0, 1.0 + 0.5e-9, f64::NAN, 1.5, 2.0, 0.0, 2.5, -3.0, 40.0, f64::INFINITY, -f64::INFINITY];
+    let sigmas = [0.01, 0.0, -2.0, 1e300, f64::NAN];
+    let kernels = alphas.iter().zip(sigmas.iter().cycle());
+    kernels.map(|(alpha, sigma)| Kernel { alpha: *alpha, sigma: *sigma, ..STEEP }).collect()
+}
+
+#[test]
+fn no_put_and_no_list_takes_more_than_its_bill() {
+    for radius in [900.0, 0.0, -1.0, 1e300, f64::INFINITY, f64::NAN] {
+        let mut store = Store::open(radius, Mesh { vertices: &VERTICES, faces: &FACES }).unwrap();
+        let mut charged = 0;
+        for (place, kernel) in (0..).zip(of_all_kinds()) {
+            let told = store.put(place, kernel).unwrap();
+            let due = bill(&[kernel], 4, 4).unwrap();
+            assert!(u64::from(told.need) <= due.steps, "{kernel:?}, radius {radius}");
+            assert!(6 * u64::from(told.pieces) <= due.floats, "{kernel:?}, radius {radius}");
+            let stays = (kernel.alpha - 1.0).abs() <= 1e-9;
+            if stays || kernel.alpha.is_nan() {
+                let exact = Bill { steps: told.need.into(), floats: 6 * u64::from(told.pieces) };
+                assert_eq!((due, told.pieces), (exact, stays.into()));
+            }
+            charged += u64::from(told.need);
+        }
+        let due = bill(&of_all_kinds(), 4, 4).unwrap();
+        let listed = store.list(Convention::Raw).unwrap();
+        assert!(charged <= due.steps && store.left() == Ok(charged) && 6 * listed.len() as u64 <= due.floats);
+    }
+}
+
+#[test]
+fn a_bill_is_refused_and_never_cut_down() {
+    let most = Bill { steps: 32 * 16 * 2_097_152, floats: 32 * 16 * 6 };
+    let wide = [Kernel { alpha: 9.0, ..FLAT }; 33];
+    assert_eq!(most.floats as usize, 32 * MAX_PIECES * 6);
+    assert_eq!(bill(&wide[..32], 1_048_576, 2_097_152), Ok(most));
+    assert_eq!(bill(&wide, 1_048_576, 2_097_152), Err(Refusal::ManyKernels));
+    assert_eq!(bill(&[], 0, 0), Ok(Bill { steps: 0, floats: 0 }));
+    for count in [1 << 32, (1 << 32) + 4, 1 << 63, usize::MAX] {
+        assert_eq!(bill(&wide, count, 4), Err(Refusal::Oversize));
+        assert_eq!(bill(&[FLAT], 4, count), Err(Refusal::Oversize));
+    }
+    assert_eq!(bill(&wide, 1_048_577, 4), Err(Refusal::Oversize));
+    assert_eq!(bill(&wide, 4, 2_097_153), Err(Refusal::Oversize));
 }
 
 #[test]

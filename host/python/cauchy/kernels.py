@@ -5,7 +5,7 @@ from typing import List, Optional
 from . import arrays
 from .library import CauchyFileKernel, MAX_PIECES, ask, call
 from .refusals import BadMatrix
-from .values import Kernel, KernelList, Pieces, answered_kernel, crossing_kernel, kernel_run, listed, vector
+from .values import Bill, Kernel, KernelList, Pieces, answered_kernel, crossing_kernel, kernel_run, listed, vector
 
 
 def kernel_from_file(
@@ -49,6 +49,34 @@ def decompose_list(kernels: KernelList, radius: float) -> Pieces:
     size = arrays.number(radius, "radius")
     answer = call("decompose_list", *run.lent(), size, *arrays.written(out).lent())
     return Pieces(tuple(listed(out, answer.pieces)), answer.error)
+
+
+def bill(kernels: KernelList, vertices: int, faces: int) -> Bill:
+    """The bill before the work, for up to 32 kernels on a mesh of so many vertices and faces, whatever its radius.
+    Nothing is fitted: 1 piece is counted for a kernel that stays (an exponent within 1e-9 of 1), none for a NaN
+    exponent, and 13 or 16 for any other, which may turn out to have fewer. So the bill is exact where every kernel
+    stays or has a NaN exponent, and never too low.
+
+    >>> kernels = [Kernel((0, 0, 0), 0.01, 300, 1), Kernel((0, 0, 0), 0.01, 300, 2)]
+    >>> bill(kernels, 362, 720) == Bill(steps=14 * 720, floats=14 * 6)
+    True
+    >>> bill(kernels[:1] * 33, 362, 720)
+    Traceback (most recent call last):
+    cauchy.ManyKernels: many kernels: a bill takes at most 32 (no 15)
+    >>> bill(kernels, 2**32 + 362, 720)
+    Traceback (most recent call last):
+    cauchy.Oversize: oversize: more than 1,048,576 vertices or 2,097,152 faces (no 2)
+    """
+    answer = call("bill", *kernel_run(kernels).lent(), _count(vertices, "vertices"), _count(faces, "faces"))
+    return Bill(answer.steps, answer.floats)
+
+
+def _count(value: int, name: str) -> int:
+    """A count as C takes it. One of more bits becomes the greatest of 32, which the library refuses too."""
+    count = arrays.whole(value, name)
+    if count < 0:
+        raise ValueError(f"{name} is a count, and not {count}")
+    return min(count, 2**32 - 1)
 
 
 def densitize(kernels: KernelList, point: arrays.Items) -> float:

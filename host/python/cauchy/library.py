@@ -99,6 +99,10 @@ class CauchyListPieces(Structure):
     _fields_ = [("no", c_uint32), ("kernels", c_uint64), ("pieces", c_uint64), ("error", c_double)]
 
 
+class CauchyBill(Structure):
+    _fields_ = [("no", c_uint32), ("steps", c_uint64), ("floats", c_uint64)]
+
+
 _FLOATS = (POINTER(c_double), c_size_t)
 _WORDS = (POINTER(c_uint32), c_size_t)
 _STORE = _MESH = (*_FLOATS, *_WORDS)
@@ -118,6 +122,7 @@ PROTOTYPES: Dict[str, Tuple[Any, ...]] = {
     "kernel_from_file": (CauchyKernel, CauchyFileKernel, c_double),
     "decompose": (CauchyPieces, CauchyKernel, c_double, *_FLOATS),
     "decompose_list": (CauchyListPieces, *_FLOATS, c_double, *_FLOATS),
+    "bill": (CauchyBill, *_FLOATS, c_uint32, c_uint32),
     "densitize": (CauchyValue, *_FLOATS, CauchyVector),
     "solve": (c_uint32, c_size_t, *_FLOATS, *_FLOATS),
     "closed": (c_uint32, *_MESH),

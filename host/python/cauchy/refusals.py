@@ -122,6 +122,13 @@ class BadTrack(Refused):
     meaning = "bad track: more than 4,096 points, or lengths that do not fit"
 
 
+class ManyKernels(Refused):
+    """More than 32 kernels are to be billed."""
+
+    number = 15
+    meaning = "many kernels: a bill takes at most 32"
+
+
 class NotClosed(Refused):
     """The mesh is not closed."""
 
@@ -133,7 +140,7 @@ REFUSALS: Dict[int, Type[Refused]] = {
     kind.number: kind
     for kind in (
         Ragged, Oversize, LooseCorner, ShortStore, Unsound, NoPlace, Vacant, Unfinished, ShortList, BadMatrix,
-        FlatPivot, Exponent, BadTrack, NotClosed,
+        FlatPivot, Exponent, BadTrack, ManyKernels, NotClosed,
     )
 }
 

@@ -157,6 +157,14 @@ class Held(Value):
     error: float
 
 
+@dataclass(frozen=True, eq=False)
+class Bill(Value):
+    """What a list of kernels takes at most: the steps that their puts charge, and the floats that their list needs."""
+
+    steps: int
+    floats: int
+
+
 class Placed(NamedTuple):
     """What a put answers: the kernel's pieces, and the steps that they need."""
 

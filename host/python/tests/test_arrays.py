@@ -304,6 +304,7 @@ class Numpy(Cases):
         for values in (table, table.ravel(), np.asfortranarray(table), table.astype(">f8")):
             self.assertEqual(cauchy.densitize(values, (4, 5, 6)), cauchy.densitize(kernels, (4, 5, 6)))
             self.assertEqual(cauchy.decompose_list(values, 500), cauchy.decompose_list(kernels, 500))
+            self.assertEqual(cauchy.bill(values, 18, 32), cauchy.Bill(14 * 32, 14 * 6))
         with self.assertRaises(ValueError):
             cauchy.densitize(table.T, (4, 5, 6))
 

@@ -81,6 +81,7 @@ RIGHT = {
     "kind": lambda pick: pick.choice(("raw", "rho0", "mass")),
     "n": lambda pick: pick.randrange(-1, 18),
     "cells": lambda pick: [pick.random() for _ in range(pick.choice((0, 2, 6, 12)))],
+    "count": lambda pick: pick.choice((0, 4, 1048576, 1048577, 2**32, 2**64, -1)),
     "bytes": lambda pick: pick.choice((Store(1, [], []).to_bytes(), b"CAUCHY01", b"x" * 40)),
 }
 
@@ -93,7 +94,8 @@ FUNCTIONS = {
     "Store": "number vertices faces", "Store.from_bytes": "bytes", "Kernel": "point number number number",
     "Convention": "kind number number", "rho0": "number", "mass": "number number",
     "kernel_from_file": "point number number number number", "decompose": "kernel number",
-    "decompose_list": "kernels number", "densitize": "kernels point", "solve": "n cells", "closed": "vertices faces",
+    "decompose_list": "kernels number", "bill": "kernels count count", "densitize": "kernels point",
+    "solve": "n cells", "closed": "vertices faces",
     "kernel_volume": "vertices faces point number", "body_volume": "vertices faces",
     "volume_centroid": "vertices faces", "field_mass": "vertices faces kernels",
     "homogeneous": "number vertices faces", "source_density_at": "kernels point",
@@ -116,8 +118,8 @@ class Fuzz(unittest.TestCase):
         methods = {name for name in vars(Store) if not name.startswith("_") and callable(getattr(Store, name))}
         self.assertEqual(methods, {*METHODS, "from_bytes"})
         functions = {name for name in cauchy.__all__ if callable(getattr(cauchy, name))}
-        answers = {"Held", "MassReport", "StoreReport", "Placed", "Steps", "Pieces", "Floats", "Items", "KernelList",
-                   "UnknownRefusal", "FloatStateError", "SnapshotError", "Refused"}
+        answers = {"Bill", "Held", "MassReport", "StoreReport", "Placed", "Steps", "Pieces", "Floats", "Items",
+                   "KernelList", "UnknownRefusal", "FloatStateError", "SnapshotError", "Refused"}
         refusals = {kind.__name__ for kind in cauchy.REFUSALS.values()}
         self.assertEqual(functions - answers - refusals, set(FUNCTIONS) - {"Store.from_bytes"})
 

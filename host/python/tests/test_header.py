@@ -54,7 +54,7 @@ class Declarations(unittest.TestCase):
     def test_all_functions_and_structures_are_the_headers(self):
         self.assertEqual(list(differences(TEXT)), [])
         functions, structures, _, _ = header(TEXT)
-        self.assertGreaterEqual((len(functions), len(structures)), (34, 18))
+        self.assertGreaterEqual((len(functions), len(structures)), (35, 19))
 
     def test_changes_of_the_header_are_seen(self):
         changes = [
@@ -67,6 +67,7 @@ class Declarations(unittest.TestCase):
             ("double cauchy_ten(double y);", "double cauchy_ten(double y); double cauchy_eleven(double y);"),
             ("CauchyListed cauchy_store_list(", "CauchyTrack cauchy_store_list("),
             ("uint32_t no, freed;", "uint32_t freed, no;"),
+            ("uint64_t steps, floats;", "uint64_t floats, steps;"),
         ]
         for old, new in changes:
             with self.subTest(old=old):

@@ -68,6 +68,22 @@ class Wrong(unittest.TestCase):
         self.refused(TypeError, r"kernels\[1\]", cauchy.densitize, [Kernel((0, 0, 0), 1, 2, 1), None], (0, 0, 0))
         self.refused(TypeError, "kernels", cauchy.densitize, None, (0, 0, 0))
 
+    def test_bills(self):
+        kernel = Kernel((0, 0, 0), 1, 2, 1)
+        for count in (None, "4", 4.0, True, [4], sphere(0)[0]):
+            self.refused(TypeError, "vertices", cauchy.bill, [kernel], count, 4)
+            self.refused(TypeError, "faces", cauchy.bill, [kernel], 4, count)
+        self.refused(ValueError, "vertices is a count, and not -1", cauchy.bill, [kernel], -1, 4)
+        self.refused(ValueError, "faces is a count, and not -1", cauchy.bill, [kernel], 4, -1)
+        self.refused(TypeError, r"kernels\[1\]", cauchy.bill, [kernel, None], 4, 4)
+        for count in (2097153, 2**32, 2**32 + 4, 2**64 + 4, 2**70):
+            self.refused(cauchy.Oversize, "oversize", cauchy.bill, [kernel], count, 4)
+            self.refused(cauchy.Oversize, "oversize", cauchy.bill, [kernel] * 33, 4, count)
+        ragged = bytearray_view(6 * 33 + 1)
+        self.refused(cauchy.Oversize, "oversize", cauchy.bill, ragged, 1048577, 4)
+        self.refused(cauchy.ShortList, "short list", cauchy.bill, ragged, 4, 4)
+        self.refused(cauchy.ManyKernels, "many kernels", cauchy.bill, [kernel] * 33, 4, 4)
+
     def test_other_real_numbers_are_taken(self):
         kernel = Kernel((Fraction(1, 2), 1, 2), Fraction(1, 4), 2, 1)
         self.assertEqual((kernel.c, kernel.sigma), ((0.5, 1.0, 2.0), 0.25))
@@ -80,6 +96,7 @@ class Values(unittest.TestCase):
         store.put(3, Kernel((0, 0, 0), 0.01, 3, 2))
         list(store.work())
         yield from (Kernel((1, 2, 3), 4, 5, 6), RAW, rho0(), mass(1), cauchy.homogeneous(1190, *sphere(0)))
+        yield cauchy.bill([Kernel((1, 2, 3), 4, 5, 6)], 6, 8)
         yield cauchy.decompose(Kernel((NAN, 0, 0), 0.01, 3, 2), NAN)
         yield from (store.report(RAW), store.held(3), store.put(0, Kernel((0, 0, 0), 1, 2, 1)), store.advance(1))
 
@@ -127,6 +144,27 @@ class Values(unittest.TestCase):
         self.assertEqual(store.left(), 0)
 
 
+class Bills(unittest.TestCase):
+    ALPHAS = {1: 1, 1 + 0.5e-9: 1, NAN: 0, 2: 13, 0: 13, 1.5: 13, 2.5: 16, -0.5: 16, float("inf"): 16, -1e300: 16}
+
+    def test_pieces_of_each_kind(self):
+        kernels = [Kernel((0, 0, 0), 0.01, 300, alpha) for alpha in self.ALPHAS]
+        for kernel, pieces in zip(kernels, self.ALPHAS.values()):
+            self.assertEqual(cauchy.bill([kernel], 6, 8), cauchy.Bill(8 * pieces, 6 * pieces))
+        pieces = sum(self.ALPHAS.values())
+        self.assertEqual(cauchy.bill(kernels, 1048576, 2097152), cauchy.Bill(2097152 * pieces, 6 * pieces))
+        self.assertEqual(cauchy.bill([], 0, 0), cauchy.Bill(0, 0))
+
+    def test_no_store_takes_more(self):
+        kernels = [Kernel((5, 0, 0), 0.01, 300, alpha) for alpha in self.ALPHAS]
+        due = cauchy.bill(kernels, 6, 8)
+        for radius in (500, 0, -1, 1e300, float("inf"), NAN):
+            store = Store(radius, *sphere(0))
+            charged = sum(store.put(31 - place, kernel).need for place, kernel in enumerate(kernels))
+            self.assertLessEqual(charged, due.steps)
+            self.assertLessEqual(6 * len(store.list(RAW)), due.floats)
+
+
 class Refusals(unittest.TestCase):
     def test_each_has_a_class_that_pickles(self):
         for number, kind in cauchy.REFUSALS.items():
@@ -156,6 +194,7 @@ class Refusals(unittest.TestCase):
             cauchy.FlatPivot: lambda: cauchy.solve(1, [0, 1]),
             cauchy.Exponent: lambda: cauchy.source_normalize(vertices, faces, wide, 1),
             cauchy.BadTrack: lambda: store.track(RAW, [0] * 4),
+            cauchy.ManyKernels: lambda: cauchy.bill(wide * 33, 6, 8),
             cauchy.NotClosed: lambda: cauchy.closed(vertices, faces[1:]),
         }
         for kind, call in told.items():

@@ -16,6 +16,7 @@ densities: cauchy.Floats = store.density(cauchy.RAW, [(0.0, 0.0, 0.0)])
 again: cauchy.Store = cauchy.Store.from_bytes(store.to_bytes())
 pieces: Tuple[cauchy.Kernel, ...] = cauchy.decompose(kernel, 500).pieces
 number: int = cauchy.NoPlace.number
+steps: int = cauchy.bill([kernel], 3, 1).steps
 
 cauchy.Kernel((0.0, 0.0), 1.0, 2.0, 1.0)  # type: ignore[arg-type]
 cauchy.Kernel((0.0, 0.0, 0.0), 1.0, 2.0)  # type: ignore[call-arg]
@@ -26,4 +27,5 @@ store.floats = array("d")  # type: ignore[misc, assignment]
 store.report(0)  # type: ignore[arg-type]
 store.advance(0.5)  # type: ignore[arg-type]
 cauchy.mass()  # type: ignore[call-arg]
+cauchy.bill([kernel], [(0.0, 0.0, 0.0)], 1)  # type: ignore[arg-type]
 text: str = store.density(cauchy.RAW, (0.0, 0.0, 0.0))  # type: ignore[assignment]

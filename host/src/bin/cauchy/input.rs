@@ -1,6 +1,6 @@
 //! The text files: mesh, kernels, track. Every fault names its file and line.
 use crate::failure::{Failure, Result};
-use cauchy::{FileKernel, PLACES};
+use cauchy::{FileKernel, Kernel, PLACES};
 use std::fs;
 use std::path::Path;
 
@@ -16,6 +16,13 @@ pub struct MeshFile {
 pub struct KernelFile {
     pub default_alpha: f64,
     pub kernels: Vec<FileKernel>,
+}
+
+impl KernelFile {
+    /// The kernels in metres.
+    pub fn to_metres(&self) -> Vec<Kernel> {
+        self.kernels.iter().map(|kernel| kernel.to_metres(self.default_alpha)).collect()
+    }
 }
 
 /// A file's text. A byte that is no text becomes a mark that stands in no number.

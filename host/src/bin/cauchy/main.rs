@@ -1,4 +1,5 @@
 //! The planner's program: reads a mesh and a kernel list, does the work in portions, and reads the store.
+mod bill;
 mod failure;
 mod figures;
 mod holes;
@@ -24,6 +25,7 @@ fn main() -> ExitCode {
     let told = options::parse(std::env::args_os().skip(1)).and_then(|command| match command {
         Command::Help => say(include_str!("help.txt")),
         Command::Version => say(concat!("cauchy ", env!("CARGO_PKG_VERSION"), "\n")),
+        Command::Bill { mesh, kernels, unit } => bill::print(&mesh, &kernels, unit),
         Command::Work(options) => run(&options),
     });
     match told {

@@ -1,4 +1,5 @@
 //! The store, from a mesh and a kernel list or from a snapshot.
+use crate::bill::Due;
 use crate::failure::{Failure, Result};
 use crate::figures::{counted, short};
 use crate::holes::Holes;
@@ -17,23 +18,36 @@ pub struct Opening {
     pub head: String,
 }
 
+/// A store as its origin has it, and lines on its mesh, its kernels and their bill.
+struct Opened {
+    store: Store,
+    mesh: Vec<String>,
+    kernels: Vec<String>,
+    bill: Vec<String>,
+}
+
 /// The store, without unused vertices where that is asked. Its mesh need not be closed.
 pub fn open(origin: &Origin, squeeze: bool) -> Result<Opening> {
-    let (mut store, mut mesh_lines, mut kernel_lines) = match origin {
+    let mut opened = match origin {
         Origin::Files { mesh, kernels, unit, radius } => open_files(mesh, kernels, *unit, *radius)?,
-        Origin::Snapshot(path) => {
-            let bytes = std::fs::read(path).map_err(|fault| Failure::of_system(path, &fault))?;
-            let store = Store::from_bytes(&bytes).map_err(|fault| Failure::of_file(path, fault))?;
-            (store, vec![format!("of the snapshot {}", path.display())], vec!["of the snapshot".into()])
-        }
+        Origin::Snapshot(path) => open_snapshot(path)?,
     };
-    let (closed, closed_lines) = closed(store.mesh())?;
-    mesh_lines.extend(spare(&mut store, squeeze)?);
-    mesh_lines.extend(page::mesh(&store));
-    mesh_lines.extend(closed_lines);
-    kernel_lines.extend(page::places(&store));
-    let head = page::entry("mesh", &mesh_lines) + &page::entry("kernels", &kernel_lines);
-    Ok(Opening { store, closed, head })
+    let (closed, closed_lines) = closed(opened.store.mesh())?;
+    opened.mesh.extend(spare(&mut opened.store, squeeze)?);
+    opened.mesh.extend(page::mesh(&opened.store));
+    opened.mesh.extend(closed_lines);
+    opened.kernels.extend(page::places(&opened.store));
+    let entries = [("mesh", &opened.mesh), ("kernels", &opened.kernels), ("bill", &opened.bill)];
+    let head = entries.map(|(label, lines)| page::entry(label, lines)).concat();
+    Ok(Opening { store: opened.store, closed, head })
+}
+
+/// The store of a snapshot. It has no bill: the steps that are left are known.
+fn open_snapshot(path: &Path) -> Result<Opened> {
+    let bytes = std::fs::read(path).map_err(|fault| Failure::of_system(path, &fault))?;
+    let store = Store::from_bytes(&bytes).map_err(|fault| Failure::of_file(path, fault))?;
+    let mesh = vec![format!("of the snapshot {}", path.display())];
+    Ok(Opened { store, mesh, kernels: vec!["of the snapshot".to_string()], bill: vec![] })
 }
 
 /// Whether the mesh is closed, and what is said of it: where it is not, the first places to look at.
@@ -72,13 +86,8 @@ fn unused(mesh: Mesh<'_>) -> u64 {
     is_used.into_iter().filter(|used| !used).count() as u64
 }
 
-/// The store of a mesh and a kernel list, and a line on each.
-fn open_files(
-    mesh_path: &Path,
-    kernels_path: &Path,
-    unit: f64,
-    radius: Option<f64>,
-) -> Result<(Store, Vec<String>, Vec<String>)> {
+/// The store of a mesh and a kernel list. The bill is made before any kernel is put.
+fn open_files(mesh_path: &Path, kernels_path: &Path, unit: f64, radius: Option<f64>) -> Result<Opened> {
     let mut mesh = input::mesh(mesh_path, unit)?;
     let list = input::kernels(kernels_path)?;
     let unit_name = if unit == 1.0 { "metres" } else { "kilometres" };
@@ -89,20 +98,23 @@ fn open_files(
         mesh.faces.iter_mut().for_each(|face| face.swap(1, 2));
         mesh_lines.push("its faces were inside out and have been turned".to_string());
     }
-    let radius = radius.unwrap_or_else(|| farthest(&mesh.vertices));
     let view = Mesh { vertices: &mesh.vertices, faces: &mesh.faces };
+    let kernels = list.to_metres();
+    let due = Due::of(&kernels, view).map_err(|refusal| of_mesh(refusal.into()))?;
+    let radius = radius.unwrap_or_else(|| farthest(&mesh.vertices));
     let mut store = Store::open(radius, view).map_err(of_mesh)?;
-    for (place, kernel) in (0..).zip(&list.kernels) {
-        let put = store.put(place, kernel.to_metres(list.default_alpha));
+    for (place, kernel) in (0..).zip(kernels) {
+        let put = store.put(place, kernel);
         put.map_err(|refusal| Failure::of_file(kernels_path, format!("kernel {place}: {refusal}")))?;
     }
-    let mut kernel_lines = vec![kernels_line(kernels_path, &list)];
-    kernel_lines.extend(replaced(&list));
-    Ok((store, mesh_lines, kernel_lines))
+    Ok(Opened { store, mesh: mesh_lines, kernels: kernel_lines(kernels_path, &list), bill: due.lines() })
 }
 
-fn kernels_line(path: &Path, list: &KernelFile) -> String {
-    format!("{}, default exponent {}", path.display(), short(list.default_alpha))
+/// A line on a kernel list, and one for each exponent that gave way to the default.
+pub fn kernel_lines(path: &Path, list: &KernelFile) -> Vec<String> {
+    let mut lines = vec![format!("{}, default exponent {}", path.display(), short(list.default_alpha))];
+    lines.extend(replaced(list));
+    lines
 }
 
 /// The exponents that were given and gave way to the default.
@@ -116,7 +128,7 @@ fn replaced(list: &KernelFile) -> Vec<String> {
 }
 
 /// The distance of the farthest vertex from the origin.
-fn farthest(vertices: &[[f64; 3]]) -> f64 {
+pub fn farthest(vertices: &[[f64; 3]]) -> f64 {
     let distance = |[x, y, z]: &[f64; 3]| (x * x + y * y + z * z).sqrt();
     vertices.iter().map(distance).fold(0.0, f64::max)
 }

@@ -9,6 +9,12 @@ use std::path::PathBuf;
 pub enum Command {
     Help,
     Version,
+    /// The bill of a mesh, its unit given in metres, and a kernel list.
+    Bill {
+        mesh: PathBuf,
+        kernels: PathBuf,
+        unit: f64,
+    },
     Work(Box<Options>),
 }
 
@@ -43,7 +49,7 @@ const DEFAULT_BULK: f64 = 1190.0;
 const METRES_IN_KM: f64 = 1000.0;
 
 /// The options as they were given, each at most once.
-#[derive(Default)]
+#[derive(Default, PartialEq)]
 struct Given {
     raw: Option<()>,
     rho0: Option<()>,
@@ -77,8 +83,9 @@ pub fn parse(words: impl IntoIterator<Item = OsString>) -> Result<Command> {
     let given = Given::read(&words[1..])?;
     match first.to_str() {
         Some("run") => given.run(),
+        Some("bill") => given.bill(),
         Some("resume") => given.resume(),
-        _ => Failure::usage(format!("{}: the commands are run, resume and help", first.display())),
+        _ => Failure::usage(format!("{}: the commands are run, resume, bill and help", first.display())),
     }
 }
 
@@ -123,14 +130,26 @@ impl Given {
     }
 
     fn run(mut self) -> Result<Command> {
-        let files: [PathBuf; 2] = match std::mem::take(&mut self.files).try_into() {
-            Ok(files) => files,
-            Err(_) => return Failure::usage("run takes two files: MESH.obj KERNELS.txt"),
-        };
-        let [mesh, kernels] = files;
-        let unit = self.unit.unwrap_or(METRES_IN_KM);
+        let ([mesh, kernels], unit) = self.mesh_and_kernels("run")?;
         let radius = self.radius;
         self.work(Origin::Files { mesh, kernels, unit, radius })
+    }
+
+    fn bill(mut self) -> Result<Command> {
+        let ([mesh, kernels], unit) = self.mesh_and_kernels("bill")?;
+        self.unit = None;
+        if self != Given::default() {
+            return Failure::usage("bill takes no option but --mesh-unit");
+        }
+        Ok(Command::Bill { mesh, kernels, unit })
+    }
+
+    /// The two files that a command takes, and the mesh's unit in metres.
+    fn mesh_and_kernels(&mut self, command: &str) -> Result<([PathBuf; 2], f64)> {
+        match std::mem::take(&mut self.files).try_into() {
+            Ok(files) => Ok((files, self.unit.unwrap_or(METRES_IN_KM))),
+            Err(_) => Failure::usage(format!("{command} takes two files: MESH.obj KERNELS.txt")),
+        }
     }
 
     fn resume(mut self) -> Result<Command> {
@@ -234,13 +253,24 @@ mod tests {
     }
 
     #[test]
+    fn a_bill_has_a_mesh_and_kernels() {
+        let billed = |unit| Command::Bill { mesh: "a.obj".into(), kernels: "k.txt".into(), unit };
+        assert_eq!(asked("bill a.obj k.txt"), Ok(billed(1000.0)));
+        assert_eq!(asked("bill a.obj --mesh-unit m k.txt"), Ok(billed(1.0)));
+    }
+
+    #[test]
     fn what_is_not_understood_is_said() {
         for (line, said) in [
             ("", "nothing asked"),
-            ("walk", "walk: the commands are run, resume and help"),
+            ("walk", "walk: the commands are run, resume, bill and help"),
             ("run a.obj --raw", "run takes two files"),
             ("run a b c --raw", "run takes two files"),
             ("resume --raw", "resume takes one file"),
+            ("bill a.obj", "bill takes two files"),
+            ("bill a b --raw", "bill takes no option but --mesh-unit"),
+            ("bill a b --mesh-unit m --radius 1", "bill takes no option but --mesh-unit"),
+            ("bill a b --mesh-unit m --mesh-unit m", "--mesh-unit is given twice"),
             ("run a b", "name a convention"),
             ("run a b --raw --rho0", "one convention"),
             ("run a b --raw --raw", "--raw is given twice"),

@@ -1,7 +1,7 @@
 //! What the program prints.
 use crate::figures::{count, counted, rounded, short, whole};
 use crate::track::Track;
-use cauchy::{Convention, Kernel, MassReport, PLACES, Store, StoreReport};
+use cauchy::{Bill, Convention, Kernel, MassReport, PLACES, Store, StoreReport};
 use std::fmt::Write;
 use std::path::Path;
 
@@ -12,6 +12,11 @@ const ROWS: usize = 12;
 pub fn entry(label: &str, lines: &[String]) -> String {
     let labels = std::iter::once(label).chain(std::iter::repeat(""));
     labels.zip(lines).map(|(label, line)| format!("{label:<10}{line}\n")).collect()
+}
+
+/// The counts of a mesh in words.
+pub fn size(vertices: u64, faces: u64) -> String {
+    format!("{}, {}", counted(vertices, "vertex"), counted(faces, "face"))
 }
 
 /// The mesh's size in words.
@@ -28,7 +33,7 @@ pub fn mesh(store: &Store) -> Vec<String> {
     let [x, y, z] = [0, 1, 2].map(|axis| rounded((high[axis] - low[axis]) / 1000.0, 4));
     let (vertices, faces) = (u64::from(store.vertices()), u64::from(store.faces()));
     let extent = (vertices > 0).then(|| format!("extent {x} × {y} × {z} km"));
-    let mut lines = vec![format!("{}, {}", counted(vertices, "vertex"), counted(faces, "face"))];
+    let mut lines = vec![size(vertices, faces)];
     lines.extend(extent);
     lines.push(format!("radius {} km", rounded(store.radius() / 1000.0, 4)));
     lines
@@ -47,6 +52,18 @@ pub fn places(store: &Store) -> Vec<String> {
         Some(format!("place {place:<4}{pieces:<12}exponent {exponent}{fit}"))
     };
     (0..PLACES).filter_map(line).collect()
+}
+
+/// A bill in words; so many of the kernels are to be fitted.
+pub fn bill(bill: Bill, kernels: usize, fitted: usize) -> Vec<String> {
+    let (steps, floats) = (counted(bill.steps, "step"), counted(bill.floats, "float"));
+    let bytes = counted(8 * bill.floats, "byte");
+    let assumed = "13 or 16 pieces are assumed for each kernel to be fitted";
+    let (most, why) = match fitted {
+        0 => ("exactly", "exact: no kernel is to be fitted".to_string()),
+        _ => ("at most", format!("an upper bound: {assumed} ({fitted} of {kernels})")),
+    };
+    vec![format!("{most} {steps}, and a list of {most} {floats} ({bytes})"), why]
 }
 
 /// The steps that were done and those left.

@@ -97,7 +97,8 @@ fn bar_line(done: u64, asked: u64, took: Duration) -> String {
     format!("[{full_part}{rest}] {:3.0} %  {} left", part * 100.0, time(left))
 }
 
-fn time(seconds: f64) -> String {
+/// A time in words.
+pub fn time(seconds: f64) -> String {
     let seconds = seconds.ceil() as u64;
     match seconds {
         0..60 => format!("{seconds} s"),

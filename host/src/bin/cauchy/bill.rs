@@ -1,0 +1,113 @@
+//! The bill before the work, and an estimate of the time that the work takes on this machine.
+use crate::failure::{Failure, Result};
+use crate::figures::rounded;
+use crate::output::say;
+use crate::{input, opening, page, work};
+use cauchy::{Bill, Kernel, Mesh, OpenError, Refusal, Store};
+use std::path::Path;
+use std::time::{Duration, Instant};
+
+/// How long steps are tried for an estimate.
+const TRIAL_TIME: Duration = Duration::from_millis(200);
+
+/// The bill of a kernel list on a mesh.
+pub struct Due {
+    bill: Bill,
+    kernels: usize,
+    /// The kernels to be fitted, whose pieces are not known before.
+    fitted: usize,
+}
+
+impl Due {
+    pub fn of(kernels: &[Kernel], mesh: Mesh<'_>) -> std::result::Result<Due, Refusal> {
+        let bill = cauchy::bill(kernels, mesh.vertices.len(), mesh.faces.len())?;
+        let mut fitted = 0;
+        for kernel in kernels {
+            // On one face a step is a piece, and only kernels that are fitted are billed more than one.
+            let alone = cauchy::bill(&[*kernel], 3, 1)?;
+            fitted += usize::from(alone.steps > 1);
+        }
+        Ok(Due { bill, kernels: kernels.len(), fitted })
+    }
+
+    /// In words.
+    pub fn lines(&self) -> Vec<String> {
+        page::bill(self.bill, self.kernels, self.fitted)
+    }
+}
+
+/// Prints the bill of a mesh and a kernel list, and an estimate of the time. Nothing is kept.
+pub fn print(mesh_path: &Path, kernels_path: &Path, unit: f64) -> Result<()> {
+    let mesh = input::mesh(mesh_path, unit)?;
+    let list = input::kernels(kernels_path)?;
+    let mesh = Mesh { vertices: &mesh.vertices, faces: &mesh.faces };
+    let kernels = list.to_metres();
+    let due = Due::of(&kernels, mesh).map_err(|refusal| Failure::of_file(mesh_path, refusal))?;
+    let size = page::size(mesh.vertices.len() as u64, mesh.faces.len() as u64);
+    let entries = [
+        ("mesh", vec![mesh_path.display().to_string(), size]),
+        ("kernels", opening::kernel_lines(kernels_path, &list)),
+        ("bill", due.lines()),
+    ];
+    say(&entries.map(|(label, lines)| page::entry(label, &lines)).concat())?;
+    let step = step_time(mesh, kernels[0]).map_err(|fault| Failure::of_file(mesh_path, fault))?;
+    say(&page::entry("time", &[estimate(step, due.bill.steps)]))
+}
+
+/// The seconds that a step takes: the work on a kernel is done over and over for a fifth of a second, and once at
+/// least. The kernel's exponent is taken as 1, so that nothing is fitted.
+fn step_time(mesh: Mesh<'_>, kernel: Kernel) -> std::result::Result<f64, OpenError> {
+    let mut store = Store::open(opening::farthest(mesh.vertices), mesh)?;
+    let begun = Instant::now();
+    let (mut steps, mut took) = (0, Duration::ZERO);
+    loop {
+        store.put(0, Kernel { alpha: 1.0, ..kernel })?;
+        let portion = Instant::now();
+        steps += store.advance(u64::MAX)?.done;
+        took += portion.elapsed();
+        if begun.elapsed() >= TRIAL_TIME {
+            return Ok(took.as_secs_f64() / steps as f64);
+        }
+    }
+}
+
+/// The time of so many steps, in words.
+fn estimate(step: f64, steps: u64) -> String {
+    let seconds = step * steps as f64;
+    let time = if seconds < 60.0 { format!("{} s", rounded(seconds, 2)) } else { work::time(seconds) };
+    let step = rounded(step * 1e9, 3);
+    format!("about {time} for these steps on this machine: an estimate, from a short run at {step} ns a step")
+}
+
+#[cfg(test)]
+mod tests {
+    use super::*;
+
+    #[test]
+    fn an_estimate_is_the_time_of_all_steps() {
+        let rest = "for these steps on this machine: an estimate, from a short run at";
+        assert_eq!(estimate(150e-9, 21_600), format!("about 0.0032 s {rest} 150 ns a step"));
+        assert_eq!(estimate(200e-9, 1 << 30), format!("about 3 min 35 s {rest} 200 ns a step"));
+    }
+
+    #[test]
+    fn a_step_takes_some_time() {
+        let mesh =
+            Mesh { vertices: &[[0.0, 0.0, 1.0], [1.0, 0.0, 0.0], [0.0, 1.0, 0.0]], faces: &[[0, 1, 2]] };
+        let steep = Kernel { c: [0.0; 3], sigma: 0.5, w: 1.0, alpha: 2.0 };
+        let step = step_time(mesh, steep).unwrap();
+        assert!(step > 0.0 && step < 1.0, "{step}");
+    }
+
+    #[test]
+    fn kernels_that_are_fitted_are_counted() {
+        let mesh = Mesh { vertices: &[], faces: &[] };
+        let kernel = |alpha| Kernel { c: [0.0; 3], sigma: 0.5, w: 1.0, alpha };
+        let fitted = |alphas: &[f64]| {
+            let kernels: Vec<_> = alphas.iter().copied().map(kernel).collect();
+            Due::of(&kernels, mesh).unwrap().fitted
+        };
+        assert_eq!(fitted(&[1.0, f64::NAN, 1.0 + 0.5e-9]), 0);
+        assert_eq!(fitted(&[2.0, 1.0, 0.0, f64::INFINITY, f64::NAN, -7.0, 1.001]), 5);
+    }
+}
