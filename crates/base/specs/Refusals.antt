@@ -1,7 +1,7 @@
 -- The numbers of 01's table of refusals, "The store", and of 02's. Definitions only.
 use Prim.Native.Nat.{ℕ}
 use Rattle.base.specs.declared.refusal.Refusal.{Refusal}
-use Rattle.base.specs.declared.refusal.Refusal.the-variants.{Ragged, Oversize, LooseCorner, ShortStore, Unsound, NoPlace, Vacant, Unfinished, ShortList, BadMatrix, FlatPivot, Exponent, BadLine, BadTrack, ManyKernels, Unclosed}
+use Rattle.base.specs.declared.refusal.Refusal.the-variants.{Ragged, Oversize, LooseCorner, ShortStore, Unsound, NoPlace, Vacant, Unfinished, ShortList, BadMatrix, FlatPivot, Exponent, BadLine, BadTrack, ManyKernels, BadKernelLine, LoadersDiffer, Unclosed}
 
 abbrev pub number : Refusal → ℕ
 -- coordinate or index count not a multiple of 3
@@ -34,5 +34,9 @@ number BadLine = 13
 number BadTrack = 14
 -- more than 32 kernels to be billed (02, L3)
 number ManyKernels = 15
+-- a line isn't of the form of a kernel line (02, L11)
+number BadKernelLine = 20
+-- the strict form finds differing kernels (02, L11)
+number LoadersDiffer = 21
 -- a face names a corner twice, or a directed edge or its reverse does not occur once
 number Unclosed = 22

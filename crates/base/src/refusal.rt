@@ -34,6 +34,10 @@ pub enum Refusal {
     BadTrack,
     // 15: more than 32 kernels are to be billed
     ManyKernels,
+    // 20: a line that is no kernel line
+    BadKernelLine,
+    // 21: the two loaders make different kernels of the lines
+    LoadersDiffer,
     // 22: the mesh is not closed
     Unclosed,
 }
@@ -70,6 +74,8 @@ pub fn refusal_number(refusal: Refusal) -> u32
         Refusal::BadLine => 13,
         Refusal::BadTrack => 14,
         Refusal::ManyKernels => 15,
+        Refusal::BadKernelLine => 20,
+        Refusal::LoadersDiffer => 21,
         Refusal::Unclosed => 22,
     }
 }
