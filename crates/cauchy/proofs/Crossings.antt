@@ -30,6 +30,9 @@ use Rattle.advance.specs.AdvanceAnswer.{advanced}
 use Rattle.bill.specs.declared.Billed.{Billed}
 use Rattle.bill.specs.declared.Billed.the-variants as billing
 use Rattle.bill.specs.BillAnswer.{billed}
+use Rattle.convert.specs.declared.convert.Converted.{Converted}
+use Rattle.convert.specs.declared.convert.Converted.the-variants as converting
+use Rattle.convert.specs.ConvertAnswer.{convertedAs}
 use Rattle.readings.specs.Readings.{reported}
 use Rattle.readings.specs.declared.reports.Reported.{Reported}
 use Rattle.readings.specs.declared.reports.Reported.the-variants as reporting
@@ -43,6 +46,7 @@ use Rattle.readings.specs.TrackAnswer.{trackRead}
 use Rattle.cauchy.specs.Crossing.{numberFrom, piecesFrom, listPiecesFrom}
 use Rattle.cauchy.specs.Volumes.{valueFrom}
 use Rattle.cauchy.specs.Bills.{billFrom}
+use Rattle.cauchy.specs.Files.{convertedFrom}
 use Rattle.cauchy.specs.StoreCrossing.{openedFrom, placedFrom, stepsFrom, reportFrom, listedFrom, trackFrom}
 
 -- the reply of a number and values, which count where the number is 0
@@ -92,3 +96,7 @@ tracked (tracks.Refused r) = rw (never-zero r) refl
 pub bills : (b : Billed) → let c = billFrom (billed b) in told (c .no) (c .steps ∷ c .floats ∷ []) [] ≡ billed b
 bills (billing.Due steps floats) = refl
 bills (billing.Refused r) = rw (never-zero r) refl
+
+pub converts : (o : Converted) → let c = convertedFrom (convertedAs o) in told (c .no) (c .kernels ∷ []) [] ≡ convertedAs o
+converts (converting.Written n) = refl
+converts (converting.Refused r) = rw (never-zero r) refl

@@ -105,12 +105,21 @@ other p (number most f) = false
 other p (real f) = false
 other p (either a b f) = other p a && other p b
 
--- the two forms begin with different words
+-- the form begins with a byte that is no hexadecimal digit
+abbrev pub noHex : Form → Bool
+noHex end = false
+noHex (word [] f) = noHex f
+noHex (word (b ∷ p) f) = leb 16 (digit b)
+noHex (number most f) = false
+noHex (real f) = false
+noHex (either a b f) = noHex a && noHex b
+
+-- the two forms begin with different words, or the first with a float and the second with no digit of one
 abbrev pub apart : Form → Form → Bool
 apart end b = false
 apart (word p f) b = other p b
 apart (number most f) b = false
-apart (real f) b = false
+apart (real f) b = noHex b
 apart (either a a′ f) b = apart a b && apart a′ b
 
 -- the form begins with a byte that is no digit
@@ -122,7 +131,7 @@ stops (number most f) = false
 stops (real f) = false
 stops (either a b f) = stops a && stops b
 
--- a text is read in one way: a number is followed by no digit (and bounded by 64 bits), and of two forms each begins with a word of its own
+-- a text is read in one way: a number is followed by no digit (and bounded by 64 bits), and of two forms each begins with a word of its own, or the first with a float
 abbrev pub clear : Form → Bool
 clear end = true
 clear (word p f) = clear f

@@ -5,12 +5,13 @@ use mathlib.Core.Bool.{Bool, true, false, not, _&&_, _||_}
 use mathlib.Core.Logic.{_⊎_, inl, inr}
 use Prim.Native.Nat.{ℕ, _<_, _≤_, _^_}
 use lib.Dec.{T, eqb, leb, ltb, leb→le, ltb→lt}
+use borrow.Author.Tests.{le-ltb}
 use lib.Ieee.{Float, binary64, toBits, isNan}
 use lib.Ieee.Bits.{ofBits-toBits, toBits-lt, toBits-ofBits}
 use Rattle.base.specs.Floats.{bits}
 use Rattle.text.specs.Text.{Text, lost, left, Got, strip, keepIf, digit, pattern, patternFrom, float, decimal}
 use Rattle.text.specs.Print.{decimalText, patternText, floatText}
-use Rattle.text.specs.Form.{Form, end, word, number, real, either, Vals, map, choose, orAt, or, pair, read, print, Spells, Fit, NoNan, differ, other, apart, stops, clear}
+use Rattle.text.specs.Form.{Form, end, word, number, real, either, Vals, map, choose, orAt, or, pair, read, print, Spells, Fit, NoNan, differ, other, noHex, apart, stops, clear}
 use Rattle.text.specs.Tokens.{literal-back, literal-inv, not-lost, pattern-back, pattern-inv, NoDigit, decimal-back, decimal-inv}
 
 -- ---- what is printed spells the values
@@ -99,12 +100,26 @@ other-lost p (real f) v l r o s = absurd o
 other-lost p (either a b f) (inl v, w) l r o s = other-lost p a v l (s .0) (both (other p a) (other p b) o .0) (s .1)
 other-lost p (either a b f) (inr v, w) l r o s = other-lost p b v l (s .0) (both (other p a) (other p b) o .1) (s .1)
 
+-- no float is found where the form begins with no digit of one
+first-hex : (b : ℕ) (m : List ℕ) → 16 ≤ digit b → float (left (b ∷ m)) .text ≡ lost
+unfolding float patternFrom
+first-hex b m h = rw (le-ltb (digit b) 16 h) refl
+
+hex-lost : (f : Form) (v : Vals f) (l r : List ℕ) → T (noHex f) → Spells f v l r → float (left l) .text ≡ lost
+hex-lost end v l r o s = absurd o
+hex-lost (word [] f) v l r o s = hex-lost f v l r o (subst (λ (m : List ℕ). Spells f v m r) (sym (s .1)) (s .2))
+hex-lost (word (b ∷ p) f) v l r o s = ap (λ (m : List ℕ). float (left m) .text) (s .1) ∙ first-hex b (p ++ s .0) (leb→le 16 (digit b) o)
+hex-lost (number most f) v l r o s = absurd o
+hex-lost (real f) v l r o s = absurd o
+hex-lost (either a b f) (inl v, w) l r o s = hex-lost a v l (s .0) (both (noHex a) (noHex b) o .0) (s .1)
+hex-lost (either a b f) (inr v, w) l r o s = hex-lost b v l (s .0) (both (noHex a) (noHex b) o .1) (s .1)
+
 -- the one form finds nothing where the other stands
 apart-lost : (f g : Form) (v : Vals g) (l r : List ℕ) → T (apart f g) → Spells g v l r → read f (left l) .text ≡ lost
 apart-lost end g v l r o s = absurd o
 apart-lost (word p f) g v l r o s = ap (λ (t : Text). read f t .text) (other-lost p g v l r o s) ∙ read-lost f
 apart-lost (number most f) g v l r o s = absurd o
-apart-lost (real f) g v l r o s = absurd o
+apart-lost (real f) g v l r o s = ap (λ (t : Text). read f t .text) (hex-lost g v l r o s) ∙ read-lost f
 apart-lost (either a b f) g v l r o s =
     ap (λ (t : Text). read f t .text)
     (ap (λ (h : Got (Vals a ⊎ Vals b)). h .text) (or-second (map inl (read a (left l))) (map inr (read b (left l))) (apart-lost a g v l r (both (apart a g) (apart b g) o .0) s)) ∙ apart-lost b g v l r (both (apart a g) (apart b g) o .1) s)

@@ -50,3 +50,12 @@ at-most (either a b f) (inl v, w) l r s =
     omega (arith, le-max-left (longest a) (longest b), at-most a v l (s .0) (s .1), at-most f w (s .0) r (s .2))
 at-most (either a b f) (inr v, w) l r s =
     omega (arith, le-max-right (longest a) (longest b), at-most b v l (s .0) (s .1), at-most f w (s .0) r (s .2))
+
+-- what stands after a form is no longer than the text
+pub at-least : (f : Form) (v : Vals f) (l r : List ℕ) → Spells f v l r → length r ≤ length l
+at-least end v l r s = omega (arith, ap length s)
+at-least (word p f) v l r s = omega (arith, joined p (s .0) (s .1), at-least f v (s .0) r (s .2))
+at-least (number most f) v l r s = omega (arith, joined (decimalText (v .0)) (s .0) (s .1), at-least f (v .1) (s .0) r (s .3))
+at-least (real f) v l r s = omega (arith, joined (patternText (s .0)) (s .1) (s .2), at-least f (v .1) (s .1) r (s .5))
+at-least (either a b f) (inl v, w) l r s = omega (arith, at-least a v l (s .0) (s .1), at-least f w (s .0) r (s .2))
+at-least (either a b f) (inr v, w) l r s = omega (arith, at-least b v l (s .0) (s .1), at-least f w (s .0) r (s .2))

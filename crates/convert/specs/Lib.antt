@@ -1,0 +1,6 @@
+pub mod Loaders
+pub mod Lines
+pub mod Convert
+pub mod ConvertAnswer
+pub mod ConvertLaws
+pub mod LineLaws
