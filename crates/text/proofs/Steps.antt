@@ -1,14 +1,16 @@
 -- One step of a token at a position: what `rest` is there, and what the token's definition makes of it. Assumes nothing.
-use mathlib.Core.Path.{_≡_, refl, ap, _∙_}
+use mathlib.Core.Path.{_≡_, refl, sym, ap, _∙_}
 use mathlib.Core.List.{List, [], _∷_}
-use Prim.Native.Nat.{ℕ, suc, _+_, _-_, _*_, _^_, _<_, _≤_}
+use mathlib.Core.Bool.{Bool, true, false, _&&_, cond}
+use Prim.Native.Nat.{ℕ, zero, suc, _+_, _-_, _*_, _^_, _<_, _≤_}
 use native.Mathlib.Nat.{pow-suc, pow-le-pow-right, lt-of-lt-of-le}
 use native.Mathlib.Numerals.{add-one}
+use native.Mathlib.Decide.{decLt}
 use native.Mathlib.Omega.{arith}
 use lib.ListN.{length, drop, getD}
 use lib.Seq.{drop-cons, drop-length}
-use lib.Dec.{lit<}
-use borrow.Author.Tests.{le-leb, lt-leb, eq-eqb, ne-eqb, lt-ltb, le-ltb}
+use lib.Dec.{lit<, ltb}
+use borrow.Author.Tests.{le-leb, lt-leb, eq-eqb, ne-eqb, lt-ltb, le-ltb, ltb-true}
 use Rattle.text.specs.Text.{Text, lost, left, rest, literal, digit, patternFrom, decimalFrom, decimal, missing, Got}
 use Rattle.text.specs.TextLaws.{rest-past, rest-whole, rest-cons, rest-next, rest-none}
 
@@ -37,26 +39,43 @@ pattern-room i {v} {d} hv hd = rw (add-one i, pow-suc) (let h : v * 16 + 16 ≤ 
 pub pattern-word : (i : ℕ) {v : ℕ} → i ≤ 16 → v < 16 ^ i → v < 2 ^ 64
 pattern-word i hi hv = lt-of-lt-of-le hv (pow-le-pow-right (lit< tt) hi)
 
-pub pattern-done : (v : ℕ) (t : Text) → patternFrom 0 v t ≡ record { val = v; text = t }
+-- fewer bytes than digits
+pub pattern-few : (s : List ℕ) (k v at : ℕ) → length s < at + suc k → patternFrom (suc k) v (rest s at) ≡ missing
 unfolding patternFrom
-pattern-done v t = refl
+pattern-few s zero v at h = rest-none (λ t. patternFrom 1 v t ≡ missing) s at (omega arith) refl refl
+pattern-few s (suc j) v at h = go (decLt at (length s)) (pattern-few s j (v * 16 + digit (getD s at 0)) (at + 1) (omega arith))
+  where
+    same : (b : Bool) → cond b missing missing ≡ missing
+    same true = refl
+    same false = refl
 
-module _ (s : List ℕ) (i k v : ℕ) (hi : i < 16) where
-  more : 16 - i ≡ suc (16 - (i + 1))
-  more = omega arith
+    go : Dec (at < length s) → patternFrom (suc j) (v * 16 + digit (getD s at 0)) (rest s (at + 1)) ≡ missing → patternFrom (suc (suc j)) v (rest s at) ≡ missing
+    go (no n) ih = rest-none (λ t. patternFrom (suc (suc j)) v t ≡ missing) s at (omega arith) refl refl
+    go (yes l) ih =
+        let e : patternFrom (suc j) (v * 16 + digit (getD s at 0)) (left (drop (suc at) s)) ≡ missing
+        = ap (patternFrom (suc j) (v * 16 + digit (getD s at 0))) (sym (rest-next s at l)) ∙ ih in
+        rw (rest-cons s at l, e) (same (ltb (digit (getD s at 0)) 16))
 
-  pub pattern-same : k < length s → digit (getD s k 0) < 16
-      → patternFrom (16 - i) v (rest s k) ≡ patternFrom (16 - (i + 1)) (v * 16 + digit (getD s k 0)) (rest s (k + 1))
-  unfolding patternFrom
-  pattern-same hk h = rw (more, rest-cons s k hk, rest-next s k hk, lt-ltb _ _ h)
+-- a byte more, whatever the flag: d is its value, where it is a digit
+pub pattern-turn : (s : List ℕ) (at i v d : ℕ) (all : Bool) → i < 16 → at + i < length s → (digit (getD s (at + i) 0) < 16 → d ≡ digit (getD s (at + i) 0))
+    → cond all (patternFrom (16 - i) v (rest s (at + i))) missing
+    ≡ cond (all && ltb (digit (getD s (at + i) 0)) 16) (patternFrom (16 - (i + 1)) (v * 16 + d) (rest s (at + (i + 1)))) missing
+unfolding patternFrom
+pattern-turn s at i v d false hi hk e = refl
+pattern-turn s at i v d true hi hk e = go (ltb (digit (getD s (at + i) 0)) 16) refl
+  where
+    more : 16 - i ≡ suc (16 - (i + 1))
+    more = omega arith
 
-  pub pattern-other : k < length s → 16 ≤ digit (getD s k 0) → patternFrom (16 - i) v (rest s k) ≡ missing
-  unfolding patternFrom
-  pattern-other hk h = rw (more, rest-cons s k hk, le-ltb _ _ h)
+    next : at + (i + 1) ≡ at + i + 1
+    next = omega arith
 
-  pub pattern-short : length s ≤ k → patternFrom (16 - i) v (rest s k) ≡ missing
-  unfolding patternFrom
-  pattern-short hk = rw more (rest-none (λ t. patternFrom (suc (16 - (i + 1))) v t ≡ missing) s k hk refl refl)
+    go : (g : Bool) → ltb (digit (getD s (at + i) 0)) 16 ≡ g
+        → patternFrom (16 - i) v (rest s (at + i)) ≡ cond g (patternFrom (16 - (i + 1)) (v * 16 + d) (rest s (at + (i + 1)))) missing
+    go true q =
+        let f = e (ltb-true _ 16 q) in
+        rw (more, rest-cons s (at + i) hk, q, next, rest-next s (at + i) hk, f) refl
+    go false q = rw (more, rest-cons s (at + i) hk, q) refl
 
 module _ (s : List ℕ) (most k v : ℕ) (hk : k < length s) where
   decimal-cons : decimalFrom most v (drop k s) ≡ decimalFrom most v (getD s k 0 ∷ drop (suc k) s)
