@@ -1,7 +1,7 @@
 -- One step of a token at a position: what `rest` is there, and what the token's definition makes of it. Assumes nothing.
 use mathlib.Core.Path.{_≡_, refl, sym, ap, _∙_}
 use mathlib.Core.List.{List, [], _∷_}
-use mathlib.Core.Bool.{Bool, true, false, _&&_, cond}
+use mathlib.Core.Bool.{true, false, _&&_, and-false, and-eq-true-iff}
 use Prim.Native.Nat.{ℕ, zero, suc, _+_, _-_, _*_, _^_, _<_, _≤_}
 use native.Mathlib.Nat.{pow-suc, pow-le-pow-right, lt-of-lt-of-le}
 use native.Mathlib.Numerals.{add-one}
@@ -11,8 +11,8 @@ use lib.ListN.{length, drop, getD}
 use lib.Seq.{drop-cons, drop-length}
 use lib.Dec.{lit<, ltb}
 use borrow.Author.Tests.{le-leb, lt-leb, eq-eqb, ne-eqb, lt-ltb, le-ltb, ltb-true}
-use Rattle.text.specs.Text.{Text, lost, left, rest, literal, digit, patternFrom, decimalFrom, decimal, missing, Got}
-use Rattle.text.specs.TextLaws.{rest-past, rest-whole, rest-cons, rest-next, rest-none}
+use Rattle.text.specs.Text.{Text, lost, left, rest, literal, digit, pattern, patternFrom, decimalFrom, decimal, missing, Got}
+use Rattle.text.specs.TextLaws.{rest-past, rest-whole, rest-cons, rest-next, rest-none, hexes, no-pattern}
 
 module _ (p s : List ℕ) (i k : ℕ) (hi : i < length p) where
   pub literal-same : k < length s → getD s k 0 ≡ getD p i 0 → literal (drop i p) (rest s k) ≡ literal (drop (i + 1) p) (rest s (k + 1))
@@ -39,43 +39,51 @@ pattern-room i {v} {d} hv hd = rw (add-one i, pow-suc) (let h : v * 16 + 16 ≤ 
 pub pattern-word : (i : ℕ) {v : ℕ} → i ≤ 16 → v < 16 ^ i → v < 2 ^ 64
 pattern-word i hi hv = lt-of-lt-of-le hv (pow-le-pow-right (lit< tt) hi)
 
+-- the digits from position at + i on: one of them, and those after it
+module _ (s : List ℕ) (at i : ℕ) (hi : i < 16) (hk : at + i < length s) where
+  more : 16 - i ≡ suc (16 - (i + 1))
+  more = omega arith
+
+  next : at + (i + 1) ≡ at + i + 1
+  next = omega arith
+
+  pub hexes-turn : hexes (16 - i) (rest s (at + i)) ≡ ltb (digit (getD s (at + i) 0)) 16 && hexes (16 - (i + 1)) (rest s (at + (i + 1)))
+  unfolding hexes
+  hexes-turn = rw (more, rest-cons s (at + i) hk, next, rest-next s (at + i) hk) refl
+
+  -- where digits stand, the first is one, and the others are
+  pub hexes-first : hexes (16 - i) (rest s (at + i)) ≡ true → (digit (getD s (at + i) 0) < 16) × (hexes (16 - (i + 1)) (rest s (at + (i + 1))) ≡ true)
+  hexes-first h =
+      let g = and-eq-true-iff (ltb (digit (getD s (at + i) 0)) 16) (hexes (16 - (i + 1)) (rest s (at + (i + 1)))) .0 (sym hexes-turn ∙ h) in
+      (ltb-true (digit (getD s (at + i) 0)) 16 (g .0), g .1)
+
+  pub pattern-turn : (v : ℕ) → digit (getD s (at + i) 0) < 16
+      → patternFrom (16 - i) v (rest s (at + i)) ≡ patternFrom (16 - (i + 1)) (v * 16 + digit (getD s (at + i) 0)) (rest s (at + (i + 1)))
+  unfolding patternFrom
+  pattern-turn v h = rw (more, rest-cons s (at + i) hk, next, rest-next s (at + i) hk, lt-ltb _ _ h) refl
+
 -- fewer bytes than digits
-pub pattern-few : (s : List ℕ) (k v at : ℕ) → length s < at + suc k → patternFrom (suc k) v (rest s at) ≡ missing
-unfolding patternFrom
-pattern-few s zero v at h = rest-none (λ t. patternFrom 1 v t ≡ missing) s at (omega arith) refl refl
-pattern-few s (suc j) v at h = go (decLt at (length s)) (pattern-few s j (v * 16 + digit (getD s at 0)) (at + 1) (omega arith))
+pub hexes-few : (s : List ℕ) (k at : ℕ) → length s < at + suc k → hexes (suc k) (rest s at) ≡ false
+unfolding hexes
+hexes-few s zero at h = rest-none (λ t. hexes 1 t ≡ false) s at (omega arith) refl refl
+hexes-few s (suc j) at h = go (decLt at (length s)) (hexes-few s j (at + 1) (omega arith))
   where
-    same : (b : Bool) → cond b missing missing ≡ missing
-    same true = refl
-    same false = refl
-
-    go : Dec (at < length s) → patternFrom (suc j) (v * 16 + digit (getD s at 0)) (rest s (at + 1)) ≡ missing → patternFrom (suc (suc j)) v (rest s at) ≡ missing
-    go (no n) ih = rest-none (λ t. patternFrom (suc (suc j)) v t ≡ missing) s at (omega arith) refl refl
+    go : Dec (at < length s) → hexes (suc j) (rest s (at + 1)) ≡ false → hexes (suc (suc j)) (rest s at) ≡ false
+    go (no n) ih = rest-none (λ t. hexes (suc (suc j)) t ≡ false) s at (omega arith) refl refl
     go (yes l) ih =
-        let e : patternFrom (suc j) (v * 16 + digit (getD s at 0)) (left (drop (suc at) s)) ≡ missing
-        = ap (patternFrom (suc j) (v * 16 + digit (getD s at 0))) (sym (rest-next s at l)) ∙ ih in
-        rw (rest-cons s at l, e) (same (ltb (digit (getD s at 0)) 16))
+        let e : hexes (suc j) (left (drop (suc at) s)) ≡ false = ap (hexes (suc j)) (sym (rest-next s at l)) ∙ ih in
+        rw (rest-cons s at l, e) (and-false (ltb (digit (getD s at 0)) 16))
 
--- a byte more, whatever the flag: d is its value, where it is a digit
-pub pattern-turn : (s : List ℕ) (at i v d : ℕ) (all : Bool) → i < 16 → at + i < length s → (digit (getD s (at + i) 0) < 16 → d ≡ digit (getD s (at + i) 0))
-    → cond all (patternFrom (16 - i) v (rest s (at + i))) missing
-    ≡ cond (all && ltb (digit (getD s (at + i) 0)) 16) (patternFrom (16 - (i + 1)) (v * 16 + d) (rest s (at + (i + 1)))) missing
+pub few : (s : List ℕ) (at : ℕ) → length s < at + 16 → missing ≡ pattern (rest s at)
+few s at h = sym (no-pattern 16 0 (rest s at) (hexes-few s 15 at h))
+
+pub pattern-done : (v : ℕ) (t : Text) → patternFrom 0 v t ≡ record { val = v; text = t }
 unfolding patternFrom
-pattern-turn s at i v d false hi hk e = refl
-pattern-turn s at i v d true hi hk e = go (ltb (digit (getD s (at + i) 0)) 16) refl
-  where
-    more : 16 - i ≡ suc (16 - (i + 1))
-    more = omega arith
+pattern-done v t = refl
 
-    next : at + (i + 1) ≡ at + i + 1
-    next = omega arith
-
-    go : (g : Bool) → ltb (digit (getD s (at + i) 0)) 16 ≡ g
-        → patternFrom (16 - i) v (rest s (at + i)) ≡ cond g (patternFrom (16 - (i + 1)) (v * 16 + d) (rest s (at + (i + 1)))) missing
-    go true q =
-        let f = e (ltb-true _ 16 q) in
-        rw (more, rest-cons s (at + i) hk, q, next, rest-next s (at + i) hk, f) refl
-    go false q = rw (more, rest-cons s (at + i) hk, q) refl
+pub hexes-done : (t : Text) → hexes 0 t ≡ true
+unfolding hexes
+hexes-done t = refl
 
 module _ (s : List ℕ) (most k v : ℕ) (hk : k < length s) where
   decimal-cons : decimalFrom most v (drop k s) ≡ decimalFrom most v (getD s k 0 ∷ drop (suc k) s)
