@@ -19,7 +19,7 @@ use Rattle.kernel.specs.KernelLaws.{kernel-set-length}
 use Rattle.text.specs.Text.{left, rest, got}
 use Rattle.text.specs.TextLaws.{rest-all}
 use Rattle.convert.specs.Loaders.{loaded, allAlike}
-use Rattle.convert.specs.Lines.{fileLine, fileLines, filed, linesIn, ended}
+use Rattle.convert.specs.Lines.{fileLine, filed, linesIn, whole}
 use Rattle.convert.specs.Convert.{laidFrom, strictCheck, conversion}
 use Rattle.convert.specs.declared.file.FileKernel.{FileKernel}
 use Rattle.convert.specs.declared.file.Loader.{Loader}
@@ -70,24 +70,24 @@ on true h = refl
 on false h = sym h
 
 -- ---- what `convert` answers, with the scan and the strict check as they came out
-module _ (s : List ℕ) (d : Float) (loader : Loader) (xs : List Float) {n : ℕ} {same whole : Bool}
-    (lines : n ≡ length (filed s)) (agree : same ≡ allAlike d (filed s)) (text : whole ≡ ended (fileLines (length s) (left s) .text)) where
-  pub bad-line : not whole ≡ true → outcome (refused BadKernelLine) xs ≡ conversion s d loader xs
+module _ (s : List ℕ) (d : Float) (loader : Loader) (xs : List Float) {n : ℕ} {same good : Bool}
+    (lines : n ≡ length (filed s)) (agree : same ≡ allAlike d (filed s)) (text : good ≡ whole s) where
+  pub bad-line : not good ≡ true → outcome (refused BadKernelLine) xs ≡ conversion s d loader xs
   unfolding conversion
-  bad-line h = rw (← text, off whole h) refl
+  bad-line h = rw (← text, off good h) refl
 
-  module _ (good : not whole ≡ false) where
+  module _ (full : not good ≡ false) where
     pub too-short : length xs / 6 < n → outcome (refused ShortList) xs ≡ conversion s d loader xs
     unfolding conversion
-    too-short h = rw (← text, on whole good, ← lines, lt-leb (6 * n) (length xs) (omega arith)) refl
+    too-short h = rw (← text, on good full, ← lines, lt-leb (6 * n) (length xs) (omega arith)) refl
 
     module _ (room : n ≤ length xs / 6) {checked : Checked} (strict : checked ≡ strictCheck loader same) where
       pub differs : {r : Refusal} → checked ≡ Failed r → outcome (refused r) xs ≡ conversion s d loader xs
       unfolding conversion
-      differs e = rw (← text, on whole good, ← lines, le-leb (6 * n) (length xs) (omega arith), ← agree, ← strict, e) refl
+      differs e = rw (← text, on good full, ← lines, le-leb (6 * n) (length xs) (omega arith), ← agree, ← strict, e) refl
 
       pub writes : {ys : List Float} → checked ≡ Passed → ys ≡ laidFrom (map (loaded loader d) (linesIn n (left s))) 0 xs → outcome (counted (n ∷ [])) ys ≡ conversion s d loader xs
       unfolding conversion
       writes e w =
           let a : linesIn n (left s) ≡ filed s = ap (λ (m : ℕ). linesIn m (left s)) lines ∙ first-lines (length s) (left s) in
-          rw (← text, on whole good, le-leb (6 * length (filed s)) (length xs) (omega (arith, lines)), ← agree, ← strict, e, w, a, lines) refl
+          rw (← text, on good full, le-leb (6 * length (filed s)) (length xs) (omega (arith, lines)), ← agree, ← strict, e, w, a, lines) refl

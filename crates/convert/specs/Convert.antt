@@ -8,17 +8,16 @@ use Rattle.base.specs.Answers.{counted, Outcome, outcome, guardedRun, roomCheck
 use Rattle.base.specs.declared.refusal.Refusal.the-variants.{BadKernelLine, LoadersDiffer}
 use Rattle.base.specs.declared.refusal.Checked.{Checked}
 use Rattle.base.specs.declared.refusal.Checked.the-variants.{Passed, Failed}
-use Rattle.text.specs.Text.{left}
 use Rattle.kernel.specs.declared.kernel.Kernel.{Kernel}
 use Rattle.kernel.specs.Kernels.{kernelSet}
 use Rattle.convert.specs.Loaders.{loaded, allAlike}
-use Rattle.convert.specs.Lines.{fileLines, filed, ended}
+use Rattle.convert.specs.Lines.{filed, whole}
 use Rattle.convert.specs.declared.file.Loader.{Loader}
 use Rattle.convert.specs.declared.file.Loader.the-variants.{Native, Source, Strict}
 
 -- "20 when a line isn't of this form, ahead of 9"
 abbrev pub lineCheck : Bool → Checked
-lineCheck whole = cond whole Passed (Failed BadKernelLine)
+lineCheck good = cond good Passed (Failed BadKernelLine)
 
 -- "21 when the strict form finds differing kernels, after 9"
 abbrev pub strictCheck : Loader → Bool → Checked
@@ -31,9 +30,10 @@ abbrev pub laidFrom : List Kernel → ℕ → List Float → List Float
 laidFrom [] i xs = xs
 laidFrom (k ∷ ks) i xs = laidFrom ks (suc i) (kernelSet xs i k)
 
+-- 20, 9, 21, of the lines s and a run of so much room
 abbrev pub conversionCheck : List ℕ → Float → Loader → ℕ → Checked
 conversionCheck s default loader room =
-    andThen (lineCheck (ended (fileLines (length s) (left s) .text)))
+    andThen (lineCheck (whole s))
     (andThen (roomCheck (6 * length (filed s)) room) (strictCheck loader (allAlike default (filed s))))
 
 -- "writes six floats per line, in order, and answers the kernel count"

@@ -1,4 +1,4 @@
--- Theorems of the converter: the strict form accepts exactly the lists on which both loaders give equal kernels, and there all three write the same. Assumes nothing.
+-- Theorems of the converter: the strict form "accepts exactly the lists on which both give equal kernels", there all three write the same, and a list whose exponents are above 0 is one of them. Assumes nothing.
 use mathlib.Core.Path.{_≡_, refl, sym, ap, _∙_}
 use mathlib.Core.Bool.{Bool, true, false, _&&_, cond, and-eq-true-iff}
 use mathlib.Core.List.{List, [], _∷_, map}
@@ -21,7 +21,7 @@ use Rattle.kernel.specs.File.{exponentOr, fromFile}
 use Rattle.text.specs.Text.{Text, lost, left, bytes, literal, float, pattern}
 use Rattle.text.specs.Form.{end, read, map as mapped, orAt}
 use Rattle.convert.specs.Loaders.{nativeOf, sourceOf, givenOr, loaded, sameFloat, sameKernel, alike, allAlike}
-use Rattle.convert.specs.Lines.{givenForm, missingForm, toExponent, fileLine, fileLines, filed, ended}
+use Rattle.convert.specs.Lines.{givenForm, missingForm, toExponent, fileLine, fileLines, filed, whole}
 use Rattle.convert.specs.Convert.{laidFrom, conversionCheck, conversion}
 use Rattle.convert.specs.declared.file.FileKernel.{FileKernel}
 use Rattle.convert.specs.declared.file.Loader.the-variants.{Native, Source, Strict}
@@ -64,14 +64,20 @@ last-of true true false d e f h = cc
 last-of true false c d e f h = cc
 last-of false b c d e f h = cc
 
+-- both loaders' kernels differ in the exponent alone
+by-exponent : (d : Float) (f : FileKernel) → exponentOr (f .exponent) d ≡ givenOr (f .exponent) d → nativeOf d f ≡ sourceOf d f
+unfolding nativeOf sourceOf fromFile
+by-exponent d f e =
+    let n = nativeOf d f in
+    (λ i. record { c = n .c; sigma = n .sigma; w = n .w; alpha = e i })
+
 pub alike-equal : (d : Float) (f : FileKernel) → T (fits binary64 d) → Formed (f .exponent) → alike d f ≡ true → nativeOf d f ≡ sourceOf d f
 unfolding alike nativeOf sourceOf fromFile
 alike-equal d f g h e =
     let n = nativeOf d f in
     let s = sourceOf d f in
     let a = last-of (sameFloat (getD (n .c) 0 nan) (getD (s .c) 0 nan)) (sameFloat (getD (n .c) 1 nan) (getD (s .c) 1 nan)) (sameFloat (getD (n .c) 2 nan) (getD (s .c) 2 nan)) (sameFloat (n .sigma) (s .sigma)) (sameFloat (n .w) (s .w)) (sameFloat (n .alpha) (s .alpha)) e in
-    let b = same-is (exponentOr (f .exponent) d) (givenOr (f .exponent) d) (or-fits (f .exponent) d h g) (given-fits (f .exponent) d h g) a in
-    (λ i. record { c = n .c; sigma = n .sigma; w = n .w; alpha = b i })
+    by-exponent d f (same-is (exponentOr (f .exponent) d) (givenOr (f .exponent) d) (or-fits (f .exponent) d h g) (given-fits (f .exponent) d h g) a)
 
 same-kernel : (k : Kernel) → sameKernel k k ≡ true
 same-kernel k = simp same-self
@@ -105,6 +111,24 @@ all-alike d [] e = refl
 all-alike d (f ∷ fs) e =
     and-eq-true-iff (alike d f) (allAlike d fs) .1 (equal-alike d f (ap (λ (l : List Kernel). firstOf l (nativeOf d f)) e), all-alike d fs (ap othersOf e))
 
+-- an exponent above 0, which both loaders keep, or a missing one, for which both take the default
+abbrev pub Above : Exponent → Type 0
+Above (Given alpha) = lt +0 alpha ≡ true
+Above Missing = Unit {0}
+
+abbrev pub AllAbove : List FileKernel → Type 0
+AllAbove [] = Unit {0}
+AllAbove (f ∷ fs) = Above (f .exponent) × AllAbove fs
+
+above-same : (e : Exponent) (d : Float) → Above e → exponentOr e d ≡ givenOr e d
+unfolding exponentOr givenOr
+above-same (Given a) d h = rw h refl
+above-same Missing d h = refl
+
+pub above-equal : (d : Float) (fs : List FileKernel) → AllAbove fs → map (nativeOf d) fs ≡ map (sourceOf d) fs
+above-equal d [] h = refl
+above-equal d (f ∷ fs) h = (λ i. by-exponent d f (above-same (f .exponent) d (h .0)) i ∷ above-equal d fs (h .1) i)
+
 -- every exponent that is read is of the format
 exponent-formed : (u t : Text) → Formed (toExponent (orAt u (mapped inl (read givenForm t)) (mapped inr (read missingForm t)) .val, tt))
 unfolding float
@@ -130,48 +154,66 @@ all-formed (suc most) (left []) = tt
 all-formed (suc most) (left (b ∷ l)) = (line-formed (left (b ∷ l)), all-formed most (fileLine (left (b ∷ l)) .text))
 
 -- ---- the call: s the lines, d the default, xs the lent run
-pub record StrictHolds (s : List ℕ) (d : Float) (xs : List Float) : Type 0 where
-  -- where both loaders give equal kernels, the strict form answers and writes what either does
-  pub accepts : map (nativeOf d) (filed s) ≡ map (sourceOf d) (filed s) → (conversion s d Strict xs ≡ conversion s d Native xs) × (conversion s d Strict xs ≡ conversion s d Source xs)
-  -- where they do not, and nothing else is refused, it refuses
-  pub refuses : (map (nativeOf d) (filed s) ≡ map (sourceOf d) (filed s) → ⊥) → conversionCheck s d Native (length xs) ≡ Passed → conversion s d Strict xs ≡ outcome (refused LoadersDiffer) xs
-  -- so what it accepts is equal
-  pub only-equal : conversion s d Strict xs .reply .refusal ≡ 0 → map (nativeOf d) (filed s) ≡ map (sourceOf d) (filed s)
 
-module _ (s : List ℕ) (d : Float) (xs : List Float) (g : T (fits binary64 d)) where
-  accepted : map (nativeOf d) (filed s) ≡ map (sourceOf d) (filed s) → (conversion s d Strict xs ≡ conversion s d Native xs) × (conversion s d Strict xs ≡ conversion s d Source xs)
+-- both loaders give equal kernels
+abbrev pub Equal : List ℕ → Float → Type 0
+Equal s d = map (nativeOf d) (filed s) ≡ map (sourceOf d) (filed s)
+
+-- the strict form answers what both loaders answer, and leaves the run that both leave
+abbrev pub AsBoth : List ℕ → Float → List Float → Type 0
+AsBoth s d xs = (conversion s d Strict xs ≡ conversion s d Native xs) × (conversion s d Strict xs ≡ conversion s d Source xs)
+
+pub record StrictHolds (s : List ℕ) (d : Float) (xs : List Float) : Type 0 where
+  -- equal kernels are accepted
+  pub accepts : Equal s d → AsBoth s d xs
+  -- others are refused, where the native loader refuses nothing
+  pub refuses : (Equal s d → ⊥) → conversionCheck s d Native (length xs) ≡ Passed → conversion s d Strict xs ≡ outcome (refused LoadersDiffer) xs
+  -- what is accepted is equal, and all three give the same run
+  pub only-equal : conversion s d Strict xs .reply .refusal ≡ 0 → Equal s d × AsBoth s d xs
+  -- a list with every exponent given and above 0 is accepted, whatever the default
+  pub above : AllAbove (filed s) → AsBoth s d xs
+
+module _ (s : List ℕ) (d : Float) (xs : List Float) where
+  accepted : Equal s d → AsBoth s d xs
   unfolding conversion loaded
   accepted e =
       let a = all-alike d (filed s) e in
       (rw a refl, rw (a, e) refl)
 
-  not-alike : (map (nativeOf d) (filed s) ≡ map (sourceOf d) (filed s) → ⊥) → allAlike d (filed s) ≡ false
-  not-alike n = go (allAlike d (filed s)) refl
-    where
-      go : (b : Bool) → allAlike d (filed s) ≡ b → b ≡ false
-      go true e = absurd (n (all-equal d (filed s) g (all-formed (length s) (left s)) e))
-      go false e = refl
+  module _ (g : T (fits binary64 d)) where
+    not-alike : (Equal s d → ⊥) → allAlike d (filed s) ≡ false
+    not-alike n = go (allAlike d (filed s)) refl
+      where
+        go : (b : Bool) → allAlike d (filed s) ≡ b → b ≡ false
+        go true e = absurd (n (all-equal d (filed s) g (all-formed (length s) (left s)) e))
+        go false e = refl
 
-  refused-21 : (map (nativeOf d) (filed s) ≡ map (sourceOf d) (filed s) → ⊥) → conversionCheck s d Native (length xs) ≡ Passed → conversion s d Strict xs ≡ outcome (refused LoadersDiffer) xs
-  unfolding conversion
-  refused-21 n p = rw (not-alike n) (go (ended (fileLines (length s) (left s) .text)) (leb (6 * length (filed s)) (length xs)) (outcome (counted (length (filed s) ∷ [])) (laidFrom (map (loaded Strict d) (filed s)) 0 xs)) p)
-    where
-      go : (a b : Bool) (o : Outcome) → andThen (cond a Passed (Failed BadKernelLine)) (andThen (cond b Passed (Failed ShortList)) Passed) ≡ Passed
-          → guardedRun (andThen (cond a Passed (Failed BadKernelLine)) (andThen (cond b Passed (Failed ShortList)) (Failed LoadersDiffer))) xs o ≡ outcome (refused LoadersDiffer) xs
-      go true true o p = refl
-      go true false o p = absurd (let z : _≡_ {A = ℕ} 0 1 = cc in omega arith)
-      go false b o p = absurd (let z : _≡_ {A = ℕ} 0 1 = cc in omega arith)
+    refused-21 : (Equal s d → ⊥) → conversionCheck s d Native (length xs) ≡ Passed → conversion s d Strict xs ≡ outcome (refused LoadersDiffer) xs
+    unfolding conversion
+    refused-21 n p = rw (not-alike n) (go (whole s) (leb (6 * length (filed s)) (length xs)) (outcome (counted (length (filed s) ∷ [])) (laidFrom (map (loaded Strict d) (filed s)) 0 xs)) p)
+      where
+        go : (a b : Bool) (o : Outcome) → andThen (cond a Passed (Failed BadKernelLine)) (andThen (cond b Passed (Failed ShortList)) Passed) ≡ Passed
+            → guardedRun (andThen (cond a Passed (Failed BadKernelLine)) (andThen (cond b Passed (Failed ShortList)) (Failed LoadersDiffer))) xs o ≡ outcome (refused LoadersDiffer) xs
+        go true true o p = refl
+        go true false o p = absurd (let z : _≡_ {A = ℕ} 0 1 = cc in omega arith)
+        go false b o p = absurd (let z : _≡_ {A = ℕ} 0 1 = cc in omega arith)
 
-  only-equals : conversion s d Strict xs .reply .refusal ≡ 0 → map (nativeOf d) (filed s) ≡ map (sourceOf d) (filed s)
-  unfolding conversion
-  only-equals h = all-equal d (filed s) g (all-formed (length s) (left s)) (go (ended (fileLines (length s) (left s) .text)) (leb (6 * length (filed s)) (length xs)) (allAlike d (filed s)) (length (filed s)) (laidFrom (map (loaded Strict d) (filed s)) 0 xs) h)
-    where
-      go : (a b c : Bool) (n : ℕ) (ys : List Float) → guardedRun (andThen (cond a Passed (Failed BadKernelLine)) (andThen (cond b Passed (Failed ShortList)) (cond c Passed (Failed LoadersDiffer)))) xs (outcome (counted (n ∷ [])) ys) .reply .refusal ≡ 0 → c ≡ true
-      go true true true n ys h = refl
-      go true true false n ys h = absurd (omega arith)
-      go true false c n ys h = absurd (omega arith)
-      go false b c n ys h = absurd (omega arith)
+    equal-only : conversion s d Strict xs .reply .refusal ≡ 0 → Equal s d
+    unfolding conversion
+    equal-only h = all-equal d (filed s) g (all-formed (length s) (left s)) (go (whole s) (leb (6 * length (filed s)) (length xs)) (allAlike d (filed s)) (length (filed s)) (laidFrom (map (loaded Strict d) (filed s)) 0 xs) h)
+      where
+        go : (a b c : Bool) (n : ℕ) (ys : List Float) → guardedRun (andThen (cond a Passed (Failed BadKernelLine)) (andThen (cond b Passed (Failed ShortList)) (cond c Passed (Failed LoadersDiffer)))) xs (outcome (counted (n ∷ [])) ys) .reply .refusal ≡ 0 → c ≡ true
+        go true true true n ys h = refl
+        go true true false n ys h = absurd (omega arith)
+        go true false c n ys h = absurd (omega arith)
+        go false b c n ys h = absurd (omega arith)
 
 -- of every default that is a float of the format, as each f64 is
 pub strict-holds : (s : List ℕ) (d : Float) (xs : List Float) → T (fits binary64 d) → StrictHolds s d xs
-strict-holds s d xs g = record { accepts = accepted s d xs g; refuses = refused-21 s d xs g; only-equal = only-equals s d xs g }
+strict-holds s d xs g =
+    record {
+      accepts = accepted s d xs;
+      refuses = refused-21 s d xs g;
+      only-equal = λ h. let e = equal-only s d xs g h in (e, accepted s d xs e);
+      above = λ h. accepted s d xs (above-equal d (filed s) h);
+    }

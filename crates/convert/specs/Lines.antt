@@ -73,3 +73,7 @@ abbrev pub ended : Text → Bool
 ended lost = false
 ended (left []) = true
 ended (left (b ∷ l)) = false
+
+-- all bytes are lines
+abbrev pub whole : List ℕ → Bool
+whole s = ended (fileLines (length s) (left s) .text)

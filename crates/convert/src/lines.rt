@@ -1,11 +1,11 @@
 // The lines of a kernel file, each a token at a position. No function here has a `requires`.
 ghost use mathlib.Core.Path.{_≡_};
 ghost use lib.ListN.{length};
-ghost use Rattle.text.specs.Text.{left, rest, got};
+ghost use Rattle.text.specs.Text.{rest, got};
 ghost use Rattle.text.specs.Form.{map, or};
 ghost use Rattle.text.specs.Form.{read as form};
 ghost use Rattle.convert.specs.Loaders.{allAlike};
-ghost use Rattle.convert.specs.Lines.{givenForm, missingForm, exponentForm, toGiven, toMissing, toExponent, fileLine, fileLines, filed, ended};
+ghost use Rattle.convert.specs.Lines.{givenForm, missingForm, exponentForm, toGiven, toMissing, toExponent, fileLine, filed, whole};
 use crate::file::FileKernel;
 use crate::file::is_alike;
 use kernel::file::Exponent;
@@ -94,7 +94,9 @@ pub fn read_kernel(s: &[u8], at: usize) -> ReadKernel
 
 // Reads all lines once; no more are asked for than there are bytes.
 pub fn scan_lines(s: &[u8], default: f64) -> Scan
-    ensures { λ r. ⌜ (r .lines ≡ length (filed (now (s .entry)))) × (r .same ≡ allAlike default (filed (now (s .entry)))) × (r .whole ≡ ended (fileLines (length (now (s .entry))) (left (now (s .entry))) .text)) ⌝ }
+    ensures { λ r. ⌜ r .lines ≡ length (filed (now (s .entry))) ⌝ }
+    ensures { λ r. ⌜ r .same ≡ allAlike default (filed (now (s .entry))) ⌝ }
+    ensures { λ r. ⌜ r .whole ≡ whole (now (s .entry)) ⌝ }
 {
     let mut lines: usize = 0;
     let mut same = true;

@@ -19,7 +19,7 @@ returns : tie.Need-returns Inv-loop μ-loop
 returns c =
     let l = c .before .before .loop in
     let f = found-many _ _ (l .inv) (c .if1 .taken) in
-    (f .lines, f .agree, not-whole _ (l .at) (c .before .loop-test .taken) ∙ sym (ap ended (f .text)))
+    (f .lines, (f .agree, not-whole _ (l .at) (c .before .loop-test .taken) ∙ sym (ap ended (f .text))))
 
 loop-again : tie.Need-loop-again Inv-loop μ-loop
 loop-again c =
@@ -31,7 +31,7 @@ returns-2 : tie.Need-returns-2 Inv-loop μ-loop
 returns-2 c =
     let l = c .before .loop in
     let f = found-end _ _ (l .inv) (search needs) in
-    (f .lines, f .agree, whole-is _ (l .at) (search needs) ∙ sym (ap ended (f .text)))
+    (f .lines, (f .agree, whole-is _ (l .at) (search needs) ∙ sym (ap ended (f .text))))
 
 pub scan-lines-spec : {M : Type 1} → statement M
 scan-lines-spec =
