@@ -7,7 +7,7 @@ use native.Mathlib.Numerals.{add-one}
 use native.Mathlib.Omega.{arith}
 use lib.ListN.{length}
 use lib.Ieee.{Float}
-use borrow.Author.Tests.{le-leb, lt-leb}
+use borrow.Author.Tests.{le-leb, lt-leb, not-true, not-false}
 use Rattle.base.specs.Answers.{refused, counted, outcome}
 use Rattle.base.specs.declared.refusal.Refusal.{Refusal}
 use Rattle.base.specs.declared.refusal.Refusal.the-variants.{BadKernelLine, ShortList}
@@ -60,34 +60,25 @@ module _ (s : List ℕ) (n : ℕ) (load : FileKernel → Kernel) (xs : List Floa
       let e : n - i ≡ 0 = omega arith in
       rw e at (l .same)
 
--- what a test of `not` says
-off : (b : Bool) → not b ≡ true → b ≡ false
-off true h = sym h
-off false h = refl
-
-on : (b : Bool) → not b ≡ false → b ≡ true
-on true h = refl
-on false h = sym h
-
 -- ---- what `convert` answers, with the scan and the strict check as they came out
 module _ (s : List ℕ) (d : Float) (loader : Loader) (xs : List Float) {n : ℕ} {same good : Bool}
     (lines : n ≡ length (filed s)) (agree : same ≡ allAlike d (filed s)) (text : good ≡ whole s) where
   pub bad-line : not good ≡ true → outcome (refused BadKernelLine) xs ≡ conversion s d loader xs
   unfolding conversion
-  bad-line h = rw (← text, off good h) refl
+  bad-line h = rw (← text, not-true good h) refl
 
   module _ (full : not good ≡ false) where
     pub too-short : length xs / 6 < n → outcome (refused ShortList) xs ≡ conversion s d loader xs
     unfolding conversion
-    too-short h = rw (← text, on good full, ← lines, lt-leb (6 * n) (length xs) (omega arith)) refl
+    too-short h = rw (← text, not-false good full, ← lines, lt-leb (6 * n) (length xs) (omega arith)) refl
 
     module _ (room : n ≤ length xs / 6) {checked : Checked} (strict : checked ≡ strictCheck loader same) where
       pub differs : {r : Refusal} → checked ≡ Failed r → outcome (refused r) xs ≡ conversion s d loader xs
       unfolding conversion
-      differs e = rw (← text, on good full, ← lines, le-leb (6 * n) (length xs) (omega arith), ← agree, ← strict, e) refl
+      differs e = rw (← text, not-false good full, ← lines, le-leb (6 * n) (length xs) (omega arith), ← agree, ← strict, e) refl
 
       pub writes : {ys : List Float} → checked ≡ Passed → ys ≡ laidFrom (map (loaded loader d) (linesIn n (left s))) 0 xs → outcome (counted (n ∷ [])) ys ≡ conversion s d loader xs
       unfolding conversion
       writes e w =
           let a : linesIn n (left s) ≡ filed s = ap (λ (m : ℕ). linesIn m (left s)) lines ∙ first-lines (length s) (left s) in
-          rw (← text, on good full, le-leb (6 * length (filed s)) (length xs) (omega (arith, lines)), ← agree, ← strict, e, w, a, lines) refl
+          rw (← text, not-false good full, le-leb (6 * length (filed s)) (length xs) (omega (arith, lines)), ← agree, ← strict, e, w, a, lines) refl

@@ -6,8 +6,8 @@ use mathlib.Core.Logic.{inl, inr}
 use Prim.Native.Nat.{ℕ, zero, suc, _*_}
 use native.Mathlib.Omega.{arith}
 use lib.Dec.{T, leb}
-use lib.ListN.{length, getD}
-use lib.Ieee.{Float, nan, binary64, lt, fits, ofBits, toBits}
+use lib.ListN.{length}
+use lib.Ieee.{Float, binary64, lt, fits, ofBits, toBits}
 use lib.Ieee.Bits.{ofBits-toBits, ofBits-fits}
 use borrow.Author.Tests.{eq-eqb, eqb-true}
 use Rattle.base.specs.Floats.{+0}
@@ -56,14 +56,6 @@ given-fits Missing d f g = g
 
 -- ---- one line
 
-last-of : (a b c d e f : Bool) → (a && (b && (c && (d && (e && f))))) ≡ true → f ≡ true
-last-of true true true true true f h = h
-last-of true true true true false f h = cc
-last-of true true true false e f h = cc
-last-of true true false d e f h = cc
-last-of true false c d e f h = cc
-last-of false b c d e f h = cc
-
 -- both loaders' kernels differ in the exponent alone
 by-exponent : (d : Float) (f : FileKernel) → exponentOr (f .exponent) d ≡ givenOr (f .exponent) d → nativeOf d f ≡ sourceOf d f
 unfolding nativeOf sourceOf fromFile
@@ -71,13 +63,14 @@ by-exponent d f e =
     let n = nativeOf d f in
     (λ i. record { c = n .c; sigma = n .sigma; w = n .w; alpha = e i })
 
-pub alike-equal : (d : Float) (f : FileKernel) → T (fits binary64 d) → Formed (f .exponent) → alike d f ≡ true → nativeOf d f ≡ sourceOf d f
+pub alike-by-exponent : (d : Float) (f : FileKernel) → sameFloat (exponentOr (f .exponent) d) (givenOr (f .exponent) d) ≡ alike d f
 unfolding alike nativeOf sourceOf fromFile
-alike-equal d f g h e =
-    let n = nativeOf d f in
-    let s = sourceOf d f in
-    let a = last-of (sameFloat (getD (n .c) 0 nan) (getD (s .c) 0 nan)) (sameFloat (getD (n .c) 1 nan) (getD (s .c) 1 nan)) (sameFloat (getD (n .c) 2 nan) (getD (s .c) 2 nan)) (sameFloat (n .sigma) (s .sigma)) (sameFloat (n .w) (s .w)) (sameFloat (n .alpha) (s .alpha)) e in
-    by-exponent d f (same-is (exponentOr (f .exponent) d) (givenOr (f .exponent) d) (or-fits (f .exponent) d h g) (given-fits (f .exponent) d h g) a)
+alike-by-exponent d f = sym (simp same-self)
+
+pub alike-equal : (d : Float) (f : FileKernel) → T (fits binary64 d) → Formed (f .exponent) → alike d f ≡ true → nativeOf d f ≡ sourceOf d f
+alike-equal d f g h a =
+    let e = f .exponent in
+    by-exponent d f (same-is (exponentOr e d) (givenOr e d) (or-fits e d h g) (given-fits e d h g) (alike-by-exponent d f ∙ a))
 
 same-kernel : (k : Kernel) → sameKernel k k ≡ true
 same-kernel k = simp same-self

@@ -1,24 +1,17 @@
--- The first of two tokens at a position, and the end of a line. Assumes nothing.
+-- The end of a line. Assumes nothing.
 use mathlib.Core.Path.{_≡_, refl, sym, _∙_}
 use mathlib.Core.List.{List}
 use mathlib.Core.Bool.{Bool, true, false}
-use Prim.Native.Nat.{ℕ, _<_, _≤_}
+use Prim.Native.Nat.{ℕ, _≤_}
 use native.Mathlib.Omega.{arith}
 use lib.ListN.{length}
 use lib.Dec.{ltb}
 use borrow.Author.Tests.{ltb-true, ltb-false}
-use Rattle.text.specs.Text.{Got, rest, got}
-use Rattle.text.specs.Form.{orAt, or}
-use Rattle.text.specs.TextLaws.{rest-in, rest-out, rest-whole, rest-cons}
+use Rattle.text.specs.Text.{rest}
+use Rattle.text.specs.TextLaws.{rest-out, rest-whole, rest-cons}
 use Rattle.forms.specs.Forms.{ifEnded}
 use Rattle.forms.specs.declared.line.Line.{Line}
 use Rattle.forms.specs.declared.line.Line.the-variants.{Bad}
-
-pub first-is : {A : Type 0} (s : List ℕ) (v : A) (k : ℕ) (h : Got A) → k ≤ length s → got s v k ≡ or (got s v k) h
-first-is s v k h p = sym (λ i. orAt (rest-in s k p i) (got s v k) h)
-
-pub second-is : {A : Type 0} (s : List ℕ) (v : A) (k : ℕ) (h : Got A) → length s < k → h ≡ or (got s v k) h
-second-is s v k h p = sym (λ i. orAt (rest-out s k p i) (got s v k) h)
 
 pub whole-is : (s : List ℕ) (k : ℕ) (l : Line) → k ≡ length s → l ≡ ifEnded (rest s k) l
 whole-is s k l e = sym ((λ i. ifEnded (rest s (e i)) l) ∙ (λ i. ifEnded (rest-whole s i) l))

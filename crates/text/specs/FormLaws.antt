@@ -6,12 +6,14 @@ use mathlib.Core.Logic.{_⊎_, inl, inr}
 use Prim.Native.Nat.{ℕ, _<_, _≤_, _^_}
 use lib.Dec.{T, eqb, leb, ltb, leb→le, ltb→lt}
 use borrow.Author.Tests.{le-ltb}
+use lib.ListN.{length}
 use lib.Ieee.{Float, binary64, toBits, isNan}
 use lib.Ieee.Bits.{ofBits-toBits, toBits-lt, toBits-ofBits}
 use Rattle.base.specs.Floats.{bits}
-use Rattle.text.specs.Text.{Text, lost, left, Got, strip, keepIf, digit, pattern, patternFrom, float, decimal}
+use Rattle.text.specs.Text.{Text, lost, left, Got, rest, got, strip, keepIf, digit, pattern, patternFrom, float, decimal}
 use Rattle.text.specs.Print.{decimalText, patternText, floatText}
 use Rattle.text.specs.Form.{Form, end, word, number, real, either, Vals, map, choose, orAt, or, pair, read, print, Spells, Fit, NoNan, differ, other, noHex, apart, stops, clear}
+use Rattle.text.specs.TextLaws.{rest-in, rest-out}
 use Rattle.text.specs.Tokens.{literal-back, literal-inv, not-lost, pattern-back, pattern-inv, NoDigit, decimal-back, decimal-inv}
 
 -- ---- what is printed spells the values
@@ -228,3 +230,11 @@ back f v r c h = reads f v (print f v ++ r) r c (printed f v r h)
 -- and as a whole text
 pub back-whole : (f : Form) (v : Vals f) → T (clear f) → Fit f v → read f (left (print f v)) ≡ record { val = v; text = left [] }
 back-whole f v c h = reads f v (print f v) [] c (subst (λ (l : List ℕ). Spells f v l []) (append-nil (print f v)) (printed f v [] h))
+
+-- ---- the first of two tokens at a position
+
+pub first-is : {A : Type 0} (s : List ℕ) (v : A) (k : ℕ) (h : Got A) → k ≤ length s → got s v k ≡ or (got s v k) h
+first-is s v k h p = sym (λ i. orAt (rest-in s k p i) (got s v k) h)
+
+pub second-is : {A : Type 0} (s : List ℕ) (v : A) (k : ℕ) (h : Got A) → length s < k → h ≡ or (got s v k) h
+second-is s v k h p = sym (λ i. orAt (rest-out s k p i) (got s v k) h)

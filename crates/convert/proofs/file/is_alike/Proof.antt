@@ -1,6 +1,6 @@
 -- `is_alike` meets its contract: only the exponents can differ. Assumes nothing.
 use borrow.Author.Needs.{needs}
-use Rattle.convert.proofs.Steps.{alike-by-exponent}
+use Rattle.convert.specs.ConvertLaws.{alike-by-exponent}
 use Rattle.convert.proofs.file.is_alike.Statement.{statement}
 use Rattle.convert.proofs.file.is_alike.Tie as tie
 

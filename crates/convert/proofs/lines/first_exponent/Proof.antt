@@ -1,6 +1,6 @@
 -- The first where its position is in the text. Assumes nothing.
 use Rattle.text.specs.Text.{got}
-use Rattle.convert.proofs.Steps.{first-is, second-is}
+use Rattle.text.specs.FormLaws.{first-is, second-is}
 use Rattle.convert.proofs.lines.first_exponent.Statement.{statement}
 use Rattle.convert.proofs.lines.first_exponent.Tie as tie
 
