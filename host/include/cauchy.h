@@ -8,6 +8,7 @@
  * Runs. An array is lent as a pointer and a count of elements (size_t), two arguments side by side:
  *   mesh         xyz: 3 doubles a vertex; faces: 3 vertex numbers a face, from 0
  *   kernel list  6 doubles a kernel: c (3), sigma, w, alpha
+ *   lines        the bytes of a file of kernels
  *   track        3 doubles a point
  *   store        floats and words: the store itself, which has no memory elsewhere
  * A run that a call only reads is const.
@@ -59,21 +60,23 @@ extern "C" {
 
 enum {
     CAUCHY_ACCEPTED = 0,
-    CAUCHY_RAGGED = 1,        /* a count of coordinates or corners that is not a multiple of 3 */
-    CAUCHY_OVERSIZE = 2,      /* more vertices or faces than the limits below */
-    CAUCHY_LOOSE_CORNER = 3,  /* a corner names a vertex that is not there */
-    CAUCHY_SHORT_STORE = 4,   /* a run of the store is too short for its mesh */
-    CAUCHY_UNSOUND = 5,       /* the runs hold no sound store */
-    CAUCHY_NO_PLACE = 6,      /* the place is 32 or above */
-    CAUCHY_VACANT = 7,        /* the place to be cleared or reweighed is empty */
-    CAUCHY_UNFINISHED = 8,    /* work is left that this reading needs: advance first */
-    CAUCHY_SHORT_LIST = 9,    /* the run to be written is too short, or a kernel list is not of sixes */
-    CAUCHY_BAD_MATRIX = 10,   /* n above 16, or lengths that do not go with n */
-    CAUCHY_FLAT_PIVOT = 11,   /* the equations have no usable pivot in some column */
-    CAUCHY_EXPONENT = 12,     /* an exponent is not 1, where only 1 can be integrated */
-    CAUCHY_BAD_TRACK = 14,    /* a track of more than 4,096 points or not of threes, or its run is too short */
-    CAUCHY_MANY_KERNELS = 15, /* more kernels to be billed than a store has places */
-    CAUCHY_NOT_CLOSED = 22    /* the mesh is not closed */
+    CAUCHY_RAGGED = 1,           /* a count of coordinates or corners that is not a multiple of 3 */
+    CAUCHY_OVERSIZE = 2,         /* more vertices or faces than the limits below */
+    CAUCHY_LOOSE_CORNER = 3,     /* a corner names a vertex that is not there */
+    CAUCHY_SHORT_STORE = 4,      /* a run of the store is too short for its mesh */
+    CAUCHY_UNSOUND = 5,          /* the runs hold no sound store */
+    CAUCHY_NO_PLACE = 6,         /* the place is 32 or above */
+    CAUCHY_VACANT = 7,           /* the place to be cleared or reweighed is empty */
+    CAUCHY_UNFINISHED = 8,       /* work is left that this reading needs: advance first */
+    CAUCHY_SHORT_LIST = 9,       /* the run to be written is too short, or a kernel list is not of sixes */
+    CAUCHY_BAD_MATRIX = 10,      /* n above 16, or lengths that do not go with n */
+    CAUCHY_FLAT_PIVOT = 11,      /* the equations have no usable pivot in some column */
+    CAUCHY_EXPONENT = 12,        /* an exponent is not 1, where only 1 can be integrated */
+    CAUCHY_BAD_TRACK = 14,       /* a track of more than 4,096 points or not of threes, or its run is too short */
+    CAUCHY_MANY_KERNELS = 15,    /* more kernels to be billed than a store has places */
+    CAUCHY_BAD_KERNEL_LINE = 20, /* a line of a file is no kernel line */
+    CAUCHY_LOADERS_DIFFER = 21,  /* the two loaders make different kernels of the lines */
+    CAUCHY_NOT_CLOSED = 22       /* the mesh is not closed */
 };
 
 /* ---- Sizes ---------------------------------------------------------------------------------------- */
@@ -89,6 +92,9 @@ enum {
 /* The lengths that a store needs for V vertices and F faces; longer runs are good, and keep their excess. */
 #define CAUCHY_STORE_FLOATS(V) ((size_t)1761 + (size_t)3 * (size_t)(V))
 #define CAUCHY_STORE_WORDS(F) ((size_t)98 + (size_t)3 * (size_t)(F))
+
+/* The doubles that are enough for the kernels of any B bytes of lines: a kernel line has 123 bytes or more. */
+#define CAUCHY_CONVERT_FLOATS(B) ((size_t)6 * ((size_t)(B) / 123))
 
 /* ---- Values --------------------------------------------------------------------------------------- */
 
@@ -109,6 +115,13 @@ typedef struct CauchyFileKernel {
     double sigma, w, alpha;
     uint32_t given; /* 0: the file gives no exponent, and alpha is not read */
 } CauchyFileKernel;
+
+/* Which of the original's two loaders makes the kernels of a file. They differ in the exponent alone. */
+enum {
+    CAUCHY_NATIVE = 0, /* one that is missing or not above 0, a NaN too, becomes the default */
+    CAUCHY_SOURCE = 1, /* one that is missing becomes the default; one that is given is kept, whatever it is */
+    CAUCHY_STRICT = 2  /* either, where both give equal kernels, every NaN alike; so is any number above 2 */
+};
 
 /* How one reading rescales the weights; the kept weights never change. */
 enum {
@@ -268,6 +281,17 @@ CauchyTrack cauchy_store_track(const double *floats, size_t n_floats, const uint
 /* One kernel of a file, in metres. A missing exponent, or one not above 0, becomes `default_alpha`. Never
  * refused. */
 CauchyKernel cauchy_kernel_from_file(CauchyFileKernel kernel, double default_alpha);
+
+/* Writes the kernels of a file's lines as a kernel list, in metres and in their order, as a loader makes them;
+ * doubles past them stay. A kernel is one of the two lines
+ *   (kernel (c H H H) (sigma H) (w H) (alpha H))
+ *   (kernel (c H H H) (sigma H) (w H) (alpha none))
+ * and a newline, the last one too, with single spaces and nothing else; H is a double of CauchyFileKernel, in
+ * kilometres, by the 16 upper-case hexadecimal digits of its bits. No line: no kernel, and nothing is written.
+ *                                                                                              20 9 21 */
+CAUCHY_MUST_USE
+CauchyKernels cauchy_convert(const uint8_t *lines, size_t n_lines, double default_alpha, uint32_t loader, double *out,
+                             size_t n_out);
 
 /* Writes a kernel's pieces, on a body of this radius, as a kernel list; 96 doubles are always enough. 9 */
 CAUCHY_MUST_USE

@@ -4,7 +4,8 @@
 //! kernel over the mesh, is done in portions ([`Store::advance`]); then it gives density, masses and rescaled
 //! weights. A [`Convention`] belongs to one reading; no reading alters a kept weight.
 //!
-//! Lengths are metres, densities kg/m³, masses kg; only a [`FileKernel`] is in kilometres.
+//! Lengths are metres, densities kg/m³, masses kg; only a [`FileKernel`] and the lines that [`convert`] takes are in
+//! kilometres.
 //!
 //! ```
 //! use cauchy::{Convention, Kernel, Mesh, Store};
@@ -35,6 +36,7 @@
 
 mod bill;
 mod convention;
+mod convert;
 mod float_state;
 mod kernel;
 mod mesh;
@@ -49,6 +51,7 @@ mod sys;
 
 pub use bill::{Bill, bill};
 pub use convention::Convention;
+pub use convert::{Loader, convert};
 pub use float_state::FloatState;
 pub use kernel::{FileKernel, Kernel, MAX_PIECES, Pieces, density, pieces};
 pub use mesh::Mesh;

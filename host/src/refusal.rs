@@ -43,13 +43,17 @@ pub enum Refusal {
     BadTrack = 14,
     /// More kernels are to be billed than a store has places.
     ManyKernels = 15,
+    /// A line of a file is no kernel line.
+    BadKernelLine = 20,
+    /// The two loaders make different kernels of the lines.
+    LoadersDiffer = 21,
     /// The mesh is not closed.
     NotClosed = 22,
 }
 
 impl Refusal {
     /// All refusals, by rising number.
-    pub const ALL: [Refusal; 15] = [
+    pub const ALL: [Refusal; 17] = [
         Refusal::Ragged,
         Refusal::Oversize,
         Refusal::LooseCorner,
@@ -64,6 +68,8 @@ impl Refusal {
         Refusal::Exponent,
         Refusal::BadTrack,
         Refusal::ManyKernels,
+        Refusal::BadKernelLine,
+        Refusal::LoadersDiffer,
         Refusal::NotClosed,
     ];
 
@@ -71,7 +77,7 @@ impl Refusal {
     ///
     /// ```
     /// let numbers = cauchy::Refusal::ALL.map(|refusal| refusal.number());
-    /// assert_eq!(numbers, [1, 2, 3, 4, 5, 6, 7, 8, 9, 10, 11, 12, 14, 15, 22]);
+    /// assert_eq!(numbers, [1, 2, 3, 4, 5, 6, 7, 8, 9, 10, 11, 12, 14, 15, 20, 21, 22]);
     /// ```
     pub fn number(self) -> u32 {
         self as u32
@@ -98,6 +104,10 @@ impl Refusal {
             Refusal::Exponent => "exponent: some exponent is not 1",
             Refusal::BadTrack => "bad track: more than 4,096 points, or lengths that do not fit",
             Refusal::ManyKernels => "many kernels: a bill takes at most 32",
+            Refusal::BadKernelLine => {
+                "bad kernel line: not (kernel (c h h h) (sigma h) (w h) (alpha h or none))"
+            }
+            Refusal::LoadersDiffer => "loaders differ: native and source make different kernels of some line",
             Refusal::NotClosed => {
                 "not closed: an edge does not occur once each way, or a face names a corner twice"
             }

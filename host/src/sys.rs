@@ -214,6 +214,14 @@ unsafe extern "C" {
     ) -> Track;
 
     pub safe fn cauchy_kernel_from_file(kernel: FileKernel, default_alpha: f64) -> Kernel;
+    pub fn cauchy_convert(
+        lines: *const u8,
+        n_lines: usize,
+        default_alpha: f64,
+        loader: u32,
+        out: *mut f64,
+        n_out: usize,
+    ) -> Kernels;
     pub fn cauchy_decompose(kernel: Kernel, radius: f64, out: *mut f64, n_out: usize) -> Pieces;
     pub fn cauchy_decompose_list(
         kernels: *const f64,

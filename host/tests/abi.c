@@ -3,6 +3,8 @@
 #include "cauchy.h"
 #include "check.h"
 
+#include <ctype.h>
+#include <inttypes.h>
 #include <math.h>
 #include <stdio.h>
 #include <stdlib.h>
@@ -430,6 +432,150 @@ static void kernels(void) {
     CHECK(cauchy_solve(2, cells, 6, answer, 3) == 0 && answer[0] == 1 && answer[1] == 2 && answer[2] == -1);
 }
 
+/* ---- Lines of kernels ------------------------------------------------------------------------------- */
+
+enum { LINE = 135, SHORT_LINE = 123, N_LINES = 7 }; /* the bytes of a line with an exponent and of one without */
+
+static uint64_t bits(double x) {
+    uint64_t pattern;
+    memcpy(&pattern, &x, sizeof pattern);
+    return pattern;
+}
+
+static int same_bits(double x, double y) { return bits(x) == bits(y) || (isnan(x) && isnan(y)); }
+
+/* Writes the line of a kernel, and answers its bytes. */
+static size_t write_line(uint8_t *at, CauchyFileKernel k) {
+    char alpha[17] = "none", text[LINE + 1];
+    if (k.given) snprintf(alpha, sizeof alpha, "%016" PRIX64, bits(k.alpha));
+    int count = snprintf(text, sizeof text,
+                         "(kernel (c %016" PRIX64 " %016" PRIX64 " %016" PRIX64 ") (sigma %016" PRIX64 ") "
+                         "(w %016" PRIX64 ") (alpha %s))\n",
+                         bits(k.c[0]), bits(k.c[1]), bits(k.c[2]), bits(k.sigma), bits(k.w), alpha);
+    CHECK(count == (k.given ? LINE : SHORT_LINE));
+    memcpy(at, text, (size_t)count);
+    return (size_t)count;
+}
+
+static CauchyFileKernel file_kernel(int i, double alpha, uint32_t given) {
+    CauchyFileKernel k;
+    k.c[0] = 1 + i, k.c[1] = -2 - i, k.c[2] = 3.5 + i, k.sigma = 4.25 + i, k.w = -500 - i;
+    k.alpha = alpha, k.given = given;
+    return k;
+}
+
+/* The kernel that a loader makes of a file's, by the words of 02. */
+static CauchyKernel loaded(CauchyFileKernel k, double default_alpha, uint32_t loader) {
+    const int kept = k.given && (loader == CAUCHY_SOURCE || k.alpha > 0);
+    return kernel(k.c[0] * 1000, k.c[1] * 1000, k.c[2] * 1000, k.sigma / 1000, k.w, kept ? k.alpha : default_alpha);
+}
+
+/* the last two are those of which the loaders always make the same */
+static const double file_alphas[N_LINES] = {-1, NAN, -0.0, 0, -INFINITY, 2.5, INFINITY};
+
+/* Every loader on lines with and without an exponent; the run's doubles past the kernels stay. */
+static void conversions(void) {
+    uint8_t lines[(N_LINES + 1) * LINE];
+    double out[6 * (N_LINES + 1) + 2];
+    const double defaults[5] = {1.5, 0, -0.0, NAN, -3};
+    for (int j = 0; j < 5; j++) {
+        size_t bytes = write_line(lines, file_kernel(0, 77, 0));
+        for (int i = 0; i < N_LINES; i++) bytes += write_line(lines + bytes, file_kernel(i + 1, file_alphas[i], 1 + i));
+        for (uint32_t loader = CAUCHY_NATIVE; loader <= CAUCHY_SOURCE; loader++) {
+            for (int i = 0; i < 6 * (N_LINES + 1) + 2; i++) out[i] = 900 + i;
+            CauchyKernels k = cauchy_convert(lines, bytes, defaults[j], loader, out, 6 * (N_LINES + 1) + 1);
+            CHECK(k.no == 0 && k.kernels == N_LINES + 1);
+            for (int i = 0; i <= N_LINES; i++) {
+                double want[6];
+                const CauchyFileKernel from = i ? file_kernel(i, file_alphas[i - 1], 1) : file_kernel(0, 77, 0);
+                write_kernel(want, loaded(from, defaults[j], loader));
+                for (int n = 0; n < 6; n++) CHECK(same_bits(out[6 * i + n], want[n]));
+            }
+            CHECK(out[6 * (N_LINES + 1)] == 900 + 6 * (N_LINES + 1));
+            CHECK(out[6 * (N_LINES + 1) + 1] == 901 + 6 * (N_LINES + 1));
+        }
+    }
+    CHECK(CAUCHY_CONVERT_FLOATS(SHORT_LINE - 1) == 0 && CAUCHY_CONVERT_FLOATS(3 * SHORT_LINE) == 18);
+    CauchyKernels none = cauchy_convert(NULL, 0, 1.5, CAUCHY_STRICT, NULL, 0);
+    CHECK(none.no == 0 && none.kernels == 0);
+    none = cauchy_convert(lines, 0, NAN, CAUCHY_SOURCE, out, 6);
+    CHECK(none.no == 0 && none.kernels == 0 && out[0] == 1000);
+}
+
+/* The strict form takes exactly the lines of which both loaders make the same, bit for bit with every NaN alike. */
+static void strict_conversions(void) {
+    const struct {
+        double alpha, default_alpha;
+        uint32_t given, no;
+    } rows[] = {
+        {0, 1.5, 0, 0},      {0, -1, 0, 0},         {0, NAN, 0, 0},
+        {2.5, 1.5, 1, 0},    {2.5, NAN, 1, 0},      {INFINITY, 1, 1, 0},
+        {5e-324, 1, 1, 0},   {-1, 1.5, 1, 21},      {-1, -1, 1, 0},
+        {0, 0, 1, 0},        {-0.0, -0.0, 1, 0},    {-0.0, 0, 1, 21},
+        {0, -0.0, 1, 21},    {-5e-324, -0.0, 1, 21}, {NAN, NAN, 1, 0},
+        {NAN, 1.5, 1, 21},   {-1, NAN, 1, 21},      {-INFINITY, -INFINITY, 1, 0},
+        {-INFINITY, INFINITY, 1, 21},
+    };
+    const uint32_t loaders[3] = {CAUCHY_STRICT, 3, UINT32_MAX};
+    uint8_t lines[2 * LINE];
+    double out[12], native[12];
+    for (size_t row = 0; row < sizeof rows / sizeof *rows; row++) {
+        size_t bytes = write_line(lines, file_kernel(1, 2, 1));
+        bytes += write_line(lines + bytes, file_kernel(2, rows[row].alpha, rows[row].given));
+        CHECK(cauchy_convert(lines, bytes, rows[row].default_alpha, CAUCHY_NATIVE, native, 12).kernels == 2);
+        for (int i = 0; i < 3; i++) {
+            for (int n = 0; n < 12; n++) out[n] = 900 + n;
+            CauchyKernels k = cauchy_convert(lines, bytes, rows[row].default_alpha, loaders[i], out, 12);
+            CHECK(k.no == rows[row].no && k.kernels == (k.no ? 0u : 2u));
+            for (int n = 0; n < 12; n++) CHECK(k.no ? out[n] == 900 + n : same_bits(out[n], native[n]));
+            /* a run that is too short is told first */
+            k = cauchy_convert(lines, bytes, rows[row].default_alpha, loaders[i], out, 11);
+            CHECK(k.no == CAUCHY_SHORT_LIST && k.kernels == 0);
+        }
+    }
+}
+
+static int no_line(const uint8_t *lines, size_t bytes, size_t room) {
+    double out[12];
+    int refused = 1;
+    for (uint32_t loader = CAUCHY_NATIVE; loader <= CAUCHY_STRICT; loader++) {
+        for (int n = 0; n < 12; n++) out[n] = 900 + n;
+        const CauchyKernels k = cauchy_convert(lines, bytes, 1.5, loader, out, room);
+        refused &= k.no == CAUCHY_BAD_KERNEL_LINE && k.kernels == 0;
+        for (int n = 0; n < 12; n++) refused &= out[n] == 900 + n;
+    }
+    return refused;
+}
+
+/* Bytes that are no lines, ahead of a run that is too short and of loaders that differ: every cut, and at every place
+ * of a line a byte changed, put in or taken out. */
+static void refused_lines(void) {
+    uint8_t lines[2 * LINE], bad[2 * LINE + 1];
+    const size_t first = write_line(lines, file_kernel(1, -1, 1));
+    const size_t bytes = first + write_line(lines + first, file_kernel(2, 0, 0));
+    CHECK(cauchy_convert(lines, bytes, 1.5, CAUCHY_NATIVE, NULL, 0).no == CAUCHY_SHORT_LIST);
+    for (size_t cut = 1; cut < bytes; cut++) CHECK(cut == first || (no_line(lines, cut, 12) && no_line(lines, cut, 0)));
+    const uint8_t strange[7] = {0, '\r', '\n', ' ', '(', 'g', 255};
+    for (size_t at = 0; at < bytes; at++) {
+        memcpy(bad, lines, at), memcpy(bad + at, lines + at + 1, bytes - at - 1);
+        CHECK(no_line(bad, bytes - 1, 12) && no_line(bad, bytes - 1, 0));
+        for (int i = 0; i < 7; i++) {
+            memcpy(bad, lines, bytes), bad[at] = strange[i];
+            CHECK(lines[at] == strange[i] || no_line(bad, bytes, 12));
+            memcpy(bad + at + 1, lines + at, bytes - at), bad[at] = strange[i];
+            CHECK(no_line(bad, bytes + 1, 12));
+        }
+    }
+    memcpy(bad, lines, bytes);
+    for (size_t at = 0; at < bytes; at++) {
+        bad[at] = (uint8_t)tolower(lines[at]);
+        CHECK(bad[at] == lines[at] || no_line(bad, bytes, 12));
+        bad[at] = lines[at];
+    }
+    bad[bytes] = '\n';
+    CHECK(no_line(bad, bytes + 1, 12) && no_line(bad + bytes, 1, 12));
+}
+
 static void closed(void) {
     static const uint32_t turned[N_FACES] = {0, 2, 1, 0, 1, 3, 0, 3, 2, 1, 3, 2}, twice[3] = {2, 2, 3};
     CHECK(cauchy_closed(xyz, N_XYZ, faces, N_FACES) == CAUCHY_ACCEPTED);
@@ -536,6 +682,9 @@ int main(void) {
     readings();
     refused_tracks();
     kernels();
+    conversions();
+    strict_conversions();
+    refused_lines();
     closed();
     meshes();
     refused_meshes();

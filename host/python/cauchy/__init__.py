@@ -2,7 +2,7 @@
 
 A store keeps up to 32 density kernels inside a triangle mesh. Its work is done in portions; then it gives
 density, masses and rescaled weights. Lengths are metres, densities kg/m^3, masses kg; only a kernel of a file
-is in kilometres.
+is in kilometres (`kernel_from_file`, `convert`).
 
 >>> vertices = [(0, 0, 0), (1000, 0, 0), (0, 1000, 0), (0, 0, 1000)]
 >>> faces = [(0, 2, 1), (0, 1, 3), (0, 3, 2), (1, 2, 3)]
@@ -28,13 +28,14 @@ The library is found in CAUCHY_SO, in this package, or in the repository's targe
 it. `python3 -m cauchy` runs the examples of this package.
 """
 from .arrays import Floats, Items
-from .kernels import bill, decompose, decompose_list, densitize, kernel_from_file, solve
+from .kernels import bill, convert, decompose, decompose_list, densitize, kernel_from_file, solve
 from .library import MAX_FACES, MAX_PIECES, MAX_TRACK, MAX_VERTICES, PLACES
 from .meshes import body_volume, closed, field_mass, homogeneous, kernel_volume, volume_centroid
 from .numbers import arc, exp, log, log10, power, radial_g, root, ten
 from .refusals import (
-    REFUSALS, BadMatrix, BadTrack, Exponent, FlatPivot, FloatStateError, LooseCorner, ManyKernels, NoPlace, NotClosed,
-    Oversize, Ragged, Refused, ShortList, ShortStore, Unfinished, UnknownRefusal, Unsound, Vacant, check_float_state,
+    REFUSALS, BadKernelLine, BadMatrix, BadTrack, Exponent, FlatPivot, FloatStateError, LoadersDiffer, LooseCorner,
+    ManyKernels, NoPlace, NotClosed, Oversize, Ragged, Refused, ShortList, ShortStore, Unfinished, UnknownRefusal,
+    Unsound, Vacant, check_float_state,
 )
 from .snapshot import SnapshotError
 from .source import (
@@ -42,20 +43,21 @@ from .source import (
 )
 from .store import Store
 from .values import (
-    RAW, Bill, Convention, Held, Kernel, KernelList, MassReport, Pieces, Placed, Steps, StoreReport, mass, rho0,
+    RAW, Bill, Convention, Held, Kernel, KernelList, Loader, MassReport, Pieces, Placed, Steps, StoreReport, mass, rho0,
 )
 
 __version__ = "0.1.0"
 
 __all__ = [
-    "MAX_FACES", "MAX_PIECES", "MAX_TRACK", "MAX_VERTICES", "PLACES", "RAW", "REFUSALS", "BadMatrix", "BadTrack",
-    "Bill", "Convention", "Exponent", "FlatPivot", "FloatStateError", "Floats", "Held", "Items", "Kernel",
-    "KernelList", "LooseCorner", "ManyKernels", "MassReport", "NoPlace", "NotClosed", "Oversize", "Pieces", "Placed",
-    "Ragged", "Refused", "ShortList", "ShortStore", "SnapshotError", "Steps", "Store", "StoreReport", "Unfinished",
-    "UnknownRefusal", "Unsound", "Vacant", "arc", "bill", "body_volume", "check_float_state", "closed", "decompose",
-    "decompose_list", "densitize", "exp", "field_mass", "homogeneous", "kernel_from_file", "kernel_volume", "log",
-    "log10", "mass", "power", "radial_g", "rho0", "root", "solve", "source_calibrate", "source_density_at",
-    "source_enclosed_volume", "source_kernel_volume", "source_normalize", "ten", "volume_centroid",
+    "MAX_FACES", "MAX_PIECES", "MAX_TRACK", "MAX_VERTICES", "PLACES", "RAW", "REFUSALS", "BadKernelLine",
+    "BadMatrix", "BadTrack", "Bill", "Convention", "Exponent", "FlatPivot", "FloatStateError", "Floats", "Held",
+    "Items", "Kernel", "KernelList", "Loader", "LoadersDiffer", "LooseCorner", "ManyKernels", "MassReport",
+    "NoPlace", "NotClosed", "Oversize", "Pieces", "Placed", "Ragged", "Refused", "ShortList", "ShortStore",
+    "SnapshotError", "Steps", "Store", "StoreReport", "Unfinished", "UnknownRefusal", "Unsound", "Vacant", "arc",
+    "bill", "body_volume", "check_float_state", "closed", "convert", "decompose", "decompose_list", "densitize",
+    "exp", "field_mass", "homogeneous", "kernel_from_file", "kernel_volume", "log", "log10", "mass", "power",
+    "radial_g", "rho0", "root", "solve", "source_calibrate", "source_density_at", "source_enclosed_volume",
+    "source_kernel_volume", "source_normalize", "ten", "volume_centroid",
 ]
 
 # Users know these names by this package, and so do messages, pickles and doctests.

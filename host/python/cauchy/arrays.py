@@ -21,7 +21,7 @@ import importlib
 import sys
 from array import array
 from collections.abc import Mapping, Set
-from ctypes import addressof, byref, c_double, c_uint32, string_at
+from ctypes import addressof, byref, c_double, c_uint8, c_uint32, string_at
 from numbers import Integral, Real
 from operator import index
 from typing import Any, Iterator, List, NamedTuple, Optional, Protocol, Sequence, Tuple, Type, Union
@@ -135,6 +135,15 @@ class _Word(c_uint32):
     owner: Any
 
 
+class _Byte(c_uint8):
+    """The first byte of a run, likewise."""
+
+    owner: Any
+
+
+_Cell = Union[_Double, _Word, _Byte]
+
+
 class _Kind(NamedTuple):
     """What a run is made of."""
 
@@ -142,7 +151,7 @@ class _Kind(NamedTuple):
     size: int  # of an item, in bytes
     same: str  # the formats of a buffer that are lent as they are
     taken: str  # those that are converted
-    cell: Union[Type[_Double], Type[_Word]]
+    cell: Union[Type[_Double], Type[_Word], Type[_Byte]]
     item: type  # what an item of a sequence must be
     said: str
 
@@ -150,6 +159,7 @@ class _Kind(NamedTuple):
 _FLOATS = _Kind("d", 8, "d", "fhHiIlLqQ", _Double, Real, "numbers")
 # A negative corner is as far outside every mesh when its 32 bits are taken without a sign.
 _WORDS = _Kind("I", 4, "Ii", "hHlLqQ", _Word, Integral, "whole numbers")
+_BYTES = _Kind("B", 1, "Bb", "", _Byte, Integral, "bytes")
 
 # A corner that no mesh has. Numbers that have no 32 bits become this one, which the library refuses.
 NOWHERE = 2**32 - 1
@@ -160,7 +170,7 @@ class Run:
 
     __slots__ = ("first", "count", "size")
 
-    def __init__(self, first: Union[_Double, _Word, None], count: int, size: int) -> None:
+    def __init__(self, first: Optional[_Cell], count: int, size: int) -> None:
         self.first, self.count, self.size = first, count, size
 
     def lent(self) -> Tuple[Any, int]:
@@ -189,6 +199,16 @@ def floats(values: Items, name: str, width: int) -> Run:
 def words(values: Items, name: str, width: int) -> Run:
     """Whole numbers, flat or in rows of `width`, as a run of words of 32 bits."""
     return _run(values, name, width, _WORDS)
+
+
+def octets(values: Any, name: str) -> Run:
+    """Bytes, or any buffer of them, as a run of bytes: a copy, so that no one can write it during the call."""
+    try:
+        view = memoryview(values)
+    except (TypeError, ValueError, BufferError):
+        raise TypeError(f"{name}: bytes, and not of the type {_kind_name(values)}") from None
+    _format(view, name, _BYTES)
+    return _of(bytearray(view), view.nbytes, _BYTES)
 
 
 def written(out: Any) -> Run:

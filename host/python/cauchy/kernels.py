@@ -1,11 +1,14 @@
 """Kernels without a store, and equations."""
 from array import array
-from typing import List, Optional
+from typing import List, Optional, Union
 
 from . import arrays
-from .library import CauchyFileKernel, MAX_PIECES, ask, call
+from .library import CauchyFileKernel, MAX_PIECES, SHORTEST_LINE, ask, call
 from .refusals import BadMatrix
-from .values import Bill, Kernel, KernelList, Pieces, answered_kernel, crossing_kernel, kernel_run, listed, vector
+from .values import (
+    Bill, Kernel, KernelList, Loader, Pieces, answered_kernel, crossing_kernel, crossing_loader, kernel_run, listed,
+    vector,
+)
 
 
 def kernel_from_file(
@@ -22,6 +25,39 @@ def kernel_from_file(
     exponent = 0.0 if alpha is None else arrays.number(alpha, "alpha")
     given = CauchyFileKernel(centre, *numbers, exponent, alpha is not None)
     return answered_kernel(ask("kernel_from_file", given, arrays.number(default, "default")))
+
+
+def convert(lines: Union[bytes, bytearray, memoryview], default: float, loader: Loader) -> List[Kernel]:
+    r"""The kernels of a file's lines, in metres and in their order, as a loader makes them with the default exponent.
+
+    A kernel is a line `(kernel (c H H H) (sigma H) (w H) (alpha H))`, with `(alpha none)` where the file gives no
+    exponent, and a newline, the last one too, with single spaces and nothing else. H is a number by the 16 upper-case
+    hexadecimal digits of its bits, the centre in km and sigma in 1/km. No line gives no kernel. The lines are bytes,
+    as `open(path, "rb").read()` gives them.
+
+    >>> import struct
+    >>> def line(*numbers, alpha="none"):
+    ...     x, y, z, sigma, w = (struct.pack(">d", number).hex().upper() for number in numbers)
+    ...     return f"(kernel (c {x} {y} {z}) (sigma {sigma}) (w {w}) (alpha {alpha}))\n".encode()
+    >>> convert(line(1, 2, 3, 4, 500), 1.5, Loader.STRICT)
+    [Kernel(c=(1000.0, 2000.0, 3000.0), sigma=0.004, w=500.0, alpha=1.5)]
+    >>> below = line(1, 2, 3, 4, 500, alpha="BFF0000000000000")
+    >>> [convert(below, 1.5, loader)[0].alpha for loader in (Loader.NATIVE, Loader.SOURCE)]
+    [1.5, -1.0]
+    >>> convert(below, 1.5, Loader.STRICT)
+    Traceback (most recent call last):
+    cauchy.LoadersDiffer: loaders differ: native and source make different kernels of some line (no 21)
+    >>> convert(b"1 2 3 4 500 -\n", 1.5, Loader.NATIVE)
+    Traceback (most recent call last):
+    cauchy.BadKernelLine: bad kernel line: not (kernel (c h h h) (sigma h) (w h) (alpha h or none)) (no 20)
+    >>> convert(b"", 1.5, Loader.NATIVE)
+    []
+    """
+    run = arrays.octets(lines, "lines")
+    out = array("d", [0.0]) * (6 * (run.count // SHORTEST_LINE))
+    alpha, which = arrays.number(default, "default"), crossing_loader(loader)
+    answer = call("convert", *run.lent(), alpha, which, *arrays.written(out).lent())
+    return listed(out, answer.kernels)
 
 
 def decompose(kernel: Kernel, radius: float) -> Pieces:

@@ -2,7 +2,7 @@
 have. No one outside this package sees them; tests/test_header.py compares every one with the header."""
 import ctypes
 import os
-from ctypes import POINTER, Structure, c_double, c_size_t, c_uint32, c_uint64
+from ctypes import POINTER, Structure, c_double, c_size_t, c_uint8, c_uint32, c_uint64
 from pathlib import Path
 from typing import Any, Dict, List, Tuple
 
@@ -17,8 +17,12 @@ MAX_TRACK = 4096
 FLOATS_BEFORE_MESH = 1761
 WORDS_BEFORE_MESH = 98
 
-# The kinds of a convention.
+# The kinds of a convention, and the loaders of a file.
 RAW_KIND, RHO0_KIND, MASS_KIND = 0, 1, 2
+NATIVE_LOADER, SOURCE_LOADER, STRICT_LOADER = 0, 1, 2
+
+# The bytes of the shortest kernel line of a file, one without an exponent, and its newline.
+SHORTEST_LINE = 123
 
 
 class CauchyVector(Structure):
@@ -105,6 +109,7 @@ class CauchyBill(Structure):
 
 _FLOATS = (POINTER(c_double), c_size_t)
 _WORDS = (POINTER(c_uint32), c_size_t)
+_BYTES = (POINTER(c_uint8), c_size_t)
 _STORE = _MESH = (*_FLOATS, *_WORDS)
 
 # Each function without its "cauchy_": what it answers, then its arguments.
@@ -120,6 +125,7 @@ PROTOTYPES: Dict[str, Tuple[Any, ...]] = {
     "store_list": (CauchyListed, *_STORE, CauchyConvention, *_FLOATS),
     "store_track": (CauchyTrack, *_STORE, CauchyConvention, *_FLOATS, *_FLOATS),
     "kernel_from_file": (CauchyKernel, CauchyFileKernel, c_double),
+    "convert": (CauchyKernels, *_BYTES, c_double, c_uint32, *_FLOATS),
     "decompose": (CauchyPieces, CauchyKernel, c_double, *_FLOATS),
     "decompose_list": (CauchyListPieces, *_FLOATS, c_double, *_FLOATS),
     "bill": (CauchyBill, *_FLOATS, c_uint32, c_uint32),

@@ -129,6 +129,20 @@ class ManyKernels(Refused):
     meaning = "many kernels: a bill takes at most 32"
 
 
+class BadKernelLine(Refused):
+    """A line of a file is no kernel line: also one without its newline, or with a carriage return before it."""
+
+    number = 20
+    meaning = "bad kernel line: not (kernel (c h h h) (sigma h) (w h) (alpha h or none))"
+
+
+class LoadersDiffer(Refused):
+    """The two loaders make different kernels of the lines, and neither was named."""
+
+    number = 21
+    meaning = "loaders differ: native and source make different kernels of some line"
+
+
 class NotClosed(Refused):
     """The mesh is not closed."""
 
@@ -140,7 +154,7 @@ REFUSALS: Dict[int, Type[Refused]] = {
     kind.number: kind
     for kind in (
         Ragged, Oversize, LooseCorner, ShortStore, Unsound, NoPlace, Vacant, Unfinished, ShortList, BadMatrix,
-        FlatPivot, Exponent, BadTrack, ManyKernels, NotClosed,
+        FlatPivot, Exponent, BadTrack, ManyKernels, BadKernelLine, LoadersDiffer, NotClosed,
     )
 }
 

@@ -5,11 +5,13 @@ itself and its copies and can be found in a set; 0.0 and -0.0 are equal, as ever
 """
 from array import array
 from dataclasses import dataclass, fields
+from enum import Enum
 from typing import Any, Dict, Iterator, List, NamedTuple, Sequence, Tuple, Union
 
 from . import arrays
 from .library import (
-    MASS_KIND, RAW_KIND, RHO0_KIND, CauchyConvention, CauchyKernel, CauchyMassReport, CauchyVector,
+    MASS_KIND, NATIVE_LOADER, RAW_KIND, RHO0_KIND, SOURCE_LOADER, STRICT_LOADER, CauchyConvention, CauchyKernel,
+    CauchyMassReport, CauchyVector,
 )
 
 Vector = Tuple[float, float, float]
@@ -116,6 +118,24 @@ def mass(target: float, bulk: float = 1190.0) -> Convention:
     return Convention("mass", target, bulk)
 
 
+class Loader(Enum):
+    """Which of the original's two loaders makes the kernels of a file. They differ in the exponent alone.
+
+    >>> Loader.NATIVE, Loader("strict")
+    (<Loader.NATIVE: 'native'>, <Loader.STRICT: 'strict'>)
+    """
+
+    NATIVE = "native"
+    """an exponent that is missing or not above 0, a NaN too, becomes the default"""
+    SOURCE = "source"
+    """an exponent that is missing becomes the default; one that is given is kept, whatever it is"""
+    STRICT = "strict"
+    """either, where both give equal kernels, bit for bit with every NaN alike; any other file is refused"""
+
+
+_LOADERS = {Loader.NATIVE: NATIVE_LOADER, Loader.SOURCE: SOURCE_LOADER, Loader.STRICT: STRICT_LOADER}
+
+
 @dataclass(frozen=True, eq=False)
 class MassReport(Value):
     """Masses before and after a convention's scale."""
@@ -210,6 +230,13 @@ def crossing_convention(convention: object) -> CauchyConvention:
     if not isinstance(convention, Convention):
         raise TypeError(f"convention is RAW, rho0(..) or mass(..), and not of the type {type(convention).__name__}")
     return CauchyConvention(_KINDS[convention.kind], convention.target, convention.bulk)
+
+
+def crossing_loader(loader: object) -> int:
+    """A loader for the library."""
+    if not isinstance(loader, Loader):
+        raise TypeError(f"loader is a Loader, as Loader.STRICT, and not of the type {type(loader).__name__}")
+    return _LOADERS[loader]
 
 
 def answered_kernel(kernel: CauchyKernel) -> Kernel:

@@ -8,7 +8,7 @@ from fractions import Fraction
 
 import cauchy
 from bodies import sphere
-from cauchy import RAW, Kernel, Store, mass, rho0
+from cauchy import RAW, Kernel, Loader, Store, mass, rho0
 
 try:
     import numpy as np
@@ -18,6 +18,9 @@ except ImportError:
 CALLS = 10_000
 DOCUMENTED = (TypeError, ValueError, cauchy.Refused)
 VERTICES, FACES = sphere(1)
+ZERO = "0" * 16
+LINE = f"(kernel (c {ZERO} {ZERO} {ZERO}) (sigma {ZERO}) (w {ZERO}) (alpha none))\n".encode()
+ZERO_LINE = bytearray(LINE.replace(b"none", ZERO.encode()))
 KERNELS = [Kernel((1, 2, 3), 0.01, 700, 1), Kernel((0, 0, 0), 0.001, 20, 2), Kernel((float("nan"),) * 3, 0, -1, 0.5)]
 
 
@@ -82,6 +85,8 @@ RIGHT = {
     "n": lambda pick: pick.randrange(-1, 18),
     "cells": lambda pick: [pick.random() for _ in range(pick.choice((0, 2, 6, 12)))],
     "count": lambda pick: pick.choice((0, 4, 1048576, 1048577, 2**32, 2**64, -1)),
+    "lines": lambda pick: pick.choice((b"", LINE, LINE * 3, LINE[:-1], ZERO_LINE)),
+    "loader": lambda pick: pick.choice(list(Loader)),
     "bytes": lambda pick: pick.choice((Store(1, [], []).to_bytes(), b"CAUCHY01", b"x" * 40)),
 }
 
@@ -93,9 +98,9 @@ METHODS = {
 FUNCTIONS = {
     "Store": "number vertices faces", "Store.from_bytes": "bytes", "Kernel": "point number number number",
     "Convention": "kind number number", "rho0": "number", "mass": "number number",
-    "kernel_from_file": "point number number number number", "decompose": "kernel number",
-    "decompose_list": "kernels number", "bill": "kernels count count", "densitize": "kernels point",
-    "solve": "n cells", "closed": "vertices faces",
+    "kernel_from_file": "point number number number number", "convert": "lines number loader",
+    "decompose": "kernel number", "decompose_list": "kernels number", "bill": "kernels count count",
+    "densitize": "kernels point", "solve": "n cells", "closed": "vertices faces",
     "kernel_volume": "vertices faces point number", "body_volume": "vertices faces",
     "volume_centroid": "vertices faces", "field_mass": "vertices faces kernels",
     "homogeneous": "number vertices faces", "source_density_at": "kernels point",
@@ -119,7 +124,7 @@ class Fuzz(unittest.TestCase):
         self.assertEqual(methods, {*METHODS, "from_bytes"})
         functions = {name for name in cauchy.__all__ if callable(getattr(cauchy, name))}
         answers = {"Bill", "Held", "MassReport", "StoreReport", "Placed", "Steps", "Pieces", "Floats", "Items",
-                   "KernelList", "UnknownRefusal", "FloatStateError", "SnapshotError", "Refused"}
+                   "KernelList", "Loader", "UnknownRefusal", "FloatStateError", "SnapshotError", "Refused"}
         refusals = {kind.__name__ for kind in cauchy.REFUSALS.values()}
         self.assertEqual(functions - answers - refusals, set(FUNCTIONS) - {"Store.from_bytes"})
 

@@ -54,7 +54,7 @@ class Declarations(unittest.TestCase):
     def test_all_functions_and_structures_are_the_headers(self):
         self.assertEqual(list(differences(TEXT)), [])
         functions, structures, _, _ = header(TEXT)
-        self.assertGreaterEqual((len(functions), len(structures)), (35, 19))
+        self.assertGreaterEqual((len(functions), len(structures)), (36, 19))
 
     def test_changes_of_the_header_are_seen(self):
         changes = [
@@ -68,6 +68,8 @@ class Declarations(unittest.TestCase):
             ("CauchyListed cauchy_store_list(", "CauchyTrack cauchy_store_list("),
             ("uint32_t no, freed;", "uint32_t freed, no;"),
             ("uint64_t steps, floats;", "uint64_t floats, steps;"),
+            ("const uint8_t *lines, size_t n_lines, double", "const double *lines, size_t n_lines, double"),
+            ("double default_alpha, uint32_t loader,", "uint32_t loader, double default_alpha,"),
         ]
         for old, new in changes:
             with self.subTest(old=old):
@@ -121,6 +123,10 @@ class Numbers(unittest.TestCase):
             self.assertEqual(getattr(cauchy, name), self.constants[f"CAUCHY_{name}"])
         for name in ("RAW", "RHO0", "MASS"):
             self.assertEqual(getattr(library, f"{name}_KIND"), self.constants[f"CAUCHY_{name}"])
+        for name in ("NATIVE", "SOURCE", "STRICT"):
+            self.assertEqual(getattr(library, f"{name}_LOADER"), self.constants[f"CAUCHY_{name}"])
+        enough = re.search(r"#define CAUCHY_CONVERT_FLOATS\(B\) \(\(size_t\)6 \* \(\(size_t\)\(B\) / (\d+)\)\)", TEXT)
+        self.assertEqual(library.SHORTEST_LINE, int(enough[1]))
         for name in ("FLOATS", "WORDS"):
             told = re.search(rf"#define CAUCHY_STORE_{name}\(\w\) \(\(size_t\)(\d+) \+ \(size_t\)3 \*", TEXT)
             self.assertEqual(getattr(library, f"{name}_BEFORE_MESH"), int(told[1]))

@@ -1,13 +1,16 @@
 """Values: what they take, that they do not change, and how they compare and print. Refusals: their classes."""
 import copy
+import ctypes
 import dataclasses
 import pickle
+import struct
 import unittest
+from array import array
 from fractions import Fraction
 
 import cauchy
 from bodies import sphere
-from cauchy import RAW, Convention, Kernel, Store, mass, rho0
+from cauchy import RAW, Convention, Kernel, Loader, Store, mass, rho0
 
 NAN = float("nan")
 
@@ -83,6 +86,17 @@ class Wrong(unittest.TestCase):
         self.refused(cauchy.Oversize, "oversize", cauchy.bill, ragged, 1048577, 4)
         self.refused(cauchy.ShortList, "short list", cauchy.bill, ragged, 4, 4)
         self.refused(cauchy.ManyKernels, "many kernels", cauchy.bill, [kernel] * 33, 4, 4)
+
+    def test_conversions(self):
+        for lines in (None, 5, "", LINE.decode(), [LINE], list(LINE), (x for x in LINE), {LINE}, array("d", [1.0]),
+                      memoryview(bytearray(24)).cast("d"), (ctypes.c_bool * 3)(), released(), object()):
+            self.refused(TypeError, "lines: bytes", cauchy.convert, lines, 1.5, Loader.NATIVE)
+        for default in (None, "1", True, [1], 1j):
+            self.refused(TypeError, "default is a number", cauchy.convert, LINE, default, Loader.NATIVE)
+        for loader in (None, "native", 0, True, Loader):
+            self.refused(TypeError, "loader is a Loader", cauchy.convert, LINE, 1.5, loader)
+        self.refused(TypeError, "loader", cauchy.convert, LINE, 1.5)
+        self.refused(ValueError, "strictly", Loader, "strictly")
 
     def test_other_real_numbers_are_taken(self):
         kernel = Kernel((Fraction(1, 2), 1, 2), Fraction(1, 4), 2, 1)
@@ -165,6 +179,80 @@ class Bills(unittest.TestCase):
             self.assertLessEqual(6 * len(store.list(RAW)), due.floats)
 
 
+def line(*numbers):
+    """A kernel line of a file: x, y, z, sigma, w, and the exponent where there is one."""
+    x, y, z, sigma, w, alpha = (digits(number) for number in (*numbers, None)[:6])
+    return f"(kernel (c {x} {y} {z}) (sigma {sigma}) (w {w}) (alpha {alpha}))\n".encode()
+
+
+def digits(number):
+    return "none" if number is None else struct.pack(">d", number).hex().upper()
+
+
+LINE = line(1, 2, 3, 4, 5, 6)
+
+
+class Conversions(unittest.TestCase):
+    GIVEN = (2.5, float("inf"), 5e-324, 0.0, -0.0, -1.0, -float("inf"), NAN)
+    DEFAULTS = (1.5, 0.0, -0.0, -1.0, NAN)
+
+    def test_each_loader_makes_its_kernels(self):
+        numbers = [(i, -i, 0.5 * i, 4 + i, -500 - i, alpha) for i, alpha in enumerate((None, *self.GIVEN))]
+        lines = b"".join(line(*(kernel if kernel[5] is not None else kernel[:5])) for kernel in numbers)
+        for default in self.DEFAULTS:
+            native = [cauchy.kernel_from_file(kernel[:3], *kernel[3:], default) for kernel in numbers]
+            self.assertEqual(bits(cauchy.convert(lines, default, Loader.NATIVE)), bits(native))
+            source = [dataclasses.replace(kernel, alpha=default if given is None else given)
+                      for kernel, given in zip(native, (None, *self.GIVEN))]
+            self.assertEqual(bits(cauchy.convert(lines, default, Loader.SOURCE)), bits(source))
+
+    def test_strict_takes_what_both_take_alike(self):
+        for default in self.DEFAULTS:
+            for lines in (line(1, 2, 3, 4, 5), *(line(1, 2, 3, 4, 5, alpha) for alpha in self.GIVEN)):
+                native, source = (bits(cauchy.convert(lines, default, loader)) for loader in
+                                  (Loader.NATIVE, Loader.SOURCE))
+                for text in (lines, LINE + lines, lines + LINE):
+                    with self.subTest(text=text, default=default):
+                        if native == source:
+                            strict = bits(cauchy.convert(text, default, Loader.STRICT))
+                            self.assertEqual(strict, bits(cauchy.convert(text, default, Loader.NATIVE)))
+                        else:
+                            with self.assertRaises(cauchy.LoadersDiffer):
+                                cauchy.convert(text, default, Loader.STRICT)
+
+    def test_bytes_that_are_no_lines(self):
+        good = LINE + line(1, 2, 3, 4, 5)
+        bad = [good[:-1], good.replace(b"\n", b"\r\n"), good + b"\n", b"\n" + good, good + b" ", b" " + good,
+               b"\0" + good, good + b"\0", good.replace(b"4014", b"401g"), good.replace(b"none", b"NONE"),
+               good.replace(b" (w", b"  (w"), b"\xef\xbb\xbf" + good, b"\n", b"\0", b"(", b"hello\n" * 1000,
+               bytes(100_000), b"\n" * 100_000]
+        for text in bad + [good[:cut] for cut in range(1, len(good)) if cut != len(LINE)]:
+            for loader in Loader:
+                with self.subTest(text=text[:200], loader=loader), self.assertRaises(cauchy.BadKernelLine):
+                    cauchy.convert(text, 1.5, loader)
+
+    def test_all_buffers_of_bytes(self):
+        many = LINE * 500
+        wanted = [Kernel((1000, 2000, 3000), 0.004, 5, 6)]
+        spread = bytearray(2 * len(LINE))
+        spread[::2] = LINE
+        for lines in (LINE, bytearray(LINE), memoryview(LINE), array("B", LINE), memoryview(LINE).cast("b"),
+                      (ctypes.c_uint8 * len(LINE))(*LINE), memoryview(spread)[::2], memoryview(LINE[::-1])[::-1]):
+            self.assertEqual(cauchy.convert(lines, 1.5, Loader.STRICT), wanted)
+        self.assertEqual(cauchy.convert(many, 1.5, Loader.STRICT), wanted * 500)
+        for nothing in (b"", bytearray(), memoryview(b""), array("B")):
+            self.assertEqual(cauchy.convert(nothing, NAN, Loader.STRICT), [])
+
+    def test_a_loader_pickles(self):
+        for loader in Loader:
+            self.assertIs(pickle.loads(pickle.dumps(loader)), loader)
+
+
+def bits(kernels):
+    """The bits of kernels, those of every NaN alike."""
+    return [[digits(NAN if x != x else x) for x in (*k.c, k.sigma, k.w, k.alpha)] for k in kernels]
+
+
 class Refusals(unittest.TestCase):
     def test_each_has_a_class_that_pickles(self):
         for number, kind in cauchy.REFUSALS.items():
@@ -195,12 +283,20 @@ class Refusals(unittest.TestCase):
             cauchy.Exponent: lambda: cauchy.source_normalize(vertices, faces, wide, 1),
             cauchy.BadTrack: lambda: store.track(RAW, [0] * 4),
             cauchy.ManyKernels: lambda: cauchy.bill(wide * 33, 6, 8),
+            cauchy.BadKernelLine: lambda: cauchy.convert(LINE[1:], 1, Loader.NATIVE),
+            cauchy.LoadersDiffer: lambda: cauchy.convert(line(1, 2, 3, 4, 5, -0.0), 0, Loader.STRICT),
             cauchy.NotClosed: lambda: cauchy.closed(vertices, faces[1:]),
         }
         for kind, call in told.items():
             with self.subTest(kind=kind), self.assertRaises(kind):
                 call()
         self.assertEqual(set(cauchy.REFUSALS.values()) - set(told), {cauchy.ShortStore, cauchy.Unsound})
+
+
+def released():
+    view = memoryview(bytearray(8))
+    view.release()
+    return view
 
 
 def bytearray_view(count):
