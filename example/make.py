@@ -1,5 +1,6 @@
-"""Makes body.obj, track.txt and session.txt: a made-up body like a spinning top, a straight track through
-it, and lines for the program `bench` with the body and the kernels in metres.
+"""Makes body.obj, track.txt, kernels.lines and session.txt: a made-up body like a spinning top, a straight track
+through it, the kernels of kernels.txt in bracket lines, and lines for the program `bench` with the body and the kernels
+in metres.
 
     python3 example/make.py        (writes them beside itself; kernels.txt is written by hand)
 """
@@ -68,8 +69,8 @@ def hexadecimal(*xs):
     return " ".join(struct.pack(">d", x).hex().upper() for x in xs)
 
 
-def kernels():
-    """In metres, as the library's own call makes them of the file's: c times 1000, sigma divided by 1000."""
+def file_kernels():
+    """The default exponent of kernels.txt, and its kernels, in kilometres, with None for no exponent."""
     default, found = 1.0, []
     for line in (HERE / "kernels.txt").read_text().split("\n"):
         words = line.split("#")[0].split()
@@ -77,8 +78,21 @@ def kernels():
             default = float(words[1])
         elif words:
             x, y, z, sigma, w = map(float, words[:5])
-            found.append(([x * 1000, y * 1000, z * 1000], sigma / 1000, w, words[5]))
-    return [(c, sigma, w, default if alpha == "-" else float(alpha)) for c, sigma, w, alpha in found]
+            found.append(([x, y, z], sigma, w, None if words[5] == "-" else float(words[5])))
+    return default, found
+
+
+def kernels():
+    """In metres, as the library's own call makes them of the file's: c times 1000, sigma divided by 1000."""
+    default, found = file_kernels()
+    return [([x * 1000 for x in c], sigma / 1000, w, default if alpha is None else alpha)
+            for c, sigma, w, alpha in found]
+
+
+def kernel_line(c, sigma, w, alpha):
+    exponent = "none" if alpha is None else hexadecimal(alpha)
+    numbers = (hexadecimal(*c), hexadecimal(sigma), hexadecimal(w), exponent)
+    return "(kernel (c %s) (sigma %s) (w %s) (alpha %s))" % numbers
 
 
 def session(vertices, faces):
@@ -101,6 +115,8 @@ def session(vertices, faces):
 def main():
     vertices, faces = mesh()
     (HERE / "session.txt").write_text("\n".join(session(vertices, faces)) + "\n")
+    lines = [kernel_line(*kernel) for kernel in file_kernels()[1]]
+    (HERE / "kernels.lines").write_text("\n".join(lines) + "\n")
     lines = ["# A made-up body like a spinning top, in kilometres; by make.py", "o body"]
     lines += ["v %.6f %.6f %.6f" % v for v in vertices]
     lines += ["f %d %d %d" % f for f in faces]

@@ -111,9 +111,113 @@ fn the_bill_comes_before_the_work() {
 
     folder.fails("bill none.obj k.txt", 1, "none.obj: no such file");
     folder.fails("bill a.obj a.obj", 1, "a.obj, line 1: a kernel has six numbers");
-    folder.fails("bill a.obj k.txt --raw", 2, "bill takes no option but --mesh-unit");
+    folder.fails("bill a.obj k.txt --raw", 2, "bill takes no option but --mesh-unit, --loader and --alpha");
     folder.write("large.obj", format!("{BODY}{}", "f 1 3 2\n".repeat(2_097_149)));
     folder.fails("bill large.obj k.txt", 1, "large.obj: oversize: ");
+}
+
+/// A kernel in a bracket line: x, y, z, sigma, weight, and the exponent where there is one.
+fn line(numbers: [f64; 5], alpha: Option<f64>) -> String {
+    let hex = |x: f64| format!("{:016X}", x.to_bits());
+    let [x, y, z, sigma, w] = numbers.map(hex);
+    let alpha = alpha.map_or("none".to_string(), hex);
+    format!("(kernel (c {x} {y} {z}) (sigma {sigma}) (w {w}) (alpha {alpha}))\n")
+}
+
+const FIRST: [f64; 5] = [0.1, 0.15, 0.05, 2.0, 1200.0];
+const SECOND: [f64; 5] = [0.05, 0.02, 0.09, 10.0, -300.0];
+
+#[test]
+fn bracket_lines_make_the_kernels_of_a_list() {
+    let folder = Folder::new("lines");
+    let reads =
+        "--mass 1e11 --track t.txt --overwrite --csv c.csv --list l.csv --svg s.svg --snapshot s.snap";
+    let files = || ["c.csv", "l.csv", "s.svg", "s.snap"].map(|name| folder.read(name));
+    let list = folder.goes(&format!("run a.obj k.txt {reads}"));
+    let wanted = files();
+    folder.write("k.lines", line(FIRST, Some(1.0)) + &line(SECOND, None));
+    for loader in ["", "--loader strict", "--loader native", "--loader source"] {
+        let said = folder.goes(&format!("run a.obj k.lines {loader} --alpha 2 {reads}"));
+        assert!(files() == wanted, "{loader}");
+        let name = loader.split(' ').next_back().filter(|name| !name.is_empty()).unwrap_or("strict");
+        let (ours, its) =
+            (format!("k.lines, by the loader {name}, default exponent 2"), "k.txt, default exponent 1");
+        assert_eq!(said.replace(&ours, its), list);
+    }
+    let said = folder.goes("bill a.obj k.lines --alpha 2 --loader native --mesh-unit m");
+    assert!(said.contains("kernels   k.lines, by the loader native, default exponent 2\n"), "{said}");
+    assert!(said.contains("at most 56 steps"), "{said}");
+}
+
+#[test]
+fn a_loader_is_named_where_the_loaders_differ() {
+    let folder = Folder::new("loaders");
+    let low = line(SECOND, Some(-1.0));
+    folder.write("low.lines", line(FIRST, None) + &low + &line(FIRST, Some(-0.0)));
+    let differ = "low.lines, line 2: loaders differ: the exponent is 1 by native and -1 by source; \
+                  --loader names one of them (no 21)";
+    for loader in ["", "--loader strict"] {
+        folder.fails(&format!("run a.obj low.lines --raw --list l.csv {loader}"), 1, differ);
+        folder.fails(&format!("bill a.obj low.lines {loader}"), 1, differ);
+    }
+    let native = folder.goes("run a.obj low.lines --raw --loader native");
+    assert!(native.contains("place 1: exponent -1 is not above 0, the default is taken"), "{native}");
+    assert!(native.contains("place 2: exponent -0 is not above 0, the default is taken"), "{native}");
+    let source = folder.goes("run a.obj low.lines --raw --loader source");
+    assert!(source.contains("place 1: exponent -1 is not above 0, and is kept"), "{source}");
+    assert!(source.contains("place 1   16 pieces   exponent -1"), "{source}");
+    assert!(!source.contains("default is taken"), "{source}");
+
+    // numbers that are not finite are read, and what comes of them is said
+    folder.write("nan.lines", line([0.1, 0.1, 0.1, 2.0, f64::NAN], None));
+    let said = folder.goes("run a.obj nan.lines --mass 1e11 --track t.txt --svg s.svg");
+    assert!(said.contains("the target is NOT met") && said.contains("not a finite number"), "{said}");
+    folder.write("wide.lines", line([0.1, f64::INFINITY, 0.1, 2.0, 5.0], Some(f64::NAN)));
+    let said = folder.goes("run a.obj wide.lines --raw --loader source");
+    assert!(said.contains("place 0   0 pieces    exponent NaN"), "{said}");
+}
+
+#[test]
+fn bad_bracket_lines_are_named() {
+    let folder = Folder::new("bad-lines");
+    let good = line(FIRST, None);
+    let form = "bad kernel line: not (kernel (c h h h) (sigma h) (w h) (alpha h or none)) (no 20)";
+    let bad = |name: &str, text: String, said: &str| {
+        folder.write(name, text);
+        for loader in ["", "--loader native", "--loader source", "--loader strict --alpha 3"] {
+            folder.fails(
+                &format!("run a.obj {name} --raw --list l.csv {loader}"),
+                1,
+                &format!("{name}, {said}"),
+            );
+            folder.fails(&format!("bill a.obj {name} {loader}"), 1, &format!("{name}, {said}"));
+        }
+    };
+    bad(
+        "cut",
+        good.repeat(2).trim_end().into(),
+        &format!("line 2: {form}: the newline at its end is missing"),
+    );
+    bad("dos", good.replace('\n', "\r\n"), &format!("line 1: {form}: a carriage return stands at its end"));
+    bad("nul", good.clone() + "\0\n" + &good, &format!("line 2: {form}\n"));
+    bad("blank", good.clone() + "\n", &format!("line 2: {form}\n"));
+    bad("note", good.clone() + "# note\n", &format!("line 2: {form}\n"));
+    bad("lower", good.to_lowercase(), &format!("line 1: {form}\n"));
+    bad("mixed", good.clone() + KERNELS, &format!("line 2: {form}\n"));
+    // a line that is not of the form comes ahead of one on which the loaders differ
+    bad("both", line(FIRST, Some(-1.0)) + "hello\n", &format!("line 2: {form}\n"));
+    bad("many", good.repeat(33), "line 33: one kernel too many: a store has 32 places");
+
+    for option in ["--loader native", "--alpha 2"] {
+        let said = "k.txt, line 1: --loader and --alpha go with bracket lines, (kernel ..), and this is none";
+        folder.fails(&format!("run a.obj k.txt --raw {option}"), 1, said);
+        folder.write("empty", "");
+        folder.fails(&format!("run a.obj empty --raw {option}"), 1, "empty: has no kernel");
+    }
+    folder.fails("run a.obj k.txt --raw --loader both", 2, "both is none of native, source and strict");
+    folder.fails("run a.obj k.txt --raw --alpha -1", 2, "--alpha: -1 is not a number above 0");
+    folder.goes("run a.obj k.txt --raw --snapshot s.snap");
+    folder.fails("resume s.snap --raw --loader native", 2, "--loader and --alpha go with run");
 }
 
 #[test]

@@ -1,10 +1,10 @@
 //! The bill before the work, and an estimate of the time that the work takes on this machine.
 use crate::failure::{Failure, Result};
 use crate::figures::rounded;
+use crate::options::Files;
 use crate::output::say;
-use crate::{input, opening, page, work};
+use crate::{input, kernels, opening, page, work};
 use cauchy::{Bill, Kernel, Mesh, OpenError, Refusal, Store};
-use std::path::Path;
 use std::time::{Duration, Instant};
 
 /// How long steps are tried for an estimate.
@@ -37,20 +37,19 @@ impl Due {
 }
 
 /// Prints the bill of a mesh and a kernel list, and an estimate of the time. Nothing is kept.
-pub fn print(mesh_path: &Path, kernels_path: &Path, unit: f64) -> Result<()> {
-    let mesh = input::mesh(mesh_path, unit)?;
-    let list = input::kernels(kernels_path)?;
+pub fn print(files: &Files) -> Result<()> {
+    let mesh = input::mesh(&files.mesh, files.unit)?;
+    let list = kernels::read(&files.kernels, files.loading)?;
     let mesh = Mesh { vertices: &mesh.vertices, faces: &mesh.faces };
-    let kernels = list.to_metres();
-    let due = Due::of(&kernels, mesh).map_err(|refusal| Failure::of_file(mesh_path, refusal))?;
+    let due = Due::of(&list.kernels, mesh).map_err(|refusal| Failure::of_file(&files.mesh, refusal))?;
     let size = page::size(mesh.vertices.len() as u64, mesh.faces.len() as u64);
     let entries = [
-        ("mesh", vec![mesh_path.display().to_string(), size]),
-        ("kernels", opening::kernel_lines(kernels_path, &list)),
+        ("mesh", vec![files.mesh.display().to_string(), size]),
+        ("kernels", list.said),
         ("bill", due.lines()),
     ];
     say(&entries.map(|(label, lines)| page::entry(label, &lines)).concat())?;
-    let step = step_time(mesh, kernels[0]).map_err(|fault| Failure::of_file(mesh_path, fault))?;
+    let step = step_time(mesh, list.kernels[0]).map_err(|fault| Failure::of_file(&files.mesh, fault))?;
     say(&page::entry("time", &[estimate(step, due.bill.steps)]))
 }
 

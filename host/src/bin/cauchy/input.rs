@@ -1,6 +1,6 @@
 //! The text files: mesh, kernels, track. Every fault names its file and line.
 use crate::failure::{Failure, Result};
-use cauchy::{FileKernel, Kernel, PLACES};
+use cauchy::{FileKernel, PLACES};
 use std::fs;
 use std::path::Path;
 
@@ -18,21 +18,18 @@ pub struct KernelFile {
     pub kernels: Vec<FileKernel>,
 }
 
-impl KernelFile {
-    /// The kernels in metres.
-    pub fn to_metres(&self) -> Vec<Kernel> {
-        self.kernels.iter().map(|kernel| kernel.to_metres(self.default_alpha)).collect()
-    }
+/// A file's bytes.
+pub fn bytes(path: &Path) -> Result<Vec<u8>> {
+    fs::read(path).map_err(|fault| Failure::of_system(path, &fault))
 }
 
 /// A file's text. A byte that is no text becomes a mark that stands in no number.
-pub fn text(path: &Path) -> Result<String> {
-    let bytes = fs::read(path).map_err(|fault| Failure::of_system(path, &fault))?;
-    Ok(String::from_utf8_lossy(&bytes).into_owned())
+fn text(path: &Path) -> Result<String> {
+    Ok(String::from_utf8_lossy(&bytes(path)?).into_owned())
 }
 
 /// The words of each line that has some, comments left out, with the line's number from 1.
-fn lines(text: &str) -> impl Iterator<Item = (usize, Vec<&str>)> {
+pub fn lines(text: &str) -> impl Iterator<Item = (usize, Vec<&str>)> {
     let words = |line| str::split_whitespace(line).take_while(|word| !word.starts_with('#')).collect();
     let numbered = text.lines().enumerate().map(move |(i, line)| (i + 1, words(line)));
     numbered.filter(|(_, words): &(usize, Vec<&str>)| !words.is_empty())
@@ -118,21 +115,15 @@ fn triangles(corners: &[u32]) -> impl Iterator<Item = [u32; 3]> {
     corners[1..].windows(2).map(|edge| [corners[0], edge[0], edge[1]])
 }
 
-/// A kernel list.
-pub fn kernels(path: &Path) -> Result<KernelFile> {
-    kernels_of(path, &text(path)?)
-}
-
-fn kernels_of(path: &Path, text: &str) -> Result<KernelFile> {
+/// A kernel list of the program's own form.
+pub fn kernels_of(path: &Path, text: &str) -> Result<KernelFile> {
     let mut default = None;
     let mut kernels = Vec::new();
     for (line, words) in lines(text) {
         let told = match words[0] {
             "default" if default.is_some() => Err("a second default".to_string()),
             "default" => default_of(&words[1..]).map(|alpha| default = Some(alpha)),
-            _ if kernels.len() == PLACES as usize => {
-                Err(format!("one kernel too many: a store has {PLACES} places"))
-            }
+            _ if kernels.len() == PLACES as usize => Err(too_many()),
             _ => kernel(&words).map(|kernel| kernels.push(kernel)),
         };
         told.map_err(|what| Failure::of_line(path, line, what))?;
@@ -141,6 +132,11 @@ fn kernels_of(path: &Path, text: &str) -> Result<KernelFile> {
         return Err(Failure::of_file(path, "has no kernel"));
     }
     Ok(KernelFile { default_alpha: default.unwrap_or(1.0), kernels })
+}
+
+/// What is said of the first kernel that has no place.
+pub fn too_many() -> String {
+    format!("one kernel too many: a store has {PLACES} places")
 }
 
 fn default_of(words: &[&str]) -> Told<f64> {

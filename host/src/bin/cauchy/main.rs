@@ -4,6 +4,7 @@ mod failure;
 mod figures;
 mod holes;
 mod input;
+mod kernels;
 mod opening;
 mod options;
 mod output;
@@ -25,7 +26,7 @@ fn main() -> ExitCode {
     let told = options::parse(std::env::args_os().skip(1)).and_then(|command| match command {
         Command::Help => say(include_str!("help.txt")),
         Command::Version => say(concat!("cauchy ", env!("CARGO_PKG_VERSION"), "\n")),
-        Command::Bill { mesh, kernels, unit } => bill::print(&mesh, &kernels, unit),
+        Command::Bill(files) => bill::print(&files),
         Command::Work(options) => run(&options),
     });
     match told {

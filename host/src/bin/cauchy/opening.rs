@@ -1,11 +1,10 @@
 //! The store, from a mesh and a kernel list or from a snapshot.
 use crate::bill::Due;
 use crate::failure::{Failure, Result};
-use crate::figures::{counted, short};
+use crate::figures::counted;
 use crate::holes::Holes;
-use crate::input::{self, KernelFile};
-use crate::options::Origin;
-use crate::page;
+use crate::options::{Files, Origin};
+use crate::{input, kernels, page};
 use cauchy::{Mesh, Refusal, Store};
 use std::path::Path;
 
@@ -29,7 +28,7 @@ struct Opened {
 /// The store, without unused vertices where that is asked. Its mesh need not be closed.
 pub fn open(origin: &Origin, squeeze: bool) -> Result<Opening> {
     let mut opened = match origin {
-        Origin::Files { mesh, kernels, unit, radius } => open_files(mesh, kernels, *unit, *radius)?,
+        Origin::Files(files, radius) => open_files(files, *radius)?,
         Origin::Snapshot(path) => open_snapshot(path)?,
     };
     let (closed, closed_lines) = closed(opened.store.mesh())?;
@@ -87,44 +86,26 @@ fn unused(mesh: Mesh<'_>) -> u64 {
 }
 
 /// The store of a mesh and a kernel list. The bill is made before any kernel is put.
-fn open_files(mesh_path: &Path, kernels_path: &Path, unit: f64, radius: Option<f64>) -> Result<Opened> {
-    let mut mesh = input::mesh(mesh_path, unit)?;
-    let list = input::kernels(kernels_path)?;
-    let unit_name = if unit == 1.0 { "metres" } else { "kilometres" };
-    let mut mesh_lines = vec![format!("{}, in {unit_name}", mesh_path.display())];
-    let of_mesh = |fault| Failure::of_file(mesh_path, fault);
+fn open_files(files: &Files, radius: Option<f64>) -> Result<Opened> {
+    let mut mesh = input::mesh(&files.mesh, files.unit)?;
+    let list = kernels::read(&files.kernels, files.loading)?;
+    let unit_name = if files.unit == 1.0 { "metres" } else { "kilometres" };
+    let mut mesh_lines = vec![format!("{}, in {unit_name}", files.mesh.display())];
+    let of_mesh = |fault| Failure::of_file(&files.mesh, fault);
     let view = Mesh { vertices: &mesh.vertices, faces: &mesh.faces };
     if view.volume().map_err(|refusal| of_mesh(refusal.into()))? < 0.0 {
         mesh.faces.iter_mut().for_each(|face| face.swap(1, 2));
         mesh_lines.push("its faces were inside out and have been turned".to_string());
     }
     let view = Mesh { vertices: &mesh.vertices, faces: &mesh.faces };
-    let kernels = list.to_metres();
-    let due = Due::of(&kernels, view).map_err(|refusal| of_mesh(refusal.into()))?;
+    let due = Due::of(&list.kernels, view).map_err(|refusal| of_mesh(refusal.into()))?;
     let radius = radius.unwrap_or_else(|| farthest(&mesh.vertices));
     let mut store = Store::open(radius, view).map_err(of_mesh)?;
-    for (place, kernel) in (0..).zip(kernels) {
+    for (place, kernel) in (0..).zip(list.kernels) {
         let put = store.put(place, kernel);
-        put.map_err(|refusal| Failure::of_file(kernels_path, format!("kernel {place}: {refusal}")))?;
+        put.map_err(|refusal| Failure::of_file(&files.kernels, format!("kernel {place}: {refusal}")))?;
     }
-    Ok(Opened { store, mesh: mesh_lines, kernels: kernel_lines(kernels_path, &list), bill: due.lines() })
-}
-
-/// A line on a kernel list, and one for each exponent that gave way to the default.
-pub fn kernel_lines(path: &Path, list: &KernelFile) -> Vec<String> {
-    let mut lines = vec![format!("{}, default exponent {}", path.display(), short(list.default_alpha))];
-    lines.extend(replaced(list));
-    lines
-}
-
-/// The exponents that were given and gave way to the default.
-fn replaced(list: &KernelFile) -> Vec<String> {
-    let given = list.kernels.iter().enumerate().filter_map(|(place, kernel)| Some((place, kernel.alpha?)));
-    let low = given.filter(|(_, alpha)| *alpha <= 0.0);
-    let line = |(place, alpha)| {
-        format!("place {place}: exponent {} is not above 0, the default is taken", short(alpha))
-    };
-    low.map(line).collect()
+    Ok(Opened { store, mesh: mesh_lines, kernels: list.said, bill: due.lines() })
 }
 
 /// The distance of the farthest vertex from the origin.

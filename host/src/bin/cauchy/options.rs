@@ -1,6 +1,7 @@
 //! The command line.
 use crate::failure::{Failure, Result};
-use cauchy::Convention;
+use crate::kernels::Loading;
+use cauchy::{Convention, Loader};
 use std::ffi::OsString;
 use std::path::PathBuf;
 
@@ -9,25 +10,25 @@ use std::path::PathBuf;
 pub enum Command {
     Help,
     Version,
-    /// The bill of a mesh, its unit given in metres, and a kernel list.
-    Bill {
-        mesh: PathBuf,
-        kernels: PathBuf,
-        unit: f64,
-    },
+    /// The bill of a mesh and a kernel list.
+    Bill(Files),
     Work(Box<Options>),
+}
+
+/// A mesh, its unit given in metres, and a kernel list.
+#[derive(Debug, PartialEq)]
+pub struct Files {
+    pub mesh: PathBuf,
+    pub unit: f64,
+    pub kernels: PathBuf,
+    pub loading: Loading,
 }
 
 /// Where the store comes from.
 #[derive(Debug, PartialEq)]
 pub enum Origin {
-    /// A mesh and a kernel list; the mesh's unit in metres, and the radius in metres where it is given.
-    Files {
-        mesh: PathBuf,
-        kernels: PathBuf,
-        unit: f64,
-        radius: Option<f64>,
-    },
+    /// Files, and the radius in metres where it is given.
+    Files(Files, Option<f64>),
     Snapshot(PathBuf),
 }
 
@@ -65,6 +66,8 @@ struct Given {
     overwrite: Option<()>,
     radius: Option<f64>,
     unit: Option<f64>,
+    loader: Option<Loader>,
+    alpha: Option<f64>,
     files: Vec<PathBuf>,
 }
 
@@ -123,6 +126,8 @@ impl Given {
                     once(name, &mut given.radius, radius)?;
                 }
                 "--mesh-unit" => once(name, &mut given.unit, unit(name, value()?)?)?,
+                "--loader" => once(name, &mut given.loader, loader(name, value()?)?)?,
+                "--alpha" => once(name, &mut given.alpha, above_zero(name, value()?)?)?,
                 _ => return Failure::usage(format!("{name} is no option")),
             }
         }
@@ -130,24 +135,25 @@ impl Given {
     }
 
     fn run(mut self) -> Result<Command> {
-        let ([mesh, kernels], unit) = self.mesh_and_kernels("run")?;
+        let files = self.mesh_and_kernels("run")?;
         let radius = self.radius;
-        self.work(Origin::Files { mesh, kernels, unit, radius })
+        self.work(Origin::Files(files, radius))
     }
 
     fn bill(mut self) -> Result<Command> {
-        let ([mesh, kernels], unit) = self.mesh_and_kernels("bill")?;
-        self.unit = None;
+        let files = self.mesh_and_kernels("bill")?;
         if self != Given::default() {
-            return Failure::usage("bill takes no option but --mesh-unit");
+            return Failure::usage("bill takes no option but --mesh-unit, --loader and --alpha");
         }
-        Ok(Command::Bill { mesh, kernels, unit })
+        Ok(Command::Bill(files))
     }
 
-    /// The two files that a command takes, and the mesh's unit in metres.
-    fn mesh_and_kernels(&mut self, command: &str) -> Result<([PathBuf; 2], f64)> {
-        match std::mem::take(&mut self.files).try_into() {
-            Ok(files) => Ok((files, self.unit.unwrap_or(METRES_IN_KM))),
+    /// The two files that a command takes, and what is said of how they are read.
+    fn mesh_and_kernels(&mut self, command: &str) -> Result<Files> {
+        let unit = self.unit.take().unwrap_or(METRES_IN_KM);
+        let loading = Loading { loader: self.loader.take(), alpha: self.alpha.take() };
+        match <[PathBuf; 2]>::try_from(std::mem::take(&mut self.files)) {
+            Ok([mesh, kernels]) => Ok(Files { mesh, unit, kernels, loading }),
             Err(_) => Failure::usage(format!("{command} takes two files: MESH.obj KERNELS.txt")),
         }
     }
@@ -161,6 +167,9 @@ impl Given {
             return Failure::usage(
                 "--radius and --mesh-unit go with run: a snapshot has its mesh and radius",
             );
+        }
+        if self.loader.is_some() || self.alpha.is_some() {
+            return Failure::usage("--loader and --alpha go with run: a snapshot has its kernels");
         }
         let [snapshot] = files;
         self.work(Origin::Snapshot(snapshot))
@@ -232,9 +241,23 @@ fn unit(name: &str, word: OsString) -> Result<f64> {
     }
 }
 
+fn loader(name: &str, word: OsString) -> Result<Loader> {
+    let loaders = [Loader::Native, Loader::Source, Loader::Strict];
+    match loaders.into_iter().find(|loader| word == loader.name()) {
+        Some(loader) => Ok(loader),
+        None => Failure::usage(format!("{name}: {} is none of native, source and strict", word.display())),
+    }
+}
+
 #[cfg(test)]
 mod tests {
     use super::*;
+
+    const UNSAID: Loading = Loading { loader: None, alpha: None };
+
+    fn files(unit: f64, loading: Loading) -> Files {
+        Files { mesh: "a.obj".into(), unit, kernels: "k.txt".into(), loading }
+    }
 
     fn asked(line: &str) -> Result<Command> {
         parse(line.split_whitespace().map(OsString::from))
@@ -245,8 +268,7 @@ mod tests {
         let line = "run a.obj --mass 4.5e11 k.txt --bulk 1200 --radius 0.5 --mesh-unit m --steps 9 --snapshot s \
                     --squeeze";
         let Ok(Command::Work(options)) = asked(line) else { panic!() };
-        let (mesh, kernels) = (PathBuf::from("a.obj"), PathBuf::from("k.txt"));
-        assert_eq!(options.origin, Origin::Files { mesh, kernels, unit: 1.0, radius: Some(500.0) });
+        assert_eq!(options.origin, Origin::Files(files(1.0, UNSAID), Some(500.0)));
         assert_eq!(options.convention, Convention::Mass { target: 4.5e11, bulk: 1200.0 });
         assert_eq!((options.steps, options.snapshot), (Some(9), Some("s".into())));
         assert_eq!((options.squeeze, options.overwrite), (true, false));
@@ -254,9 +276,24 @@ mod tests {
 
     #[test]
     fn a_bill_has_a_mesh_and_kernels() {
-        let billed = |unit| Command::Bill { mesh: "a.obj".into(), kernels: "k.txt".into(), unit };
+        let billed = |unit| Command::Bill(files(unit, UNSAID));
         assert_eq!(asked("bill a.obj k.txt"), Ok(billed(1000.0)));
         assert_eq!(asked("bill a.obj --mesh-unit m k.txt"), Ok(billed(1.0)));
+    }
+
+    #[test]
+    fn a_loader_is_named() {
+        for (word, loader) in
+            [("native", Loader::Native), ("source", Loader::Source), ("strict", Loader::Strict)]
+        {
+            let loading = Loading { loader: Some(loader), alpha: Some(1.5) };
+            let line = format!("bill a.obj k.txt --loader {word} --alpha 1.5");
+            assert_eq!(asked(&line), Ok(Command::Bill(files(1000.0, loading))));
+            let Ok(Command::Work(options)) = asked(&line.replace("bill", "run --raw")) else { panic!() };
+            assert_eq!(options.origin, Origin::Files(files(1000.0, loading), None));
+        }
+        let alone = Loading { loader: None, alpha: Some(2.5) };
+        assert_eq!(asked("bill a.obj k.txt --alpha 2.5"), Ok(Command::Bill(files(1000.0, alone))));
     }
 
     #[test]
@@ -268,8 +305,14 @@ mod tests {
             ("run a b c --raw", "run takes two files"),
             ("resume --raw", "resume takes one file"),
             ("bill a.obj", "bill takes two files"),
-            ("bill a b --raw", "bill takes no option but --mesh-unit"),
+            ("bill a b --raw", "bill takes no option but --mesh-unit, --loader and --alpha"),
             ("bill a b --mesh-unit m --radius 1", "bill takes no option but --mesh-unit"),
+            ("bill a b --loader Native", "--loader: Native is none of native, source and strict"),
+            ("bill a b --loader", "--loader: its value is missing"),
+            ("bill a b --loader strict --loader strict", "--loader is given twice"),
+            ("bill a b --alpha 0", "--alpha: 0 is not a number above 0"),
+            ("bill a b --alpha nan", "--alpha: nan is not a number above 0"),
+            ("bill a b --alpha 1 --alpha 1", "--alpha is given twice"),
             ("bill a b --mesh-unit m --mesh-unit m", "--mesh-unit is given twice"),
             ("run a b", "name a convention"),
             ("run a b --raw --rho0", "one convention"),
@@ -286,6 +329,8 @@ mod tests {
             ("run a b --raw --steps -5", "--steps: -5 is not a whole number"),
             ("run a b --raw --mesh-unit cm", "neither km nor m"),
             ("resume s --raw --radius 1", "go with run"),
+            ("resume s --raw --loader native", "--loader and --alpha go with run"),
+            ("resume s --raw --alpha 2", "a snapshot has its kernels"),
         ] {
             match asked(line) {
                 Err(Failure::Usage(text)) => assert!(text.contains(said), "{line}: {text}"),

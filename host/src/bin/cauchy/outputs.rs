@@ -24,7 +24,7 @@ impl Outputs {
         let outputs: Vec<&Path> = paths.into_iter().flatten().map(PathBuf::as_path).collect();
         let mut inputs: Vec<&Path> = options.track.iter().map(PathBuf::as_path).collect();
         match &options.origin {
-            Origin::Files { mesh, kernels, .. } => inputs.extend([mesh.as_path(), kernels.as_path()]),
+            Origin::Files(files, _) => inputs.extend([files.mesh.as_path(), files.kernels.as_path()]),
             Origin::Snapshot(path) if !in_place => inputs.push(path),
             Origin::Snapshot(_) => {}
         }
