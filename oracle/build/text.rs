@@ -14,7 +14,8 @@
 //! - of `impl Density` all but `homogeneous`, of `impl Mesh` all but counts, `vertex` and `face`: loaders, modes' names,
 //!   `scale_vs_rho0`, normals and observation points are left out by 01 or give no result of it;
 //! - `uv_sphere`, `ball_kernel_volume`: the original's own tests;
-//! - of the source folder the loaders and `make_triangle`, whose one product beside the corners is a normal that nothing here reads.
+//! - of `parse_density_text` the line that reads TOML: it is given the file's entries;
+//! - of the source folder the other loaders and `make_triangle`, whose one product beside the corners is a normal that nothing here reads.
 //!
 //! Every change is counted: a source that no longer has the text as often as it says stops the build.
 use std::{env, fs, path::Path};
@@ -158,8 +159,8 @@ fn fit_size(density: &Source) -> Result<String, String> {
 
 /// The source folder's module: model and density, which that folder includes into one.
 fn source(dir: &Path) -> Result<String, String> {
-    let [model, density] = ["source--model", "source--density"].map(|n| Source::read(dir, n));
-    let (model, density) = (model?, density?);
+    let [module, model, density] = ["source--mod", "source--model", "source--density"].map(|n| Source::read(dir, n));
+    let (module, model, density) = (module?, model?, density?);
     let model_items = ["type Vec3", "fn sub(", "fn cross(", "fn dot(", "fn norm(", "struct Triangle"].map(|i| model.item(i));
     let density_items = [
         "pub(crate) struct ParsedDensity",
@@ -173,9 +174,24 @@ fn source(dir: &Path) -> Result<String, String> {
         "fn calibrate_kernels(",
     ];
     let mut items = all(model_items)?;
+    items.push(module.item("const KM_TO_M")?);
     items.push(format!("#[derive(Clone, Copy)]\n{}", density.item("pub(crate) struct Kernel ")?));
     items.extend(all(density_items.map(|i| density.item(i)))?);
+    items.extend(parsed(&density)?);
     Ok(items.join("\n\n"))
+}
+
+/// `parse_density_text` past the line that reads TOML, and the file's entries that it then has.
+fn parsed(density: &Source) -> Result<[String; 3], String> {
+    let file = without(density.item("struct DensityFile")?, "#[serde(default = \"one\")]", 1)?;
+    let text = density.item("pub(crate) fn parse_density_text(")?;
+    let text = replaced(text, "pub(crate) fn parse_density_text(text: &str, label: &str)", "fn parsed(file: DensityFile)", 1)?;
+    let toml = r#"let file: DensityFile = toml::from_str(text).map_err(|error| format!("{label}: {error}"))?;"#;
+    Ok([
+        without(file, "#[serde(default)]", 3)?,
+        without(density.item("struct KernelEntry")?, "#[serde(default)]", 1)?,
+        without(text, toml, 1)?,
+    ])
 }
 
 fn all<const N: usize>(items: [Result<String, String>; N]) -> Result<Vec<String>, String> {
@@ -188,10 +204,15 @@ fn block(head: &str, items: Vec<String>) -> String {
 
 /// The text without a piece that it must have so many times.
 fn without(text: String, piece: &str, times: usize) -> Result<String, String> {
+    replaced(text, piece, "", times)
+}
+
+/// The text with another piece in place of one that it must have so many times.
+fn replaced(text: String, piece: &str, other: &str, times: usize) -> Result<String, String> {
     if text.matches(piece).count() != times {
         return Err(format!("the original has changed: `{piece}` is not {times} times in: {text}"));
     }
-    Ok(text.replace(piece, ""))
+    Ok(text.replace(piece, other))
 }
 
 impl Source {

@@ -6,6 +6,8 @@ pub mod closed;
 #[cfg(original)]
 pub mod conventions;
 #[cfg(original)]
+pub mod convert;
+#[cfg(original)]
 pub mod held;
 #[cfg(original)]
 pub mod histories;

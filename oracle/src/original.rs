@@ -65,6 +65,12 @@ macro_rules! native_doors {
             carried(k, alpha_default)
         }
 
+        /// The same of a list, six floats each.
+        pub fn load(list: &[CauchyKernel], alpha_default: f64) -> Vec<f64> {
+            let floats = |k: KernelSi| [k.c[0], k.c[1], k.c[2], k.sigma, k.w, k.alpha];
+            list.iter().flat_map(|k| floats(carried(k, alpha_default))).collect()
+        }
+
         /// How many terms and samples a fit has.
         pub fn size(delta: f64) -> (usize, usize) {
             fit_size(delta)
@@ -138,6 +144,14 @@ macro_rules! source_doors {
             normalize_kernels(&triangles_of(xyz, faces), &kernels_of(kernels), target).ok().map(floats_of)
         }
 
+        /// `parse_density_text` of a file's entries and its default exponent.
+        pub fn load(entries: &[CauchyKernel], alpha_default: f64) -> Vec<f64> {
+            let entry = |k: &CauchyKernel| KernelEntry { c: k.c, sigma: k.sigma, w: k.w, alpha: k.alpha };
+            let kernels = entries.iter().map(entry).collect();
+            let file = DensityFile { alpha_default, total_mass_target: 0.0, mean_density: None, bulk_density_ref: None, kernels };
+            floats_of(parsed(file).expect("no TOML is read").kernels)
+        }
+
         /// `calibrate_kernels`; none where it tells of an exponent.
         pub fn calibrate(xyz: &[f64], faces: &[u32], kernels: &[f64], total: f64, mean: Option<f64>) -> Option<Vec<f64>> {
             let of = ParsedDensity { kernels: kernels_of(kernels), total_mass_target: total, mean_density_target: mean };
@@ -149,12 +163,14 @@ macro_rules! source_doors {
 #[allow(dead_code, clippy::all)]
 pub mod source {
     use super::archive::Functions;
+    use super::native::CauchyKernel;
     include!(concat!(env!("OUT_DIR"), "/source.rs"));
     source_doors!();
 }
 
 #[allow(dead_code, clippy::all)]
 pub mod source_steps {
+    use super::native::CauchyKernel;
     use super::transcribed::Functions;
     include!(concat!(env!("OUT_DIR"), "/source.rs"));
     source_doors!();

@@ -22,17 +22,17 @@ pub enum Line {
 }
 
 /// What is left of a line.
-struct Rest<'a>(&'a [u8]);
+pub(crate) struct Rest<'a>(pub(crate) &'a [u8]);
 
 impl Rest<'_> {
     /// These bytes, and no other.
-    fn text(&mut self, text: &str) -> Option<()> {
+    pub(crate) fn text(&mut self, text: &str) -> Option<()> {
         self.0 = self.0.strip_prefix(text.as_bytes())?;
         Some(())
     }
 
     /// "h is 16 upper-case hexadecimal digits of a float's bits".
-    fn h(&mut self) -> Option<f64> {
+    pub(crate) fn h(&mut self) -> Option<f64> {
         let (digits, rest) = self.0.split_at_checked(16)?;
         let mut bits = 0;
         for digit in digits {
@@ -68,7 +68,7 @@ impl Rest<'_> {
     }
 
     /// Three of them, a space between.
-    fn three<V: Copy + Default>(&mut self, one: fn(&mut Self) -> Option<V>) -> Option<[V; 3]> {
+    pub(crate) fn three<V: Copy + Default>(&mut self, one: fn(&mut Self) -> Option<V>) -> Option<[V; 3]> {
         let mut all = [V::default(); 3];
         for (i, x) in all.iter_mut().enumerate() {
             if i > 0 {
