@@ -7,6 +7,8 @@ mod clock;
 #[cfg(original)]
 mod closed;
 #[cfg(original)]
+mod convert;
+#[cfg(original)]
 mod fits;
 #[cfg(original)]
 mod largest;
@@ -38,6 +40,7 @@ fn main() {
     largest::rows(&mut bench);
     squeezes::rows(&mut bench);
     closed::rows(&mut bench);
+    convert::rows(&mut bench);
     readings::rows(&mut bench);
     tracks::rows(&mut bench);
     if let Some(path) = std::env::args().nth(1) {
