@@ -7,7 +7,7 @@
 mod stores;
 
 use oracle::bill::{Bill, bill, number, pieces};
-use oracle::cases::{self, EXPONENTS, one};
+use oracle::cases::{EXPONENTS, one};
 use oracle::inputs::{self, Rng};
 use oracle::tally::{Plan, Tally};
 
@@ -74,6 +74,6 @@ fn words(lists: u64, mut r: Rng) -> Tally {
 fn radius(r: &mut Rng) -> f64 {
     match r.below(6) {
         0 => one(r, &[f64::NAN, f64::INFINITY, f64::NEG_INFINITY, -0.0, -300.0]),
-        _ => cases::length(r, 300.0),
+        _ => oracle::cases::length(r, 300.0),
     }
 }
