@@ -4,3 +4,4 @@ pub mod Convert
 pub mod ConvertAnswer
 pub mod ConvertLaws
 pub mod LineLaws
+pub mod Rows
