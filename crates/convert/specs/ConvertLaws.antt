@@ -1,6 +1,6 @@
 -- Theorems of the converter: the strict form "accepts exactly the lists on which both give equal kernels", there all three write the same, and a list whose exponents are above 0 is one of them. Assumes nothing.
 use mathlib.Core.Path.{_≡_, refl, sym, ap, _∙_}
-use mathlib.Core.Bool.{Bool, true, false, _&&_, cond, and-eq-true-iff}
+use mathlib.Core.Bool.{Bool, true, false, cond, and-eq-true-iff}
 use mathlib.Core.List.{List, [], _∷_, map}
 use mathlib.Core.Logic.{inl, inr}
 use Prim.Native.Nat.{ℕ, zero, suc, _*_}
@@ -19,7 +19,7 @@ use Rattle.kernel.specs.declared.file.Exponent.{Exponent}
 use Rattle.kernel.specs.declared.file.Exponent.the-variants.{Given, Missing}
 use Rattle.kernel.specs.File.{exponentOr, fromFile}
 use Rattle.text.specs.Text.{Text, lost, left, bytes, literal, float, pattern}
-use Rattle.text.specs.Form.{end, read, map as mapped, orAt}
+use Rattle.text.specs.Form.{read, map as mapped, orAt}
 use Rattle.convert.specs.Loaders.{nativeOf, sourceOf, givenOr, loaded, sameFloat, sameKernel, alike, allAlike}
 use Rattle.convert.specs.Lines.{givenForm, missingForm, toExponent, fileLine, fileLines, filed, whole}
 use Rattle.convert.specs.Convert.{laidFrom, conversionCheck, conversion}
