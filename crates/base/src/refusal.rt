@@ -34,6 +34,10 @@ pub enum Refusal {
     BadTrack,
     // 15: more than 32 kernels are to be billed
     ManyKernels,
+    // 17: a place's field mass is NaN or beyond 10^15 kilograms, so that the page has no figure for it
+    NoFigure,
+    // 18: the page's bytes are too few
+    ShortPage,
     // 20: a line that is no kernel line
     BadKernelLine,
     // 21: the two loaders make different kernels of the lines
@@ -74,6 +78,8 @@ pub fn refusal_number(refusal: Refusal) -> u32
         Refusal::BadLine => 13,
         Refusal::BadTrack => 14,
         Refusal::ManyKernels => 15,
+        Refusal::NoFigure => 17,
+        Refusal::ShortPage => 18,
         Refusal::BadKernelLine => 20,
         Refusal::LoadersDiffer => 21,
         Refusal::Unclosed => 22,
