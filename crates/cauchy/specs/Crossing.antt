@@ -15,16 +15,16 @@ use Rattle.cauchy.specs.declared.kernels.CauchyFileKernel.{CauchyFileKer
 use Rattle.cauchy.specs.declared.kernels.CauchyPieces.{CauchyPieces}
 use Rattle.cauchy.specs.declared.kernels.CauchyListPieces.{CauchyListPieces}
 
--- ---- what C gets of a call that writes a lent run, with the run as it is then
-pub record Lent (A : Type 0) : Type 0 where
+-- ---- what C gets of a call that writes a lent run, with the run's words as they are then
+pub record Lent (A W : Type 0) : Type 0 where
   pub answer : A
-  pub out : List Float
+  pub out : List W
 
-abbrev pub lent : {A : Type 0} → A → List Float → Lent A
+abbrev pub lent : {A W : Type 0} → A → List W → Lent A W
 lent r out = record { answer = r; out = out }
 
 -- an outcome, its reply as C gets it
-abbrev pub lentFrom : {A : Type 0} → (Answer → A) → Outcome → Lent A
+abbrev pub lentFrom : {A : Type 0} → (Answer → A) → Outcome → Lent A Float
 lentFrom answer o = lent (answer (o .reply)) (o .out)
 
 -- an answer without values

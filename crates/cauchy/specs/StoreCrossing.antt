@@ -10,6 +10,8 @@ use Rattle.base.specs.Floats.{+0}
 use Rattle.density.specs.declared.convention.Convention.{Convention}
 use Rattle.density.specs.declared.convention.Convention.the-variants.{Raw, Rho0, Mass}
 use Rattle.store.specs.Calls.{After}
+use Rattle.page.specs.Page.{Paged}
+use Rattle.cauchy.specs.Crossing.{Lent, lent}
 use Rattle.cauchy.specs.Volumes.{massFrom}
 use Rattle.cauchy.specs.declared.stores.CauchyOpened.{CauchyOpened}
 use Rattle.cauchy.specs.declared.stores.CauchyPlaced.{CauchyPlaced}
@@ -19,6 +21,7 @@ use Rattle.cauchy.specs.declared.stores.CauchyConvention.{CauchyConventi
 use Rattle.cauchy.specs.declared.stores.CauchyStoreReport.{CauchyStoreReport}
 use Rattle.cauchy.specs.declared.stores.CauchyListed.{CauchyListed}
 use Rattle.cauchy.specs.declared.stores.CauchyTrack.{CauchyTrack}
+use Rattle.cauchy.specs.declared.stores.CauchyBytes.{CauchyBytes}
 
 -- ---- what C gets, with the runs as they are then
 pub record Crossed (A : Type 0) : Type 0 where
@@ -69,6 +72,14 @@ listedFrom a = record { no = a .refusal; pieces = getD (a .counts) 0 0 }
 -- track: how many points
 abbrev pub trackFrom : Answer → CauchyTrack
 trackFrom a = record { no = a .refusal; points = getD (a .counts) 0 0 }
+
+-- page: "it answers its byte count"
+abbrev pub bytesFrom : Answer → CauchyBytes
+bytesFrom a = record { no = a .refusal; bytes = getD (a .counts) 0 0 }
+
+-- with the lent page as it is then
+abbrev pub pinnedFrom : Paged → Lent CauchyBytes ℕ
+pinnedFrom p = lent (bytesFrom (p .reply)) (p .page)
 
 -- ---- "raw, rho0 with a bulk density, or mass with target and bulk", by a kind: 0, 1, any other
 abbrev pub conventionOf : CauchyConvention → Convention

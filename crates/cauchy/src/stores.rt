@@ -22,9 +22,11 @@ ghost use Rattle.readings.specs.Readings;
 ghost use Rattle.readings.specs.ListAnswer.{listRead};
 ghost use Rattle.readings.specs.ReportAnswer.{reportRead};
 ghost use Rattle.readings.specs.TrackAnswer.{trackRead};
+ghost use Rattle.page.specs.Page.{pageStep};
+ghost use Rattle.page.specs.PageAnswer.{pageRead};
 ghost use Rattle.cauchy.specs.Volumes.{valueFrom};
 ghost use Rattle.cauchy.specs.Crossing.{lent, lentFrom, numberFrom};
-ghost use Rattle.cauchy.specs.StoreCrossing.{crossed, across, openedFrom, placedFrom, stepsFrom, squeezedFrom, conventionOf, reportFrom, listedFrom, trackFrom};
+ghost use Rattle.cauchy.specs.StoreCrossing.{crossed, across, openedFrom, placedFrom, stepsFrom, squeezedFrom, conventionOf, reportFrom, listedFrom, trackFrom, bytesFrom, pinnedFrom};
 use crate::volumes::CauchyValue;
 use crate::volumes::value_of;
 use advance::advance::Advanced;
@@ -34,6 +36,8 @@ use density::convention::Convention;
 use density::report::MassReport;
 use kernel::kernel::Kernel;
 use mesh::vectors::V3;
+use page::call::PageRead;
+use page::call::page;
 use put::Placed;
 use put::put;
 use readings::at_point::density;
@@ -253,6 +257,13 @@ pub struct CauchyTrack {
     pub points: u32,
 }
 
+// The number, then the bytes that were written.
+#[repr(C)]
+pub struct CauchyBytes {
+    pub no: u32,
+    pub bytes: u64,
+}
+
 fn convention_of(v: CauchyConvention) -> Convention
     ensures { λ r. ⌜ r ≡ conventionOf v ⌝ }
 {
@@ -380,4 +391,24 @@ pub extern "C" fn cauchy_store_track(
     ensures { λ r. ⌜ lent r (now (out .exit)) ≡ lentFrom trackFrom (readStep width (now (floats .entry)) (now (words .entry)) (Readings.track (conventionOf convention) (now (points .entry)) (now (out .entry)))) ⌝ }
 {
     track_of(track(floats, words, convention_of(convention), points, out))
+}
+
+fn bytes_of(d: PageRead) -> CauchyBytes
+    ensures { λ r. ⌜ r ≡ bytesFrom (pageRead d) ⌝ }
+{
+    match d {
+        PageRead::Bytes(bytes) => CauchyBytes { no: 0, bytes },
+        PageRead::Refused(r) => CauchyBytes {
+            no: refusal_number(r),
+            bytes: 0,
+        },
+    }
+}
+
+// Writes the wall page of a store with no work left: 4, 5, 8, 17 or 18. Bytes of `out` past it stay.
+#[no_mangle]
+pub extern "C" fn cauchy_store_page(floats: &[f64], words: &[u32], out: &mut [u8]) -> CauchyBytes
+    ensures { λ r. ⌜ lent r (now (out .exit)) ≡ pinnedFrom (pageStep width (now (floats .entry)) (now (words .entry)) (now (out .entry))) ⌝ }
+{
+    bytes_of(page(floats, words, out))
 }

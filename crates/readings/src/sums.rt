@@ -75,7 +75,7 @@ pub fn origin_density(f: &[f64], w: &[u32], faces: usize) -> f64
 }
 
 // The mass with the first `count` pieces of place i added.
-fn slot_mass(f: &[f64], i: usize, count: usize, start: f64) -> f64
+pub fn slot_mass(f: &[f64], i: usize, count: usize, start: f64) -> f64
     requires { ⌜ (coordsFrom ≤ length (now f)) × (i < slotLimit) × (count ≤ pieceLimit) ⌝ }
     ensures { λ r. ⌜ r ≡ fold massStep (heldAt (now (f .entry)) i count) start ⌝ }
 {

@@ -31,7 +31,7 @@ fn glyph(d: u64) -> u8
 }
 
 // Writes the last `k` digits of `n` in `base`.
-fn write_digits(out: &mut [u8], at: usize, base: u64, k: usize, n: u64) -> usize
+pub fn write_digits(out: &mut [u8], at: usize, base: u64, k: usize, n: u64) -> usize
     requires { ⌜ (at + k ≤ length (now out)) × (1 < base) × (base ≤ 16) ⌝ }
     ensures { λ r. ⌜ r ≡ at + k ⌝ }
     ensures { λ r. ⌜ Wrote (now (out .entry)) at (digits base k n) r (now (out .exit)) ⌝ }

@@ -1,0 +1,36 @@
+-- `page::call::page` meets its contract. Assumes nothing.
+use mathlib.Core.Path.{refl, sym, _∙_}
+use native.Mathlib.Omega.{arith}
+use Rattle.layout.specs.Layout.{width}
+use Rattle.layout.specs.SoundLaws.{fine}
+use Rattle.readings.specs.ReadLaws.{read-passed}
+use Rattle.page.specs.Page.{pageStep}
+use borrow.Author.Needs.{needs}
+use Rattle.page.proofs.call.page.Statement.{statement}
+use Rattle.page.proofs.call.page.Tie as tie
+
+page-of-requires : tie.Need-page-of-requires
+page-of-requires c κs =
+    let h = fine width _ _ (read-passed width _ _ _ (sym (c .before .before .before .before .check-read .ensures) ∙ c .before .before .enum-told .given .1)) in
+    (omega (arith, h .mesh .floats), rw (c .before .word .ensures) (h .slots))
+
+returns : tie.Need-returns
+unfolding pageStep
+returns c = rw (← c .before .before .before .check-read .ensures, c .before .r .given .1) refl
+
+returns-2 : tie.Need-returns-2
+unfolding pageStep
+returns-2 c = rw (← c .before .before .before .before .before .before .before .check-read .ensures, c .before .before .before .before .before .enum-told .given .1) (c .before .before .page-of .ensures)
+
+pub page-spec : {M : Type 1} → statement M
+page-spec =
+    tie.close
+    (tie.spec
+    (λ c κs. search needs)
+    (λ c. search needs)
+    (λ c. search needs)
+    (λ c κs. omega (arith, fine width _ _ (read-passed width _ _ _ (sym (c .before .before .check-read .ensures) ∙ c .enum-told .given .1)) .slots))
+    page-of-requires
+    returns
+    (λ c. search needs)
+    returns-2)

@@ -1,0 +1,29 @@
+-- `page::lines::write_line` meets its contract. Assumes nothing.
+use native.Mathlib.Omega.{arith}
+use Rattle.text.specs.WriteLaws.{then}
+use Rattle.page.specs.PageLaws.{digits-under}
+use borrow.Author.Needs.{needs}
+use Rattle.page.proofs.lines.write_line.Statement.{statement}
+use Rattle.page.proofs.lines.write_line.Tie as tie
+
+returns : tie.Need-returns
+returns c =
+    (omega (arith, c .before .before .before .before .before .before .before .before .before .before .before .before .before .before .before .write-right .ensures .0, c .before .before .before .before .before .before .before .before .before .before .write-bytes .ensures .next, c .before .before .before .before .before .before .write-right2 .ensures .0, c .before .before .write-ending .ensures .0), then (c .before .before .before .before .before .before .before .before .before .before .before .before .before .before .before .write-right .ensures .1) (then (c .before .before .before .before .before .before .before .before .before .before .write-bytes .ensures) (then (c .before .before .before .before .before .before .write-right2 .ensures .1) (c .before .before .write-ending .ensures .1))))
+
+write-right-requires : tie.Need-write-right-requires
+write-right-requires c κs = (omega (arith, c .before .before .pre .0), digits-under 1 _ (c .before .before .pre .1))
+
+write-right-requires-2 : tie.Need-write-right-requires-2
+write-right-requires-2 c κs = (search needs, digits-under 1 _ (c .before .before .before .before .before .before .before .before .before .before .before .pre .2))
+
+pub write-line-spec : {M : Type 1} → statement M
+write-line-spec =
+    tie.close
+    (tie.spec
+    write-right-requires
+    (λ c. search needs)
+    (λ c κs. search needs)
+    write-right-requires-2
+    (λ c κs. search needs)
+    (λ c. search needs)
+    returns)

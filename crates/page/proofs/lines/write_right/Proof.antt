@@ -1,0 +1,26 @@
+-- `page::lines::write_right` meets its contract. Assumes nothing.
+use mathlib.Core.Path.{sym, _∙_}
+use native.Mathlib.Omega.{arith}
+use Rattle.page.specs.PageLaws.{decimal-length}
+use Rattle.page.proofs.Writes.{right-written, decimal-written}
+use borrow.Author.Needs.{needs}
+use Rattle.page.proofs.lines.write_right.Statement.{statement}
+use Rattle.page.proofs.lines.write_right.Tie as tie
+
+returns : tie.Need-returns
+returns c =
+    let a = c .before .before .before .before .before .before .before .before .before .before .args in
+    let d = c .before .before .before .before .before .before .before .before .decimal-length in
+    let w = c .before .before .write-digits in
+    (omega (arith, c .before .before .before .before .before .before .write-spaces .ensures .0, w .ensures .0), right-written _ _ (a .wide) _ (d .result) (d .ensures .0 ∙ sym (decimal-length (a .n))) (c .before .before .before .before .before .before .write-spaces .ensures .1) (decimal-written (a .n) (d .ensures .0) (w .ensures .1)))
+
+pub write-right-spec : {M : Type 1} → statement M
+write-right-spec =
+    tie.close
+    (tie.spec
+    (λ c κs. search needs)
+    (λ c. search needs)
+    (λ c κs. search needs)
+    (λ c κs. search needs)
+    (λ c. search needs)
+    returns)

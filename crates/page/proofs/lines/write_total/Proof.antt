@@ -1,0 +1,21 @@
+-- `page::lines::write_total` meets its contract. Assumes nothing.
+use native.Mathlib.Omega.{arith}
+use Rattle.text.specs.WriteLaws.{then}
+use Rattle.page.specs.Page.{totalLine}
+use borrow.Author.Needs.{needs}
+use Rattle.page.proofs.lines.write_total.Statement.{statement}
+use Rattle.page.proofs.lines.write_total.Tie as tie
+
+returns : tie.Need-returns
+unfolding totalLine
+returns c = (omega (arith, c .before .before .before .before .before .before .write-bytes .ensures .next, c .before .before .write-ending .ensures .0), then (c .before .before .before .before .before .before .write-bytes .ensures) (c .before .before .write-ending .ensures .1))
+
+pub write-total-spec : {M : Type 1} → statement M
+write-total-spec =
+    tie.close
+    (tie.spec
+    (λ c. search needs)
+    (λ c κs. search needs)
+    (λ c κs. search needs)
+    (λ c. search needs)
+    returns)

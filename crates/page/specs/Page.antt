@@ -1,0 +1,117 @@
+-- 02, L8, "The wall page": its lines, what they show, when it is refused. Definitions only.
+use Prim.Native.Nat.{ℕ, zero, suc, _-_}
+use mathlib.Core.Bool.{Bool, true, _&&_, cond}
+use mathlib.Core.List.{List, [], _∷_, _++_}
+use lib.Dec.{leb, eqb}
+use lib.IntN.{ℤ, pos, negsuc, _+ℤ_}
+use lib.ListN.{length, replicate}
+use lib.Ieee.{Float}
+use Rattle.base.specs.Answers.{Answer, counted, refused, andThen}
+use Rattle.base.specs.declared.refusal.Refusal.the-variants.{NoFigure, ShortPage}
+use Rattle.base.specs.declared.refusal.Checked.{Checked}
+use Rattle.base.specs.declared.refusal.Checked.the-variants.{Passed, Failed}
+use Rattle.runs.specs.Runs.{write}
+use Rattle.layout.specs.Layout.{slotLimit, statusOf}
+use Rattle.readings.specs.Readings.{Part, rawMass, heldAt}
+use Rattle.readings.specs.Checks.{readCheck}
+use Rattle.text.specs.Text.{bytes}
+use Rattle.text.specs.Print.{decimalText}
+use Rattle.whole.specs.Whole.{rounded, printable}
+
+-- ---- text
+
+abbrev pub spaces : ℕ → List ℕ
+spaces n = replicate n 32
+
+-- "right-aligned", in n columns
+abbrev pub right : ℕ → List ℕ → List ℕ
+right n t = spaces (n - length t) ++ t
+
+-- "with a minus sign where negative and plain 0 for zero"
+abbrev pub wholeText : ℤ → List ℕ
+wholeText (pos n) = decimalText n
+wholeText (negsuc n) = 45 ∷ decimalText (suc n)
+
+-- columns 6 to 64 of a line, "in columns 45-64", and its newline
+unfoldable pub ending : ℤ → List ℕ
+ending v = spaces 39 ++ (right 20 (wholeText v) ++ (10 ∷ []))
+
+-- ---- lines
+
+-- a filled place: its number and its pieces
+pub record Row : Type 0 where
+  pub place : ℕ
+  pub parts : List Part
+
+abbrev pub row : ℕ → List Part → Row
+row i ps = record { place = i; parts = ps }
+
+-- "the place's own field mass"
+abbrev pub massOf : Row → Float
+massOf r = rawMass (r .parts)
+
+-- "its number in columns 1-2, its pieces in 4-5 and its raw mass in whole kilograms in columns 45-64"
+unfoldable pub lineOf : Row → List ℕ
+lineOf r = right 2 (decimalText (r .place)) ++ (32 ∷ (right 2 (decimalText (length (r .parts))) ++ ending (rounded (massOf r))))
+
+-- "One line per filled place"
+abbrev pub linesOf : List Row → List ℕ
+linesOf [] = []
+linesOf (r ∷ rs) = lineOf r ++ linesOf rs
+
+-- "the sum of the printed masses"
+abbrev pub totalOf : List Row → ℤ
+totalOf [] = pos 0
+totalOf (r ∷ rs) = rounded (massOf r) +ℤ totalOf rs
+
+-- "A last line has TOTAL in columns 1-5"
+unfoldable pub totalLine : ℤ → List ℕ
+totalLine v = bytes "TOTAL" ++ ending v
+
+unfoldable pub pageOf : List Row → List ℕ
+pageOf rs = linesOf rs ++ totalLine (totalOf rs)
+
+-- ---- the call
+
+-- an answer, and the bytes of the lent page as they are then
+pub record Paged : Type 0 where
+  pub reply : Answer
+  pub page : List ℕ
+
+abbrev pub paged : Answer → List ℕ → Paged
+paged r bs = record { reply = r; page = bs }
+
+-- "a refused call changes nothing": what follows where a check passes; else its refusal, the page as it was
+abbrev pub guardedPage : Checked → List ℕ → Paged → Paged
+guardedPage Passed bs good = good
+guardedPage (Failed r) bs good = paged (refused r) bs
+
+-- "17 when a place's field mass is NaN or, unrounded, exceeds 10^15 in magnitude"
+abbrev pub allPrintable : List Row → Bool
+allPrintable [] = true
+allPrintable (r ∷ rs) = printable (massOf r) && allPrintable rs
+
+abbrev pub figureCheck : List Row → Checked
+figureCheck rs = cond (allPrintable rs) Passed (Failed NoFigure)
+
+-- "18 when the lent page is too short, after 17"; both are counts of bytes
+abbrev pub pageCheck : ℕ → ℕ → Checked
+pageCheck need room = cond (leb need room) Passed (Failed ShortPage)
+
+-- "it answers its byte count, bytes past that untouched"
+unfoldable pub pageAnswer : List Row → List ℕ → Paged
+pageAnswer rs bs =
+    guardedPage (andThen (figureCheck rs) (pageCheck (length (pageOf rs)) (length bs))) bs
+    (paged (counted (length (pageOf rs) ∷ [])) (write bs 0 (pageOf rs)))
+
+-- ---- as a store's runs hold it
+abbrev pub rowAt : List Float → ℕ → ℕ → List Row
+rowAt fs i status = cond (eqb status 0) [] (row i (heldAt fs i (status - 1)) ∷ [])
+
+unfoldable pub heldRows : ℕ → List Float → List ℕ → ℕ → List Row
+heldRows q fs ws zero = []
+heldRows q fs ws (suc k) = heldRows q fs ws k ++ rowAt fs k (statusOf q ws k)
+
+-- the contract. "It is given only when nothing is left to do, else 8": 4, 5 and 8 as for a report
+unfoldable pub pageStep : ℕ → List Float → List ℕ → List ℕ → Paged
+pageStep q fs ws bs = guardedPage (readCheck q fs ws true) bs (pageAnswer (heldRows q fs ws slotLimit) bs)

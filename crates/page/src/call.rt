@@ -1,0 +1,73 @@
+// The call.
+ghost use mathlib.Core.Path.{_≡_};
+ghost use mathlib.Core.Bool.{true};
+ghost use Prim.Native.Nat.{_+_, _*_, _≤_};
+ghost use lib.ListN.{length};
+ghost use Rattle.runs.specs.Runs.{write};
+ghost use Rattle.layout.specs.Layout.{width, slotLimit, coordsFrom};
+ghost use Rattle.layout.specs.SoundLaws.{Worded};
+ghost use Rattle.page.specs.Page.{paged, allPrintable, heldRows, pageOf, pageAnswer, pageStep};
+ghost use Rattle.page.specs.PageAnswer.{pageRead};
+use crate::lines::write_total;
+use crate::masses::Sums;
+use crate::masses::fair;
+use crate::masses::slot_line;
+use crate::masses::total;
+use base::refusal::Checked;
+use base::refusal::Refusal;
+use layout::offsets::SLOTS;
+use layout::offsets::STATE;
+use layout::offsets::WIDTH;
+use readings::at_point::check_read;
+use readings::counts::count_filled;
+use runs::word;
+
+// The answer of a page: how many bytes it has.
+pub enum PageRead {
+    Bytes(u64),
+    Refused(Refusal),
+}
+
+// Writes the page of a sound store whose masses can be printed.
+fn write_page(out: &mut [u8], f: &[f64], w: &[u32], faces: usize)
+    requires { ⌜ coordsFrom ≤ length (now f) ⌝ ∗ ⌜ Worded width (now w) faces ⌝ ∗ ⌜ (allPrintable (heldRows width (now f) (now w) slotLimit) ≡ true) × (65 * length (heldRows width (now f) (now w) slotLimit) + 65 ≤ length (now out)) ⌝ }
+    ensures { λ _. ⌜ now (out .exit) ≡ write (now (out .entry)) 0 (pageOf (heldRows width (now (f .entry)) (now (w .entry)) slotLimit)) ⌝ }
+{
+    let mut s = Sums {
+        at: 0,
+        plus: 0,
+        less: 0,
+    };
+    let mut i: usize = 0;
+    while i < SLOTS {
+        s = slot_line(out, f, i, w[STATE + WIDTH * i], s);
+        i += 1;
+    }
+    write_total(out, s.at, total(s.plus, s.less));
+}
+
+// Refusal 17 or 18, or the page.
+fn page_of(f: &[f64], w: &[u32], faces: usize, out: &mut [u8]) -> PageRead
+    requires { ⌜ coordsFrom ≤ length (now f) ⌝ ∗ ⌜ Worded width (now w) faces ⌝ }
+    ensures { λ r. ⌜ paged (pageRead r) (now (out .exit)) ≡ pageAnswer (heldRows width (now (f .entry)) (now (w .entry)) slotLimit) (now (out .entry)) ⌝ }
+{
+    if !fair(f, w, faces) {
+        return PageRead::Refused(Refusal::NoFigure);
+    }
+    let need = 65 * count_filled(w, faces) + 65;
+    if need > out.len() {
+        return PageRead::Refused(Refusal::ShortPage);
+    }
+    write_page(out, f, w, faces);
+    PageRead::Bytes(need as u64)
+}
+
+// Writes the page of a store whose work is done into lent bytes.
+pub fn page(f: &[f64], w: &[u32], out: &mut [u8]) -> PageRead
+    ensures { λ r. ⌜ paged (pageRead r) (now (out .exit)) ≡ pageStep width (now (f .entry)) (now (w .entry)) (now (out .entry)) ⌝ }
+{
+    match check_read(f, w, true) {
+        Checked::Failed(r) => PageRead::Refused(r),
+        Checked::Passed => page_of(f, w, word(w, 1), out),
+    }
+}
