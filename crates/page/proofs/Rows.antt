@@ -1,29 +1,24 @@
 -- The row of one place, as the code makes it. Assumes nothing.
 use mathlib.Core.Path.{_≡_, refl, sym, ap, subst, _∙_}
 use mathlib.Core.Bool.{Bool, true, false, _&&_}
-use mathlib.Core.List.{List, [], _∷_, _++_}
+use mathlib.Core.List.{List, [], _∷_, append-nil}
 use Prim.Native.Nat.{ℕ, _-_}
 use borrow.Author.Tests.{eq-eqb, ne-eqb}
 use lib.IntN.{ℤ, _+ℤ_, +ℤ-idr}
 use lib.ListN.{length}
 use lib.Ieee.{Float, le}
 use Rattle.base.specs.Floats.{abs, +0}
-use Rattle.readings.specs.Readings.{heldAt}
+use Rattle.readings.specs.Readings.{rawMass, heldAt}
 use Rattle.readings.specs.Folds.{fold, massStep}
 use Rattle.readings.specs.FoldLaws.{mass-sum}
-use Rattle.readings.specs.Lists.{at-length}
-use Rattle.text.specs.Print.{Wrote, decimalText}
+use Rattle.text.specs.Print.{Wrote}
 use Rattle.whole.specs.Whole.{rounded, printable, massLimit}
-use Rattle.page.specs.Page.{right, ending, Row, row, massOf, lineOf, linesOf, totalOf, allPrintable, rowAt}
+use Rattle.page.specs.Page.{placeLine, Row, row, linesOf, totalOf, allPrintable, rowAt}
 use Rattle.page.proofs.Writes.{nothing}
 
 and-true : (b : Bool) → b && true ≡ b
 and-true true = refl
 and-true false = refl
-
-append-nil : (l : List ℕ) → l ++ [] ≡ l
-append-nil [] = refl
-append-nil (a ∷ l) = ap (λ (t : List ℕ). a ∷ t) (append-nil l)
 
 -- an empty place
 module _ (fs : List Float) (i s : ℕ) (e : s ≡ 0) where
@@ -44,14 +39,14 @@ module _ (fs : List Float) (i s : ℕ) (e : s ≡ 0) where
 
 -- a filled place of p pieces and the mass m
 module _ (fs : List Float) (i s p : ℕ) (n : s ≡ 0 → ⊥) (e : p ≡ s - 1) (m : Float) (g : m ≡ fold massStep (heldAt fs i p) +0) where
-  one-is : rowAt fs i s ≡ row i (heldAt fs i p) ∷ []
-  one-is = rw (ne-eqb s 0 n, e)
-
-  mass-is : massOf (row i (heldAt fs i p)) ≡ m
+  mass-is : rawMass (heldAt fs i p) ≡ m
   mass-is = mass-sum (heldAt fs i p) ∙ sym g
 
+  one-is : rowAt fs i s ≡ row i p m ∷ []
+  one-is = rw (ne-eqb s 0 n, ← e, mass-is)
+
   test : allPrintable (rowAt fs i s) ≡ printable m
-  test = ap allPrintable one-is ∙ and-true (printable (massOf (row i (heldAt fs i p)))) ∙ ap printable mass-is
+  test = ap allPrintable one-is ∙ and-true (printable m)
 
   pub one-printable : (a : Float) → a ≡ abs m → le a massLimit ≡ allPrintable (rowAt fs i s)
   unfolding printable
@@ -65,15 +60,10 @@ module _ (fs : List Float) (i s p : ℕ) (n : s ≡ 0 → ⊥) (e : p ≡ s - 1)
 
   module _ (v : ℤ) (h : v ≡ rounded m) where
     pub one-total : totalOf (rowAt fs i s) ≡ v
-    one-total = ap totalOf one-is ∙ +ℤ-idr (rounded (massOf (row i (heldAt fs i p)))) ∙ ap rounded mass-is ∙ sym h
+    one-total = ap totalOf one-is ∙ +ℤ-idr (rounded m) ∙ sym h
 
-    line-is : right 2 (decimalText i) ++ (32 ∷ (right 2 (decimalText p) ++ ending v)) ≡ linesOf (rowAt fs i s)
-    unfolding lineOf
-    line-is =
-        ap (λ (k : ℕ). right 2 (decimalText i) ++ (32 ∷ (right 2 (decimalText k) ++ ending v))) (sym (at-length fs i p))
-        ∙ ap (λ (z : ℤ). right 2 (decimalText i) ++ (32 ∷ (right 2 (decimalText (length (heldAt fs i p))) ++ ending z))) (h ∙ ap rounded (sym mass-is))
-        ∙ sym (append-nil (lineOf (row i (heldAt fs i p))))
-        ∙ ap linesOf (sym one-is)
+    line-is : placeLine i p v ≡ linesOf (rowAt fs i s)
+    line-is = ap (placeLine i p) h ∙ sym (append-nil (placeLine i p (rounded m))) ∙ ap linesOf (sym one-is)
 
-    pub one-written : {o o′ : List ℕ} {at r : ℕ} → Wrote o at (right 2 (decimalText i) ++ (32 ∷ (right 2 (decimalText p) ++ ending v))) r o′ → Wrote o at (linesOf (rowAt fs i s)) r o′
+    pub one-written : {o o′ : List ℕ} {at r : ℕ} → Wrote o at (placeLine i p v) r o′ → Wrote o at (linesOf (rowAt fs i s)) r o′
     one-written {o} {o′} {at} {r} w = subst (λ (l : List ℕ). Wrote o at l r o′) line-is w

@@ -12,7 +12,7 @@ use Rattle.base.specs.declared.refusal.Checked.{Checked}
 use Rattle.base.specs.declared.refusal.Checked.the-variants.{Passed, Failed}
 use Rattle.runs.specs.Runs.{write}
 use Rattle.layout.specs.Layout.{slotLimit, statusOf}
-use Rattle.readings.specs.Readings.{Part, rawMass, heldAt}
+use Rattle.readings.specs.Readings.{rawMass, heldAt}
 use Rattle.readings.specs.Checks.{readCheck}
 use Rattle.text.specs.Text.{bytes}
 use Rattle.text.specs.Print.{decimalText}
@@ -32,41 +32,42 @@ abbrev pub wholeText : ℤ → List ℕ
 wholeText (pos n) = decimalText n
 wholeText (negsuc n) = 45 ∷ decimalText (suc n)
 
--- columns 6 to 64 of a line, "in columns 45-64", and its newline
+-- what follows column 5: a whole number "in columns 45-64", "spaces elsewhere", and a newline
 unfoldable pub ending : ℤ → List ℕ
 ending v = spaces 39 ++ (right 20 (wholeText v) ++ (10 ∷ []))
 
--- ---- lines
-
--- a filled place: its number and its pieces
-pub record Row : Type 0 where
-  pub place : ℕ
-  pub parts : List Part
-
-abbrev pub row : ℕ → List Part → Row
-row i ps = record { place = i; parts = ps }
-
--- "the place's own field mass"
-abbrev pub massOf : Row → Float
-massOf r = rawMass (r .parts)
-
 -- "its number in columns 1-2, its pieces in 4-5 and its raw mass in whole kilograms in columns 45-64"
-unfoldable pub lineOf : Row → List ℕ
-lineOf r = right 2 (decimalText (r .place)) ++ (32 ∷ (right 2 (decimalText (length (r .parts))) ++ ending (rounded (massOf r))))
-
--- "One line per filled place"
-abbrev pub linesOf : List Row → List ℕ
-linesOf [] = []
-linesOf (r ∷ rs) = lineOf r ++ linesOf rs
-
--- "the sum of the printed masses"
-abbrev pub totalOf : List Row → ℤ
-totalOf [] = pos 0
-totalOf (r ∷ rs) = rounded (massOf r) +ℤ totalOf rs
+unfoldable pub placeLine : ℕ → ℕ → ℤ → List ℕ
+placeLine i n v = right 2 (decimalText i) ++ (32 ∷ (right 2 (decimalText n) ++ ending v))
 
 -- "A last line has TOTAL in columns 1-5"
 unfoldable pub totalLine : ℤ → List ℕ
 totalLine v = bytes "TOTAL" ++ ending v
+
+-- ---- the page
+
+-- what is shown of a filled place; its mass as it is before rounding
+pub record Row : Type 0 where
+  pub place : ℕ
+  pub pieces : ℕ
+  pub mass : Float
+
+abbrev pub row : ℕ → ℕ → Float → Row
+row i n m = record { place = i; pieces = n; mass = m }
+
+-- "nearest, ties to even"
+abbrev pub figure : Row → ℤ
+figure r = rounded (r .mass)
+
+-- "One line per filled place"
+abbrev pub linesOf : List Row → List ℕ
+linesOf [] = []
+linesOf (r ∷ rs) = placeLine (r .place) (r .pieces) (figure r) ++ linesOf rs
+
+-- "the sum of the printed masses"
+abbrev pub totalOf : List Row → ℤ
+totalOf [] = pos 0
+totalOf (r ∷ rs) = figure r +ℤ totalOf rs
 
 unfoldable pub pageOf : List Row → List ℕ
 pageOf rs = linesOf rs ++ totalLine (totalOf rs)
@@ -89,7 +90,7 @@ guardedPage (Failed r) bs good = paged (refused r) bs
 -- "17 when a place's field mass is NaN or, unrounded, exceeds 10^15 in magnitude"
 abbrev pub allPrintable : List Row → Bool
 allPrintable [] = true
-allPrintable (r ∷ rs) = printable (massOf r) && allPrintable rs
+allPrintable (r ∷ rs) = printable (r .mass) && allPrintable rs
 
 abbrev pub figureCheck : List Row → Checked
 figureCheck rs = cond (allPrintable rs) Passed (Failed NoFigure)
@@ -104,10 +105,11 @@ pageAnswer rs bs =
     guardedPage (andThen (figureCheck rs) (pageCheck (length (pageOf rs)) (length bs))) bs
     (paged (counted (length (pageOf rs) ∷ [])) (write bs 0 (pageOf rs)))
 
--- ---- as a store's runs hold it
+-- ---- as a store's runs hold it: place i, empty where its status is 0. "The mass is the place's own field mass"
 abbrev pub rowAt : List Float → ℕ → ℕ → List Row
-rowAt fs i status = cond (eqb status 0) [] (row i (heldAt fs i (status - 1)) ∷ [])
+rowAt fs i status = cond (eqb status 0) [] (row i (status - 1) (rawMass (heldAt fs i (status - 1))) ∷ [])
 
+-- the places below k
 unfoldable pub heldRows : ℕ → List Float → List ℕ → ℕ → List Row
 heldRows q fs ws zero = []
 heldRows q fs ws (suc k) = heldRows q fs ws k ++ rowAt fs k (statusOf q ws k)

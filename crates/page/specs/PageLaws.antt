@@ -17,13 +17,12 @@ use Rattle.base.specs.declared.refusal.Refusal.the-variants.{NoFigure, ShortPag
 use Rattle.runs.specs.Runs.{write}
 use Rattle.layout.specs.Layout.{statusOf}
 use Rattle.layout.specs.SoundLaws.{Worded}
-use Rattle.readings.specs.Readings.{heldAt, heldFilled}
-use Rattle.readings.specs.Lists.{at-length}
+use Rattle.readings.specs.Readings.{rawMass, heldAt, heldFilled}
 use Rattle.text.specs.Print.{lengthFrom, decimalLength, decimalText}
 use Rattle.text.specs.WriteLaws.{length-digits}
-use Rattle.whole.specs.Whole.{rounded, printable}
+use Rattle.whole.specs.Whole.{printable}
 use Rattle.whole.specs.WholeLaws.{rounded-most}
-use Rattle.page.specs.Page.{spaces, right, wholeText, ending, Row, row, massOf, lineOf, linesOf, totalOf, totalLine, pageOf, paged, allPrintable, pageAnswer, rowAt, heldRows}
+use Rattle.page.specs.Page.{spaces, right, wholeText, ending, placeLine, totalLine, Row, row, figure, linesOf, totalOf, pageOf, paged, allPrintable, pageAnswer, rowAt, heldRows}
 
 -- ---- lengths of texts
 pub decimal-length : (n : ℕ) → length (decimalText n) ≡ decimalLength n
@@ -68,32 +67,32 @@ two-columns n h = right-length 2 (decimalText n) (rw (decimal-length n) (digits-
 -- ---- rows that a page has
 pub record Fair (r : Row) : Type 0 where
   pub place : r .place < 100
-  pub pieces : length (r .parts) < 100
-  pub mass : printable (massOf r) ≡ true
+  pub pieces : r .pieces < 100
+  pub mass : printable (r .mass) ≡ true
 
 abbrev pub AllFair : List Row → Type 0
 AllFair [] = Unit {0}
 AllFair (r ∷ rs) = Fair r × AllFair rs
 
-pub mass-small : (r : Row) → Fair r → natAbs (rounded (massOf r)) ≤ 1000000000000000
-mass-small r g = rounded-most (massOf r) (subst T (sym (g .mass)) tt)
+pub figure-small : (r : Row) → Fair r → natAbs (figure r) ≤ 1000000000000000
+figure-small r g = rounded-most (r .mass) (subst T (sym (g .mass)) tt)
 
-pub line-length : (r : Row) → Fair r → length (lineOf r) ≡ 65
-unfolding lineOf
-line-length r g =
-    let n = right 2 (decimalText (r .place)) in
-    let p = right 2 (decimalText (length (r .parts))) in
-    let v = rounded (massOf r) in
-    let a = two-columns (r .place) (g .place) in
-    let b = two-columns (length (r .parts)) (g .pieces) in
-    let m = mass-small r g in
-    let c = ending-length v (omega arith) in
+pub line-length : (i n : ℕ) (v : ℤ) → i < 100 → n < 100 → natAbs v < 100000000000000000 → length (placeLine i n v) ≡ 65
+unfolding placeLine
+line-length i n v hi hn hv =
+    let p = right 2 (decimalText n) in
+    let a = two-columns i hi in
+    let b = two-columns n hn in
+    let c = ending-length v hv in
     let d = length-append p (ending v) in
-    length-append n (32 ∷ (p ++ ending v)) ∙ omega arith
+    length-append (right 2 (decimalText i)) (32 ∷ (p ++ ending v)) ∙ omega arith
+
+row-length : (r : Row) → Fair r → length (placeLine (r .place) (r .pieces) (figure r)) ≡ 65
+row-length r g = line-length (r .place) (r .pieces) (figure r) (g .place) (g .pieces) (let m = figure-small r g in omega arith)
 
 pub lines-length : (rs : List Row) → AllFair rs → length (linesOf rs) ≡ 65 * length rs
 lines-length [] g = refl
-lines-length (r ∷ rs) g = length-append (lineOf r) (linesOf rs) ∙ omega (arith, line-length r (g .0), lines-length rs (g .1))
+lines-length (r ∷ rs) g = length-append (placeLine (r .place) (r .pieces) (figure r)) (linesOf rs) ∙ omega (arith, row-length r (g .0), lines-length rs (g .1))
 
 abs-add : (a b : ℤ) → natAbs (a +ℤ b) ≤ natAbs a + natAbs b
 abs-add (pos a) (pos b) = omega arith
@@ -111,7 +110,7 @@ abs-add (negsuc a) (negsuc b) = omega arith
 
 pub total-small : (rs : List Row) → AllFair rs → natAbs (totalOf rs) ≤ 1000000000000000 * length rs
 total-small [] g = omega arith
-total-small (r ∷ rs) g = omega (arith, abs-add (rounded (massOf r)) (totalOf rs), mass-small r (g .0), total-small rs (g .1))
+total-small (r ∷ rs) g = omega (arith, abs-add (figure r) (totalOf rs), figure-small r (g .0), total-small rs (g .1))
 
 pub total-length : (v : ℤ) → natAbs v < 100000000000000000 → length (totalLine v) ≡ 65
 unfolding totalLine
@@ -126,15 +125,17 @@ page-length rs g h =
 -- ---- rows one after the other
 pub lines-append : (rs ss : List Row) → linesOf (rs ++ ss) ≡ linesOf rs ++ linesOf ss
 lines-append [] ss = refl
-lines-append (r ∷ rs) ss = ap (λ (l : List ℕ). lineOf r ++ l) (lines-append rs ss) ∙ sym (append-assoc (lineOf r) (linesOf rs) (linesOf ss))
+lines-append (r ∷ rs) ss =
+    let l = placeLine (r .place) (r .pieces) (figure r) in
+    ap (λ (t : List ℕ). l ++ t) (lines-append rs ss) ∙ sym (append-assoc l (linesOf rs) (linesOf ss))
 
 pub total-append : (rs ss : List Row) → totalOf (rs ++ ss) ≡ totalOf rs +ℤ totalOf ss
 total-append [] ss = sym (+ℤ-idl (totalOf ss))
-total-append (r ∷ rs) ss = ap (λ (z : ℤ). rounded (massOf r) +ℤ z) (total-append rs ss) ∙ sym (+ℤ-assoc (rounded (massOf r)) (totalOf rs) (totalOf ss))
+total-append (r ∷ rs) ss = ap (λ (z : ℤ). figure r +ℤ z) (total-append rs ss) ∙ sym (+ℤ-assoc (figure r) (totalOf rs) (totalOf ss))
 
 pub printable-append : (rs ss : List Row) → allPrintable (rs ++ ss) ≡ allPrintable rs && allPrintable ss
 printable-append [] ss = refl
-printable-append (r ∷ rs) ss = rw (printable-append rs ss) (assoc (printable (massOf r)))
+printable-append (r ∷ rs) ss = rw (printable-append rs ss) (assoc (printable (r .mass)))
   where
     assoc : (b : Bool) → b && (allPrintable rs && allPrintable ss) ≡ (b && allPrintable rs) && allPrintable ss
     assoc true = refl
@@ -155,7 +156,7 @@ module _ (q : ℕ) (fs : List Float) (ws : List ℕ) where
   row-count : (k s : ℕ) → length (rowAt fs k s) ≡ cond (eqb s 0) 0 1
   row-count k s = go (eqb s 0)
     where
-      go : (b : Bool) → length (cond b [] (row k (heldAt fs k (s - 1)) ∷ [])) ≡ cond b 0 1
+      go : (b : Bool) → length (cond b [] (row k (s - 1) (rawMass (heldAt fs k (s - 1))) ∷ [])) ≡ cond b 0 1
       go true = refl
       go false = refl
 
@@ -179,9 +180,12 @@ module _ (q : ℕ) (fs : List Float) (ws : List ℕ) where
   row-fair : (k s : ℕ) → k < 32 → s - 1 ≤ 16 → allPrintable (rowAt fs k s) ≡ true → AllFair (rowAt fs k s)
   row-fair k s h p e = go (eqb s 0) e
     where
-      go : (b : Bool) → allPrintable (cond b [] (row k (heldAt fs k (s - 1)) ∷ [])) ≡ true → AllFair (cond b [] (row k (heldAt fs k (s - 1)) ∷ []))
+      m : Float
+      m = rawMass (heldAt fs k (s - 1))
+
+      go : (b : Bool) → allPrintable (cond b [] (row k (s - 1) m ∷ [])) ≡ true → AllFair (cond b [] (row k (s - 1) m ∷ []))
       go true f = tt
-      go false f = (record { place = omega arith; pieces = omega (arith, at-length fs k (s - 1)); mass = and-eq-true-iff (printable (massOf (row k (heldAt fs k (s - 1))))) true .0 f .0 }, tt)
+      go false f = (record { place = omega arith; pieces = omega arith; mass = and-eq-true-iff (printable m) true .0 f .0 }, tt)
 
   module _ (ms : ℕ) (w : Worded q ws ms) where
     pub rows-fair : (n : ℕ) → n ≤ 32 → allPrintable (heldRows q fs ws n) ≡ true → AllFair (heldRows q fs ws n)

@@ -1,8 +1,10 @@
--- Every line has 64 characters and a newline, and what stands in columns 45 to 64 reads back as the mass that was rounded. Assumes nothing.
+-- The page as it hangs on the wall: every line has 64 characters and a newline, and what stands in its columns, read by the
+-- reader of crates/text, is each place's number, its pieces and its rounded mass, and in the last line the sum of those masses.
+-- Assumes nothing.
 use mathlib.Core.Path.{_≡_, refl, sym, ap, subst, _∙_}
 use mathlib.Core.Bool.{Bool, true, false, cond}
-use mathlib.Core.List.{List, [], _∷_, _++_, append-assoc}
-use Prim.Native.Nat.{ℕ, zero, suc, _+_, _-_, _/_, _%_, _≤_, _<_}
+use mathlib.Core.List.{List, [], _∷_, _++_, map, append-assoc, append-nil}
+use Prim.Native.Nat.{ℕ, zero, suc, _+_, _-_, _*_, _/_, _%_, _≤_, _<_}
 use native.Mathlib.Omega.{arith}
 use lib.Dec.{ltb, eqb}
 use borrow.Author.Tests.{ne-eqb}
@@ -12,9 +14,8 @@ use lib.Seq.{take-append-seam, drop-append-seam}
 use Rattle.text.specs.Text.{left, Got, decimal}
 use Rattle.text.specs.Print.{glyph, digits, lengthFrom, decimalLength, decimalText}
 use Rattle.text.specs.Tokens.{decimal-back}
-use Rattle.whole.specs.Whole.{rounded}
-use Rattle.page.specs.Page.{spaces, right, wholeText, ending, Row, massOf, lineOf, linesOf, totalOf, totalLine, pageOf}
-use Rattle.page.specs.PageLaws.{Fair, AllFair, mass-small, total-small, right-length, whole-length, two-columns}
+use Rattle.page.specs.Page.{spaces, right, wholeText, ending, placeLine, totalLine, Row, figure, linesOf, totalOf, pageOf}
+use Rattle.page.specs.PageLaws.{Fair, AllFair, figure-small, total-small, right-length, whole-length, two-columns, line-length, lines-length}
 
 -- ---- definitions
 
@@ -23,29 +24,64 @@ abbrev pub Visible : List ℕ → Type 0
 Visible [] = Unit {0}
 Visible (b ∷ l) = (32 ≤ b) × Visible l
 
--- 64 characters and a newline
+-- "64 characters and a newline"
 pub record Line (l : List ℕ) : Type 0 where
   pub chars : List ℕ
   pub text : l ≡ chars ++ (10 ∷ [])
   pub wide : length chars ≡ 64
   pub visible : Visible chars
 
--- columns 45 to 64 of a line
-abbrev pub column : List ℕ → List ℕ
-column l = take 20 (drop 44 l)
+-- n lines and nothing else
+pub data Lines : List ℕ → ℕ → Type 0 where
+  none : Lines [] 0
+  more : {l r : List ℕ} {n : ℕ} → Line l → Lines r n → Lines (l ++ r) (suc n)
+
+-- columns a to b, counted from 1, of the line at the start of a text
+abbrev pub columns : ℕ → ℕ → List ℕ → List ℕ
+columns a b l = take (b - a + 1) (drop (a - 1) l)
 
 -- a text after its spaces
 abbrev pub skip : List ℕ → List ℕ
 skip [] = []
 skip (b ∷ l) = cond (eqb b 32) (skip l) (b ∷ l)
 
+-- v was read and nothing is left
+abbrev pub exactly : {A : Type 0} → A → Got A
+exactly v = record { val = v; text = left [] }
+
+-- a decimal number of 64 bits
+abbrev pub count : List ℕ → Got ℕ
+count t = decimal 18446744073709551615 (left t)
+
 abbrev pub told : (ℕ → ℤ) → Got ℕ → Got ℤ
 told f g = record { val = f (g .val); text = g .text }
 
--- a whole number read: a minus sign or none, and a decimal number of 64 bits
+-- the same after a minus sign or none
 abbrev pub whole : List ℕ → Got ℤ
-whole [] = told pos (decimal 18446744073709551615 (left []))
-whole (b ∷ l) = cond (eqb b 45) (told (λ n. negℤ (pos n)) (decimal 18446744073709551615 (left l))) (told pos (decimal 18446744073709551615 (left (b ∷ l))))
+whole [] = told pos (count [])
+whole (b ∷ l) = cond (eqb b 45) (told (λ n. negℤ (pos n)) (count l)) (told pos (count (b ∷ l)))
+
+-- the mass in a line
+abbrev pub readMass : List ℕ → Got ℤ
+readMass l = whole (skip (columns 45 64 l))
+
+-- all that is read in a place's line
+pub record Shown : Type 0 where
+  pub place : Got ℕ
+  pub pieces : Got ℕ
+  pub mass : Got ℤ
+
+abbrev pub readLine : List ℕ → Shown
+readLine l = record { place = count (skip (columns 1 2 l)); pieces = count (skip (columns 4 5 l)); mass = readMass l }
+
+-- in the first n lines, 65 bytes each
+abbrev pub readLines : ℕ → List ℕ → List Shown
+readLines zero l = []
+readLines (suc n) l = readLine l ∷ readLines n (drop 65 l)
+
+-- what is to be read of a row
+abbrev pub shown : Row → Shown
+shown r = record { place = exactly (r .place); pieces = exactly (r .pieces); mass = exactly (figure r) }
 
 -- ---- bytes
 visible-append : (u v : List ℕ) → Visible u → Visible v → Visible (u ++ v)
@@ -79,78 +115,7 @@ visible-whole (negsuc n) = (omega arith, visible-decimal (suc n))
 visible-right : (n : ℕ) (t : List ℕ) → Visible t → Visible (right n t)
 visible-right n t v = visible-append (spaces (n - length t)) t (visible-spaces (n - length t)) v
 
--- ---- a line is its first 44 columns, the column of its mass, and a newline
-ended : (p t : List ℕ) → length p ≡ 44 → length t ≡ 20 → Visible p → Visible t → Line (p ++ (t ++ (10 ∷ [])))
-ended p t a b u v = record { chars = p ++ t; text = sym (append-assoc p t (10 ∷ [])); wide = length-append p t ∙ omega arith; visible = visible-append p t u v }
-
-column-of : (p t : List ℕ) → length p ≡ 44 → length t ≡ 20 → column (p ++ (t ++ (10 ∷ []))) ≡ t
-column-of p t a b =
-    rw (← a, ← b) (ap (take (length t)) (drop-append-seam p (t ++ (10 ∷ []))) ∙ take-append-seam t (10 ∷ []))
-
-module _ (r : Row) (g : Fair r) where
-  abbrev v : ℤ
-  v = rounded (massOf r)
-
-  abbrev n : List ℕ
-  n = right 2 (decimalText (r .place))
-
-  abbrev k : List ℕ
-  k = right 2 (decimalText (length (r .parts)))
-
-  abbrev front : List ℕ
-  front = n ++ (32 ∷ (k ++ spaces 39))
-
-  abbrev mass : List ℕ
-  mass = right 20 (wholeText v)
-
-  small : natAbs v < 100000000000000000
-  small = let m = mass-small r g in omega arith
-
-  line-is : lineOf r ≡ front ++ (mass ++ (10 ∷ []))
-  unfolding lineOf ending
-  line-is =
-      ap (λ (l : List ℕ). n ++ (32 ∷ l)) (sym (append-assoc k (spaces 39) (mass ++ (10 ∷ []))))
-      ∙ sym (append-assoc n (32 ∷ (k ++ spaces 39)) (mass ++ (10 ∷ [])))
-
-  front-wide : length front ≡ 44
-  front-wide =
-      let a = two-columns (r .place) (g .place) in
-      let b = two-columns (length (r .parts)) (g .pieces) in
-      let c = length-append k (spaces 39) in
-      length-append n (32 ∷ (k ++ spaces 39)) ∙ omega arith
-
-  mass-wide : length mass ≡ 20
-  mass-wide = right-length 20 (wholeText v) (whole-length v small)
-
-  -- "Every line has 64 characters and a newline"
-  pub place-line : Line (lineOf r)
-  place-line =
-      subst Line (sym line-is)
-      (ended front mass front-wide mass-wide
-      (visible-append n (32 ∷ (k ++ spaces 39)) (visible-right 2 (decimalText (r .place)) (visible-decimal (r .place))) (omega arith, visible-append k (spaces 39) (visible-right 2 (decimalText (length (r .parts))) (visible-decimal (length (r .parts)))) (visible-spaces 39)))
-      (visible-right 20 (wholeText v) (visible-whole v)))
-
-  pub mass-column : column (lineOf r) ≡ right 20 (wholeText (rounded (massOf r)))
-  mass-column = ap column line-is ∙ column-of front mass front-wide mass-wide
-
-module _ (v : ℤ) (h : natAbs v < 100000000000000000) where
-  abbrev word : List ℕ
-  word = 84 ∷ 79 ∷ 84 ∷ 65 ∷ 76 ∷ spaces 39
-
-  total-is : totalLine v ≡ word ++ (right 20 (wholeText v) ++ (10 ∷ []))
-  unfolding totalLine ending
-  total-is = refl
-
-  total-wide : length (right 20 (wholeText v)) ≡ 20
-  total-wide = right-length 20 (wholeText v) (whole-length v h)
-
-  pub total-line : Line (totalLine v)
-  total-line = subst Line (sym total-is) (ended word (right 20 (wholeText v)) refl total-wide (omega arith, (omega arith, (omega arith, (omega arith, (omega arith, visible-spaces 39))))) (visible-right 20 (wholeText v) (visible-whole v)))
-
-  pub total-column : column (totalLine v) ≡ right 20 (wholeText v)
-  total-column = ap column total-is ∙ column-of word (right 20 (wholeText v)) refl total-wide
-
--- ---- reading back
+-- ---- numbers read back
 skip-spaces : (n : ℕ) (t : List ℕ) → skip (spaces n ++ t) ≡ skip t
 skip-spaces zero t = refl
 skip-spaces (suc n) t = skip-spaces n t
@@ -181,42 +146,152 @@ text-starts : (n : ℕ) → Starts (decimalText n)
 unfolding decimalText decimalLength
 text-starts n = subst (λ (j : ℕ). Starts (digits 10 j n)) (sym (some-digits 19 n)) (starts (lengthFrom 19 n - 1) n)
 
-append-nil : (l : List ℕ) → l ++ [] ≡ l
-append-nil [] = refl
-append-nil (a ∷ l) = ap (λ (t : List ℕ). a ∷ t) (append-nil l)
-
-number-back : (n : ℕ) → n < 100000000000000000 → decimal 18446744073709551615 (left (decimalText n)) ≡ record { val = n; text = left [] }
-number-back n h = ap (λ (l : List ℕ). decimal 18446744073709551615 (left l)) (sym (append-nil (decimalText n))) ∙ decimal-back 18446744073709551615 n [] (omega arith) (omega arith) tt
-
 plain-skip : (l : List ℕ) → Starts l → skip l ≡ l
 plain-skip l s = rw (s .is) (rw (ne-eqb (s .first) 32 (λ z. omega (arith, s .low))) refl)
 
-plain-whole : (l : List ℕ) → Starts l → whole l ≡ told pos (decimal 18446744073709551615 (left l))
+plain-whole : (l : List ℕ) → Starts l → whole l ≡ told pos (count l)
 plain-whole l s = rw (s .is) (rw (ne-eqb (s .first) 45 (λ z. omega (arith, s .low))) refl)
 
-text-back : (v : ℤ) → natAbs v < 100000000000000000 → whole (skip (wholeText v)) ≡ record { val = v; text = left [] }
+number-back : (n : ℕ) → n < 100000000000000000 → count (decimalText n) ≡ exactly n
+number-back n h = ap count (sym (append-nil (decimalText n))) ∙ decimal-back 18446744073709551615 n [] (omega arith) (omega arith) tt
+
+text-back : (v : ℤ) → natAbs v < 100000000000000000 → whole (skip (wholeText v)) ≡ exactly v
 text-back (pos n) h = ap whole (plain-skip (decimalText n) (text-starts n)) ∙ plain-whole (decimalText n) (text-starts n) ∙ ap (told pos) (number-back n h)
 text-back (negsuc n) h = ap (told (λ m. negℤ (pos m))) (number-back (suc n) h)
 
-pub column-back : (v : ℤ) → natAbs v < 100000000000000000 → whole (skip (right 20 (wholeText v))) ≡ record { val = v; text = left [] }
-column-back v h = ap whole (skip-spaces (20 - length (wholeText v)) (wholeText v)) ∙ text-back v h
+count-back : (n : ℕ) → n < 100 → count (skip (right 2 (decimalText n))) ≡ exactly n
+count-back n h = ap count (skip-spaces (2 - length (decimalText n)) (decimalText n) ∙ plain-skip (decimalText n) (text-starts n)) ∙ number-back n (omega arith)
 
--- the mass of a place's line, and the total, as read from their columns
-pub mass-back : (r : Row) → Fair r → whole (skip (column (lineOf r))) ≡ record { val = rounded (massOf r); text = left [] }
-mass-back r g = ap (λ (l : List ℕ). whole (skip l)) (mass-column r g) ∙ column-back (rounded (massOf r)) (let m = mass-small r g in omega arith)
+whole-back : (v : ℤ) → natAbs v < 100000000000000000 → whole (skip (right 20 (wholeText v))) ≡ exactly v
+whole-back v h = ap whole (skip-spaces (20 - length (wholeText v)) (wholeText v)) ∙ text-back v h
 
-pub total-back : (v : ℤ) → natAbs v < 100000000000000000 → whole (skip (column (totalLine v))) ≡ record { val = v; text = left [] }
-total-back v h = ap (λ (l : List ℕ). whole (skip l)) (total-column v h) ∙ column-back v h
+-- ---- k bytes after the first a
+cut : (a k : ℕ) (p c u : List ℕ) → length p ≡ a → length c ≡ k → take k (drop a (p ++ (c ++ u))) ≡ c
+cut a k p c u e f = rw (← e, ← f) (ap (take (length c)) (drop-append-seam p (c ++ u)) ∙ take-append-seam c u)
 
--- ---- the page: a line for each row, and one more
-pub data Lines : List ℕ → ℕ → Type 0 where
-  none : Lines [] 0
-  more : {l r : List ℕ} {n : ℕ} → Line l → Lines r n → Lines (l ++ r) (suc n)
+-- a line of 44 columns, those of its mass, and a newline
+ended : (p t : List ℕ) → length p ≡ 44 → length t ≡ 20 → Visible p → Visible t → Line (p ++ (t ++ (10 ∷ [])))
+ended p t a b u v = record { chars = p ++ t; text = sym (append-assoc p t (10 ∷ [])); wide = length-append p t ∙ omega arith; visible = visible-append p t u v }
+
+mass-back : (l p : List ℕ) (v : ℤ) → natAbs v < 100000000000000000 → l ≡ p ++ (right 20 (wholeText v) ++ (10 ∷ [])) → length p ≡ 44 → (t : List ℕ) → readMass (l ++ t) ≡ exactly v
+mass-back l p v h e a t =
+    let c = right 20 (wholeText v) in
+    let w = right-length 20 (wholeText v) (whole-length v h) in
+    let j : l ++ t ≡ p ++ (c ++ (10 ∷ t)) = ap (λ (x : List ℕ). x ++ t) e ∙ append-assoc p (c ++ (10 ∷ [])) t ∙ ap (λ (x : List ℕ). p ++ x) (append-assoc c (10 ∷ []) t) in
+    ap (λ (x : List ℕ). whole (skip (columns 45 64 x))) j ∙ ap (λ (x : List ℕ). whole (skip x)) (cut 44 20 p c (10 ∷ t) a w) ∙ whole-back v h
+
+-- ---- a place's line
+module _ (i n : ℕ) (v : ℤ) (hi : i < 100) (hn : n < 100) (hv : natAbs v < 100000000000000000) where
+  abbrev A : List ℕ
+  A = right 2 (decimalText i)
+
+  abbrev B : List ℕ
+  B = right 2 (decimalText n)
+
+  abbrev M : List ℕ
+  M = right 20 (wholeText v)
+
+  abbrev front : List ℕ
+  front = A ++ (32 ∷ (B ++ spaces 39))
+
+  line-is : placeLine i n v ≡ front ++ (M ++ (10 ∷ []))
+  unfolding placeLine ending
+  line-is =
+      ap (λ (l : List ℕ). A ++ (32 ∷ l)) (sym (append-assoc B (spaces 39) (M ++ (10 ∷ []))))
+      ∙ sym (append-assoc A (32 ∷ (B ++ spaces 39)) (M ++ (10 ∷ [])))
+
+  front-wide : length front ≡ 44
+  front-wide =
+      let a = two-columns i hi in
+      let b = two-columns n hn in
+      let c = length-append B (spaces 39) in
+      length-append A (32 ∷ (B ++ spaces 39)) ∙ omega arith
+
+  place-line : Line (placeLine i n v)
+  place-line =
+      subst Line (sym line-is)
+      (ended front M front-wide (right-length 20 (wholeText v) (whole-length v hv))
+      (visible-append A (32 ∷ (B ++ spaces 39)) (visible-right 2 (decimalText i) (visible-decimal i)) (omega arith, visible-append B (spaces 39) (visible-right 2 (decimalText n) (visible-decimal n)) (visible-spaces 39)))
+      (visible-right 20 (wholeText v) (visible-whole v)))
+
+  module _ (t : List ℕ) where
+    at-place : columns 1 2 (placeLine i n v ++ t) ≡ A
+    unfolding placeLine
+    at-place = ap (take 2) (append-assoc A (32 ∷ (B ++ ending v)) t) ∙ cut 0 2 [] A ((32 ∷ (B ++ ending v)) ++ t) refl (two-columns i hi)
+
+    at-pieces : columns 4 5 (placeLine i n v ++ t) ≡ B
+    unfolding placeLine
+    at-pieces =
+        let w : length (A ++ (32 ∷ [])) ≡ 3 = length-append A (32 ∷ []) ∙ omega (arith, two-columns i hi) in
+        let j = append-assoc A (32 ∷ (B ++ ending v)) t ∙ ap (λ (l : List ℕ). A ++ (32 ∷ l)) (append-assoc B (ending v) t) ∙ sym (append-assoc A (32 ∷ []) (B ++ (ending v ++ t))) in
+        ap (columns 4 5) j ∙ cut 3 2 (A ++ (32 ∷ [])) B (ending v ++ t) w (two-columns n hn)
+
+    line-back : readLine (placeLine i n v ++ t) ≡ record { place = exactly i; pieces = exactly n; mass = exactly v }
+    line-back =
+        let p = ap (λ (l : List ℕ). count (skip l)) at-place ∙ count-back i hi in
+        let q = ap (λ (l : List ℕ). count (skip l)) at-pieces ∙ count-back n hn in
+        let m = mass-back (placeLine i n v) front v hv line-is front-wide t in
+        (λ j. record { place = p j; pieces = q j; mass = m j })
+
+    line-past : drop 65 (placeLine i n v ++ t) ≡ t
+    line-past = rw (← line-length i n v hi hn hv) (drop-append-seam (placeLine i n v) t)
+
+-- ---- the last line
+module _ (v : ℤ) (h : natAbs v < 100000000000000000) where
+  abbrev word : List ℕ
+  word = 84 ∷ 79 ∷ 84 ∷ 65 ∷ 76 ∷ spaces 39
+
+  total-is : totalLine v ≡ word ++ (right 20 (wholeText v) ++ (10 ∷ []))
+  unfolding totalLine ending
+  total-is = refl
+
+  total-line : Line (totalLine v)
+  total-line =
+      subst Line (sym total-is)
+      (ended word (right 20 (wholeText v)) refl (right-length 20 (wholeText v) (whole-length v h))
+      (omega arith, (omega arith, (omega arith, (omega arith, (omega arith, visible-spaces 39)))))
+      (visible-right 20 (wholeText v) (visible-whole v)))
+
+  last-back : readMass (totalLine v) ≡ exactly v
+  last-back = ap readMass (sym (append-nil (totalLine v))) ∙ mass-back (totalLine v) word v h total-is refl []
+
+-- ---- the page
+row-small : (r : Row) → Fair r → natAbs (figure r) < 100000000000000000
+row-small r g = let m = figure-small r g in omega arith
+
+sum-small : (rs : List Row) → AllFair rs → length rs ≤ 32 → natAbs (totalOf rs) < 100000000000000000
+sum-small rs g h = let s = total-small rs g in omega arith
 
 rows-and : (rs : List Row) → AllFair rs → (t : List ℕ) → Line t → Lines (linesOf rs ++ t) (suc (length rs))
 rows-and [] g t h = subst (λ (l : List ℕ). Lines l 1) (append-nil t) (more h none)
-rows-and (r ∷ rs) g t h = subst (λ (l : List ℕ). Lines l (suc (suc (length rs)))) (sym (append-assoc (lineOf r) (linesOf rs) t)) (more (place-line r (g .0)) (rows-and rs (g .1) t h))
+rows-and (r ∷ rs) g t h =
+    let l = placeLine (r .place) (r .pieces) (figure r) in
+    subst (λ (x : List ℕ). Lines x (suc (suc (length rs)))) (sym (append-assoc l (linesOf rs) t))
+    (more (place-line (r .place) (r .pieces) (figure r) (g .0 .place) (g .0 .pieces) (row-small r (g .0))) (rows-and rs (g .1) t h))
 
+rows-back : (rs : List Row) → AllFair rs → (t : List ℕ) → readLines (length rs) (linesOf rs ++ t) ≡ map shown rs
+rows-back [] g t = refl
+rows-back (r ∷ rs) g t =
+    let l = placeLine (r .place) (r .pieces) (figure r) in
+    let u = linesOf rs ++ t in
+    let a = line-back (r .place) (r .pieces) (figure r) (g .0 .place) (g .0 .pieces) (row-small r (g .0)) u in
+    let b = line-past (r .place) (r .pieces) (figure r) (g .0 .place) (g .0 .pieces) (row-small r (g .0)) u in
+    ap (readLines (suc (length rs))) (append-assoc l (linesOf rs) t) ∙ rw (a, b, rows-back rs (g .1) t) refl
+
+-- "Every line has 64 characters and a newline"
 pub page-lines : (rs : List Row) → AllFair rs → length rs ≤ 32 → Lines (pageOf rs) (suc (length rs))
 unfolding pageOf
-page-lines rs g h = rows-and rs g (totalLine (totalOf rs)) (total-line (totalOf rs) (let s = total-small rs g in omega arith))
+page-lines rs g h = rows-and rs g (totalLine (totalOf rs)) (total-line (totalOf rs) (sum-small rs g h))
+
+-- the lines of the places show their rows
+pub page-back : (rs : List Row) → AllFair rs → readLines (length rs) (pageOf rs) ≡ map shown rs
+unfolding pageOf
+page-back rs g = rows-back rs g (totalLine (totalOf rs))
+
+-- and the last line "the sum of the printed masses"
+pub total-back : (rs : List Row) → AllFair rs → length rs ≤ 32 → readMass (drop (65 * length rs) (pageOf rs)) ≡ exactly (totalOf rs)
+unfolding pageOf
+total-back rs g h =
+    let t = totalLine (totalOf rs) in
+    let e : drop (65 * length rs) (linesOf rs ++ t) ≡ t = rw (← lines-length rs g) (drop-append-seam (linesOf rs) t) in
+    ap readMass e ∙ last-back (totalOf rs) (sum-small rs g h)

@@ -10,7 +10,7 @@ ghost use Rattle.page.specs.Page.{paged, allPrintable, heldRows, pageOf,
 ghost use Rattle.page.specs.PageAnswer.{pageRead};
 use crate::lines::write_total;
 use crate::masses::Sums;
-use crate::masses::fair;
+use crate::masses::all_printable;
 use crate::masses::slot_line;
 use crate::masses::total;
 use base::refusal::Checked;
@@ -51,7 +51,7 @@ fn page_of(f: &[f64], w: &[u32], faces: usize, out: &mut [u8]) -> PageRead
     requires { ⌜ coordsFrom ≤ length (now f) ⌝ ∗ ⌜ Worded width (now w) faces ⌝ }
     ensures { λ r. ⌜ paged (pageRead r) (now (out .exit)) ≡ pageAnswer (heldRows width (now (f .entry)) (now (w .entry)) slotLimit) (now (out .entry)) ⌝ }
 {
-    if !fair(f, w, faces) {
+    if !all_printable(f, w, faces) {
         return PageRead::Refused(Refusal::NoFigure);
     }
     let need = 65 * count_filled(w, faces) + 65;

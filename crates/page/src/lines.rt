@@ -1,12 +1,12 @@
 // The page's lines, written at a position of a run; each function answers the position after what it wrote, and leaves all other bytes as they were.
 // Internal: a function with a `requires` is called by proved code alone.
 ghost use mathlib.Core.Path.{_≡_};
-ghost use mathlib.Core.List.{_∷_, _++_};
+ghost use mathlib.Core.List.{_∷_};
 ghost use Prim.Native.Nat.{_+_, _≤_, _<_};
 ghost use lib.ListN.{length};
 ghost use Rattle.text.specs.Print.{Wrote, decimalLength, decimalText};
 ghost use Rattle.whole.specs.Whole.{signedWhole};
-ghost use Rattle.page.specs.Page.{spaces, right, wholeText, ending, totalLine};
+ghost use Rattle.page.specs.Page.{spaces, right, wholeText, ending, placeLine, totalLine};
 use text::write::decimal_length;
 use text::write::write_bytes;
 use text::write::write_digits;
@@ -72,7 +72,7 @@ fn write_ending(out: &mut [u8], at: usize, v: Whole) -> usize
 // A place's line.
 pub fn write_line(out: &mut [u8], at: usize, place: u64, pieces: u64, v: Whole) -> usize
     requires { ⌜ (at + 65 ≤ length (now out)) × (place < 100) × (pieces < 100) × (v .size < 100000000000000000) ⌝ }
-    ensures { λ r. ⌜ (r ≡ at + 65) × Wrote (now (out .entry)) at (right 2 (decimalText place) ++ (32 ∷ (right 2 (decimalText pieces) ++ ending (signedWhole (v .minus) (v .size))))) r (now (out .exit)) ⌝ }
+    ensures { λ r. ⌜ (r ≡ at + 65) × Wrote (now (out .entry)) at (placeLine place pieces (signedWhole (v .minus) (v .size))) r (now (out .exit)) ⌝ }
 {
     let a = write_right(out, at, 2, place);
     let b = write_bytes(out, a, b" ");

@@ -21,7 +21,7 @@ use whole::rounding::Whole;
 use whole::rounding::rounded;
 
 // Whether place i is empty or its mass can be printed.
-fn slot_fair(f: &[f64], i: usize, status: u32) -> bool
+fn slot_printable(f: &[f64], i: usize, status: u32) -> bool
     requires { ⌜ (coordsFrom ≤ length (now f)) × (i < slotLimit) × (status - 1 ≤ pieceLimit) ⌝ }
     ensures { λ r. ⌜ r ≡ allPrintable (rowAt (now (f .entry)) i status) ⌝ }
 {
@@ -32,14 +32,14 @@ fn slot_fair(f: &[f64], i: usize, status: u32) -> bool
 }
 
 // Whether the masses of all filled places can be printed.
-pub fn fair(f: &[f64], w: &[u32], faces: usize) -> bool
+pub fn all_printable(f: &[f64], w: &[u32], faces: usize) -> bool
     requires { ⌜ coordsFrom ≤ length (now f) ⌝ ∗ ⌜ Worded width (now w) faces ⌝ }
     ensures { λ r. ⌜ r ≡ allPrintable (heldRows width (now (f .entry)) (now (w .entry)) slotLimit) ⌝ }
 {
     let mut good = true;
     let mut i: usize = 0;
     while i < SLOTS {
-        good = good & slot_fair(f, i, w[STATE + WIDTH * i]);
+        good = good & slot_printable(f, i, w[STATE + WIDTH * i]);
         i += 1;
     }
     good

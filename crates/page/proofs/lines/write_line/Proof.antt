@@ -1,12 +1,14 @@
 -- `page::lines::write_line` meets its contract. Assumes nothing.
 use native.Mathlib.Omega.{arith}
 use Rattle.text.specs.WriteLaws.{then}
+use Rattle.page.specs.Page.{placeLine}
 use Rattle.page.specs.PageLaws.{digits-under}
 use borrow.Author.Needs.{needs}
 use Rattle.page.proofs.lines.write_line.Statement.{statement}
 use Rattle.page.proofs.lines.write_line.Tie as tie
 
 returns : tie.Need-returns
+unfolding placeLine
 returns c =
     (omega (arith, c .before .before .before .before .before .before .before .before .before .before .before .before .before .before .before .write-right .ensures .0, c .before .before .before .before .before .before .before .before .before .before .write-bytes .ensures .next, c .before .before .before .before .before .before .write-right2 .ensures .0, c .before .before .write-ending .ensures .0), then (c .before .before .before .before .before .before .before .before .before .before .before .before .before .before .before .write-right .ensures .1) (then (c .before .before .before .before .before .before .before .before .before .before .write-bytes .ensures) (then (c .before .before .before .before .before .before .write-right2 .ensures .1) (c .before .before .write-ending .ensures .1))))
 

@@ -1,4 +1,4 @@
--- `page::masses::fair` meets its contract. Assumes nothing.
+-- `page::masses::all_printable` meets its contract. Assumes nothing.
 use mathlib.Core.Path.{_≡_, refl}
 use Prim.Native.Nat.{_-_, _≤_}
 use native.Mathlib.Omega.{arith}
@@ -6,8 +6,8 @@ use Rattle.layout.specs.Layout.{width, statusOf}
 use Rattle.page.specs.Page.{allPrintable, heldRows, rowAt}
 use Rattle.page.specs.PageLaws.{rows-next, printable-append}
 use borrow.Author.Needs.{needs}
-use Rattle.page.proofs.masses.fair.Statement.{statement}
-use Rattle.page.proofs.masses.fair.Tie as tie
+use Rattle.page.proofs.masses.all_printable.Statement.{statement}
+use Rattle.page.proofs.masses.all_printable.Tie as tie
 
 abbrev Inv-loop : tie.InvT-loop
 Inv-loop f w faces good₀ i₀ good i = (i ≤ 32) × (good ≡ allPrintable (heldRows width f w i))
@@ -19,8 +19,8 @@ loop-holds : tie.Need-loop-holds Inv-loop μ-loop
 unfolding heldRows
 loop-holds c = (omega arith, refl)
 
-slot-fair-requires : tie.Need-slot-fair-requires Inv-loop μ-loop
-slot-fair-requires c κs =
+slot-printable-requires : tie.Need-slot-printable-requires Inv-loop μ-loop
+slot-printable-requires c κs =
     let z = c .before .before .before .before .before in
     let l = c .before .before .loop in
     (z .pre .0, c .before .loop-test .taken, z .pre .1 .slot (l .i) (c .before .loop-test .taken) .pieces)
@@ -29,7 +29,7 @@ loop-again : tie.Need-loop-again Inv-loop μ-loop
 loop-again c =
     let a = c .before .before .before .before .before .before .args in
     let l = c .before .before .before .loop in
-    (omega arith, rw (rows-next width (a .f .now) (a .w .now) (l .i), printable-append (heldRows width (a .f .now) (a .w .now) (l .i)) (rowAt (a .f .now) (l .i) (statusOf width (a .w .now) (l .i))), ← l .inv .1, c .slot-fair .ensures) refl)
+    (omega arith, rw (rows-next width (a .f .now) (a .w .now) (l .i), printable-append (heldRows width (a .f .now) (a .w .now) (l .i)) (rowAt (a .f .now) (l .i) (statusOf width (a .w .now) (l .i))), ← l .inv .1, c .slot-printable .ensures) refl)
 
 returns : tie.Need-returns Inv-loop μ-loop
 returns c =
@@ -37,8 +37,8 @@ returns c =
     let e : l .i ≡ 32 = omega arith in
     rw e at (l .inv .1)
 
-pub fair-spec : {M : Type 1} → statement M
-fair-spec =
+pub all-printable-spec : {M : Type 1} → statement M
+all-printable-spec =
     tie.close
     (tie.spec
     Inv-loop
@@ -48,7 +48,7 @@ fair-spec =
     (λ c. search needs)
     (λ c. search needs)
     (λ c. search needs)
-    slot-fair-requires
+    slot-printable-requires
     (λ c. search needs)
     (λ c. search needs)
     loop-again

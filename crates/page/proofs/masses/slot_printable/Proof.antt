@@ -1,9 +1,9 @@
--- `page::masses::slot_fair` meets its contract. Assumes nothing.
+-- `page::masses::slot_printable` meets its contract. Assumes nothing.
 use native.Mathlib.Omega.{arith}
 use Rattle.page.proofs.Rows.{none-printable, one-printable}
 use borrow.Author.Needs.{needs}
-use Rattle.page.proofs.masses.slot_fair.Statement.{statement}
-use Rattle.page.proofs.masses.slot_fair.Tie as tie
+use Rattle.page.proofs.masses.slot_printable.Statement.{statement}
+use Rattle.page.proofs.masses.slot_printable.Tie as tie
 
 returns : tie.Need-returns
 returns c = none-printable _ _ _ (c .if1 .taken)
@@ -16,6 +16,6 @@ returns-2 c =
 slot-mass-requires : tie.Need-slot-mass-requires
 slot-mass-requires c κs = (c .before .before .before .pre .0, c .before .before .before .pre .1, omega (arith, c .pieces .ensures, c .before .before .before .pre .2))
 
-pub slot-fair-spec : {M : Type 1} → statement M
-slot-fair-spec =
+pub slot-printable-spec : {M : Type 1} → statement M
+slot-printable-spec =
     tie.close (tie.spec returns (λ c κs. search needs) slot-mass-requires (λ c κs. search needs) returns-2)
