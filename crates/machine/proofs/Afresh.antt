@@ -28,7 +28,7 @@ use Rattle.readings.specs.SixLaws.{whole, list-sound, sixes-whole, whole-rescal
 use Rattle.machine.specs.Machine.{Mesh, Slot, empty, full}
 use Rattle.machine.specs.Holding.{triangles}
 use Rattle.machine.specs.Fresh.{kernelsOf, piecesTo, piecesOf, allPieces, worstFrom, valueOf, massOf, originOf, scaledList, readingOn, workedAfresh}
-use Rattle.machine.proofs.Parts.{freshAt, freshAll, freshSeen}
+use Rattle.machine.proofs.Parts.{freshAt, freshSlot, freshAll, freshSeen}
 use Rattle.machine.specs.Valid.{Shape}
 
 abbrev partOf : Mesh → Kernel → Part
@@ -98,6 +98,12 @@ module _ (m : Mesh) (g : Shape m) where
         rw (scale-on v, bare-parts m ks, whole-rescaled s ks)
         (ap (λ (ds : List Float). guardedRun (trackCheck (length points) (length out)) out (outcome (counted (n ∷ [])) (write out 0 ds)))
         (stretch-same (densityAt (map whole (map (rescaled s) ks))) (λ x. valueOf (densitized (scaledList v m ks) x)) (λ x. ap valueOf (sym (densitized-on (map (rescaled s) ks) x))) points 0 n))
+
+  -- the mass of one place
+  pub slot-mass : (k : Kernel) (fit : Pieces) (p : ℕ) → rawMass (freshSlot m (full k fit p)) ≡ massOf m (piecesOf (m .radius) k)
+  slot-mass k fit p =
+      let f = decomposed k (m .radius) in
+      ap rawMass (parts-to m k f (f .count)) ∙ raw-on (piecesOf (m .radius) k)
 
   pub joined : (ss : List Slot) (r : Reading) → answerOf r (freshSeen m ss) ≡ workedAfresh m ss r
   unfolding freshSeen workedAfresh

@@ -33,13 +33,14 @@ use Rattle.put.specs.Puts.{fresh, atFirst, putFloats, putWords, putStep}
 use Rattle.machine.specs.Machine.{Mesh, Slot, empty, full, need, leftSlot, leftSum, Machine, Turn, turn, putTurn, clearTurn, weighed, reweighTurn}
 use Rattle.machine.specs.Holding.{placeRow, cells, wordsOf}
 use Rattle.readings.specs.Readings.{Reading}
-use Rattle.machine.specs.Calls.{Call, put, clear, reweigh, advance, squeeze, read, machine, Store, Result, result, seen, store, after-all, past, holding, chargedBy, doneBy, chargedIn, doneIn}
+use Rattle.machine.specs.Calls.{Call, put, clear, reweigh, advance, squeeze, read, page, machine, Store, Result, result, seen, pinned, store, after-all, past, holding, chargedBy, doneBy, chargedIn, doneIn}
 use Rattle.machine.specs.Valid.{Within, Valid}
 use Rattle.machine.proofs.Rows.{Width, width3}
 use Rattle.machine.proofs.Sixteen.{sixteen, laidOut, okay, laid-out}
 use Rattle.machine.proofs.Held.{status-held, write-words, write-floats, set-seven, coords-held, corners-held}
 use Rattle.machine.proofs.Sane.{no-fault}
 use Rattle.machine.proofs.Look.{read-held}
+use Rattle.machine.proofs.Pages.{page-held}
 use Rattle.machine.proofs.Squeezing.{floats-squeezed, words-squeezed, slim-valid, left-slim}
 use Rattle.machine.proofs.Slim.{freed-is}
 use Rattle.machine.proofs.Sweep.{spread, all-held, left-held, lowest-first, spread-length, within-spread, left-spread}
@@ -49,7 +50,7 @@ abbrev inner : Machine → List Float → List ℕ → Store
 inner m xs ys = record { floats = laidOut (m .mesh) (m .slots) (past m xs); words = wordsOf (m .mesh) (m .slots) ys }
 
 abbrev shownIn : List Float → List ℕ → Turn → Result
-shownIn xs ys t = record { left = inner (t .next) xs ys; reply = t .reply; out = t .out }
+shownIn xs ys t = record { left = inner (t .next) xs ys; reply = t .reply; out = t .out; page = t .page }
 
 module _ (wd : ℕ) (fm : Width wd) (m : Machine) (v : Valid (m .mesh) (m .slots)) (xs : List Float) (ys : List ℕ) where
   abbrev FS : List Float
@@ -125,7 +126,7 @@ module _ (wd : ℕ) (fm : Width wd) (m : Machine) (v : Valid (m .mesh) (m .slots
       let f = set-seven wd fm (m .mesh) (m .slots) (v .slots) (past m xs) i h s 4 w (omega arith) (rw e refl) (rw e (same-volumes k fit w p)) in
       let g : WS ≡ wordsOf (m .mesh) (set (m .slots) i s) ys = same-place i h s (rw e refl) in
       rw (filled-in i h k fit p e, n, f)
-      (ap (λ (t : List ℕ). record { left = record { floats = laidOut (m .mesh) (set (m .slots) i s) (past m xs); words = t }; reply = done; out = [] }) g)
+      (ap (λ (t : List ℕ). record { left = record { floats = laidOut (m .mesh) (set (m .slots) i s) (past m xs); words = t }; reply = done; out = []; page = [] }) g)
 
   reweigh-held : (i : ℕ) (w : Float) → store wd (inner m xs ys) (reweigh i w) ≡ shownIn xs ys (machine m (reweigh i w))
   unfolding store machine reweighStep
@@ -196,6 +197,11 @@ module _ (wd : ℕ) (fm : Width wd) (m : Machine) (v : Valid (m .mesh) (m .slots
   unfolding store machine
   reading-held r = ap (seen (inner m xs ys)) (read-held wd fm (m .mesh) (m .slots) v (past m xs) ys r)
 
+  -- ---- a page
+  page-of-held : (bs : List ℕ) → store wd (inner m xs ys) (page bs) ≡ shownIn xs ys (machine m (page bs))
+  unfolding store machine
+  page-of-held bs = ap (pinned (inner m xs ys)) (page-held wd fm (m .mesh) (m .slots) v (past m xs) ys bs)
+
   -- ---- squeeze
   squeeze-held : store wd (inner m xs ys) squeeze ≡ shownIn xs ys (machine m squeeze)
   unfolding store machine squeezeStep
@@ -218,6 +224,7 @@ module _ (wd : ℕ) (fm : Width wd) (m : Machine) (v : Valid (m .mesh) (m .slots
   one-in (advance n) = advance-held n
   one-in squeeze = squeeze-held
   one-in (read r) = reading-held r
+  one-in (page bs) = page-of-held bs
 
 -- ---- what every turn keeps
 all-set : (P : Slot → Type 0) (ss : List Slot) (i : ℕ) (s : Slot) → P s → ((j : ℕ) → P (getD ss j empty)) → (j : ℕ) → P (getD (set ss i s) j empty)
@@ -303,10 +310,11 @@ module _ (m : Machine) (v : Valid (m .mesh) (m .slots)) where
       })
   kept squeeze = record { valid = slim-valid (m .mesh) (m .slots) v; balance = rw (left-slim (m .mesh) (m .slots) v) refl; charged = omega arith }
   kept (read r) = record { valid = v; balance = refl; charged = omega arith }
+  kept (page bs) = record { valid = v; balance = refl; charged = omega arith }
 
 -- ---- one call, on the runs that hold the machine
 abbrev pub shown : List Float → List ℕ → Turn → Result
-shown xs ys t = record { left = holding (t .next) xs ys; reply = t .reply; out = t .out }
+shown xs ys t = record { left = holding (t .next) xs ys; reply = t .reply; out = t .out; page = t .page }
 
 held-in : (m : Machine) → Valid (m .mesh) (m .slots) → (xs : List Float) (ys : List ℕ) → holding m xs ys ≡ inner m xs ys
 held-in m v xs ys = ap (λ (fs : List Float). record { floats = fs; words = wordsOf (m .mesh) (m .slots) ys }) (laid-out (m .mesh) (m .slots) v (past m xs))
@@ -315,7 +323,7 @@ pub one-call : (wd : ℕ) → Width wd → (m : Machine) → Valid (m .mesh) (m 
 one-call wd fm m v xs ys c =
     let t = machine m c in
     ap (λ (s : Store). store wd s c) (held-in m v xs ys)
-    ∙ (one-in wd fm m v xs ys c ∙ ap (λ (s : Store). record { left = s; reply = t .reply; out = t .out }) (sym (held-in (t .next) (kept m v c .valid) xs ys)))
+    ∙ (one-in wd fm m v xs ys c ∙ ap (λ (s : Store). record { left = s; reply = t .reply; out = t .out; page = t .page }) (sym (held-in (t .next) (kept m v c .valid) xs ys)))
 
 -- ---- every list of calls
 module _ (wd : ℕ) (fm : Width wd) where

@@ -8,25 +8,26 @@ use lib.Dec.{ltb, leb, eqb}
 use lib.ListN.{length}
 use lib.Ieee.{Float}
 use borrow.Author.Tests.{lt-ltb, ltb-true}
-use Rattle.base.specs.Answers.{Answer, refused, counted, Outcome, outcome, guardedRun}
-use Rattle.base.specs.declared.refusal.Refusal.the-variants.{Unfinished, ShortList, BadTrack}
+use Rattle.base.specs.Answers.{Answer, refused, counted, Outcome, outcome, guardedRun, andThen}
+use Rattle.base.specs.declared.refusal.Refusal.the-variants.{Unfinished, ShortList, BadTrack, NoFigure, ShortPage}
 use Rattle.base.specs.declared.refusal.Checked.the-variants.{Passed, Failed}
 use Rattle.runs.specs.Runs.{write}
 use Rattle.track.specs.Track.{along}
 use Rattle.layout.specs.Layout.{width}
 use Rattle.store.specs.Calls.{After, after, openCheck, openStep}
 use Rattle.readings.specs.Readings.{Reading, density, report, list, track, bare, applied, rescaled, densityAt, sixes, Seen, trackLimit, trackCheck, answerOf, refusing}
-use Rattle.machine.specs.Machine.{Mesh, leftSum, Machine, opened, openRow}
+use Rattle.page.specs.Page.{Row, Paged, paged, allPrintable, pageOf, guardedPage, pageAnswer}
+use Rattle.machine.specs.Machine.{Mesh, Slot, leftSum, Machine, opened, openRow}
 use Rattle.machine.specs.Holding.{excessF, excessW}
-use Rattle.machine.specs.Fresh.{kernelsOf, workedAfresh}
-use Rattle.machine.specs.Calls.{Call, advance, read, needs, machine, Store, Result, store, leaves, after-all, holding, leftIn, without, heard}
-use Rattle.machine.specs.Demands.{Same, Read, Each, end, next, Follows, leaving, Accepted, refusedBy, Opens, Demand3}
+use Rattle.machine.specs.Fresh.{kernelsOf, freshRows, workedAfresh, pageAfresh}
+use Rattle.machine.specs.Calls.{Call, advance, read, page, needs, machine, Store, Result, store, leaves, after-all, holding, leftIn, without, heard}
+use Rattle.machine.specs.Demands.{Same, Read, Post, Each, end, next, Follows, leaving, Accepted, refusedBy, Opens, Demand3}
 use Rattle.machine.specs.Valid.{Valid}
 use Rattle.machine.proofs.Rows.{Width, width3}
 use Rattle.machine.proofs.Parts.{freshSeen}
 use Rattle.machine.proofs.Afresh.{joined}
 use Rattle.machine.proofs.Claim.{one-call, kept, books, charges}
-use Rattle.machine.proofs.Unaltered.{From, from-start, from-next, on-opened, unaltered}
+use Rattle.machine.proofs.Unaltered.{From, from-start, from-next, on-opened, page-opened, unaltered}
 use Rattle.machine.proofs.Listed.{listed}
 use Rattle.machine.proofs.Opened.{opens, opened-valid}
 use Rattle.machine.proofs.Refused.{row}
@@ -68,11 +69,35 @@ module _ (r : Reading) (o : Outcome) where
   when-not true n = absurd (n (eight r))
   when-not false n = refl
 
+-- a page's neither
+paged-not : (rs : List Row) (bs : List ℕ) → pageAnswer rs bs .reply ≡ refused Unfinished → ⊥
+unfolding pageAnswer
+paged-not rs bs e = go (allPrintable rs) (leb (length (pageOf rs)) (length bs)) (ap (λ (a : Answer). a .refusal) e)
+  where
+    go : (a b : Bool)
+        → guardedPage (andThen (cond a Passed (Failed NoFigure)) (cond b Passed (Failed ShortPage))) bs (paged (counted (length (pageOf rs) ∷ [])) (write bs 0 (pageOf rs))) .reply .refusal ≡ 8 → ⊥
+    go true true z = omega arith
+    go true false z = omega arith
+    go false b z = omega arith
+
+page-not : (m : Mesh) (ss : List Slot) (bs : List ℕ) → pageAfresh m ss bs .reply ≡ refused Unfinished → ⊥
+unfolding pageAfresh
+page-not m ss bs = paged-not (freshRows m 0 ss) bs
+
+module _ (o : Paged) (bs : List ℕ) where
+  page-eight : (o .reply ≡ refused Unfinished → ⊥) → (b : Bool) → cond b (paged (refused Unfinished) bs) o .reply ≡ refused Unfinished → b ≡ true
+  page-eight n true e = refl
+  page-eight n false e = absurd (n e)
+
+  page-other : (b : Bool) → (cond b (paged (refused Unfinished) bs) o .reply ≡ refused Unfinished → ⊥) → cond b (paged (refused Unfinished) bs) o ≡ o
+  page-other true n = absurd (n refl)
+  page-other false n = refl
+
 module _ (wd : ℕ) (fm : Width wd) (exF : List Float) (exW : List ℕ) where
   same : (m : Machine) → Valid (m .mesh) (m .slots) → (c : Call) → Same wd exF exW m (holding m exF exW) c
   same m v c =
       let e = one-call wd fm m v exF exW c in
-      record { before = refl; reply = ap (λ (r : Result). r .reply) e; lent = ap (λ (r : Result). r .out) e; fields = ap (λ (r : Result). r .left) e }
+      record { before = refl; reply = ap (λ (r : Result). r .reply) e; lent = ap (λ (r : Result). r .out) e; shown = ap (λ (r : Result). r .page) e; fields = ap (λ (r : Result). r .left) e }
 
   reading : (o : Mesh) (m : Machine) → Valid (m .mesh) (m .slots) → From o (m .mesh) → (r : Reading) → Read wd o m (holding m exF exW) r
   unfolding machine
@@ -94,11 +119,28 @@ module _ (wd : ℕ) (fm : Width wd) (exF : List Float) (exW : List ℕ) where
         kept = ap (λ (x : Result). x .left) e;
       }
 
+  posting : (o : Mesh) (m : Machine) → Valid (m .mesh) (m .slots) → From o (m .mesh) → (bs : List ℕ) → Post wd o m (holding m exF exW) bs
+  unfolding machine
+  posting o m v g bs =
+      let e = one-call wd fm m v exF exW (page bs) in
+      let er = ap (λ (x : Result). x .reply) e in
+      let ep = ap (λ (x : Result). x .page) e in
+      let l = leftSum (m .mesh) (m .slots) in
+      let f = pageAfresh (m .mesh) (m .slots) bs in
+      record {
+        unfinished = λ h. er ∙ rw (lt-ltb 0 l h) refl;
+        only-then = λ z. ltb-true 0 l (page-eight f bs (page-not (m .mesh) (m .slots) bs) (ltb 0 l) (sym er ∙ z));
+        afresh = λ z.
+            let t = page-other f bs (ltb 0 l) (λ y. z (er ∙ y)) ∙ page-opened o (m .mesh) g (m .slots) bs in
+            (er ∙ ap (λ (a : Paged). a .reply) t, ep ∙ ap (λ (a : Paged). a .page) t);
+        kept = ap (λ (x : Result). x .left) e;
+      }
+
   each : (o : Mesh) (cs : List Call) (m : Machine) → Valid (m .mesh) (m .slots) → From o (m .mesh) → Each wd exF exW o m (holding m exF exW) cs
   each o [] m v g = end
   each o (c ∷ cs) m v g =
       let s = same m v c in
-      next s (reading o m v g) (subst (λ (t : Store). Each wd exF exW o (machine m c .next) t cs) (sym (s .fields)) (each o cs (machine m c .next) (kept m v c .valid) (from-next o m c g)))
+      next s (reading o m v g) (posting o m v g) (subst (λ (t : Store). Each wd exF exW o (machine m c .next) t cs) (sym (s .fields)) (each o cs (machine m c .next) (kept m v c .valid) (from-next o m c g)))
 
   pub last : (cs : List Call) (m : Machine) → Valid (m .mesh) (m .slots) → (leaves wd (holding m exF exW) cs ≡ holding (after-all m cs) exF exW) × Valid (after-all m cs .mesh) (after-all m cs .slots)
   last [] m v = (refl, v)

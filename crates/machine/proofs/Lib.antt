@@ -8,6 +8,7 @@ pub mod Parts
 pub mod Read
 pub mod Afresh
 pub mod Look
+pub mod Pages
 pub mod Slim
 pub mod Squeezing
 pub mod Claim

@@ -138,12 +138,17 @@ module _ (wd : ℕ) (fm : Width wd) (m : Mesh) (ss : List Slot) (v : Valid m ss)
   none-left (s ∷ l) (suc i) e = none-left l i (omega arith)
 
   -- whole, with nothing left
-  pub whole-all : leftSum m ss ≡ 0 → heldAll wd FS WS 32 ≡ freshAll m ss
-  whole-all none = sym (map-id (heldAll wd FS WS 32)) ∙ (held-all (λ (x : Part). x) agree ∙ map-id (freshAll m ss))
-    where
-      agree : (i : ℕ) → i < 32 → (k : Kernel) (fit : Pieces) (p : ℕ) → getD ss i empty ≡ full k fit p → (j : ℕ) → j < fit .count → heldPart FS i j ≡ freshPart m k fit j
-      agree i h k fit p e j hj =
-          let z : need m fit - p ≡ 0 = subst (λ (s : Slot). leftSlot m s ≡ 0) e (none-left ss i none) in
-          let y = subst (Within m) e (v .within i) .steps in
-          ap (λ (b : Kernel). record { kernel = b; volume = heldPart FS i j .volume }) (bare-held i h k fit p e j hj)
-          ∙ ap (λ (x : Float). record { kernel = freshPart m k fit j .kernel; volume = x }) (volume-held i h k fit p e (omega arith) j hj)
+  module _ (none : leftSum m ss ≡ 0) where
+    agree : (i : ℕ) → i < 32 → (k : Kernel) (fit : Pieces) (p : ℕ) → getD ss i empty ≡ full k fit p → (j : ℕ) → j < fit .count → heldPart FS i j ≡ freshPart m k fit j
+    agree i h k fit p e j hj =
+        let z : need m fit - p ≡ 0 = subst (λ (s : Slot). leftSlot m s ≡ 0) e (none-left ss i none) in
+        let y = subst (Within m) e (v .within i) .steps in
+        ap (λ (b : Kernel). record { kernel = b; volume = heldPart FS i j .volume }) (bare-held i h k fit p e j hj)
+        ∙ ap (λ (x : Float). record { kernel = freshPart m k fit j .kernel; volume = x }) (volume-held i h k fit p e (omega arith) j hj)
+
+    pub whole-all : heldAll wd FS WS 32 ≡ freshAll m ss
+    whole-all = sym (map-id (heldAll wd FS WS 32)) ∙ (held-all (λ (x : Part). x) agree ∙ map-id (freshAll m ss))
+
+    -- place by place
+    pub whole-slot : (i : ℕ) → i < 32 → (s : Slot) → getD ss i empty ≡ s → Within m s → heldAt FS i (getD (placeRow m s) 0 0 - 1) ≡ freshSlot m s
+    whole-slot i h s e w = sym (map-id (heldAt FS i (getD (placeRow m s) 0 0 - 1))) ∙ (slot-held (λ (x : Part). x) agree i h s e w ∙ map-id (freshSlot m s))

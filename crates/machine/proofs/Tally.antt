@@ -20,7 +20,7 @@ use Rattle.pieces.specs.Pieces.{decomposed}
 use Rattle.pieces.specs.PieceLaws.{same-pieces}
 use Rattle.machine.specs.Machine.{Mesh, Slot, empty, full, leftSlot, adv, bump, stepsOf, Machine, Turn, turn, clearTurn, weighed, reweighTurn, slim}
 use Rattle.machine.specs.Fresh.{kernelOf, kernelsOf, piecesOf, allPieces}
-use Rattle.machine.specs.Calls.{Call, put, clear, reweigh, advance, squeeze, read, machine, after-all, holding, chargedBy, chargedIn}
+use Rattle.machine.specs.Calls.{Call, put, clear, reweigh, advance, squeeze, read, page, machine, after-all, holding, chargedBy, chargedIn}
 use Rattle.machine.specs.Valid.{Valid}
 use Rattle.machine.specs.Bills.{Reordered, none, keep, swap, then, Every, putBy, putIn, placeBy, placesIn, InStore, Apart}
 use Rattle.machine.proofs.Rows.{Width}
@@ -242,6 +242,7 @@ module _ (m : Machine) (l : length (m .slots) ≡ 32) where
       (empty-work R (m .mesh) (m .slots) u)
   step squeeze = quiet squeeze refl (machine m squeeze) refl refl refl refl (λ j v. v)
   step (read r) = idle (read r) refl (machine m (read r)) refl refl
+  step (page bs) = idle (page bs) refl (machine m (page bs)) refl refl
 
 -- ---- places of a list, each of which is apart from the others
 every-split : {A : Type 0} (P : A → Type 0) (is js : List A) → Every P (is ++ js) → Every P is × Every P js

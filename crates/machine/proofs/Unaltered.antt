@@ -9,7 +9,7 @@ use lib.ListN.{getD}
 use lib.Ieee.{Float, nan}
 use Rattle.base.specs.Floats.{+0}
 use Rattle.base.specs.Loops.{iterate}
-use Rattle.base.specs.Answers.{Outcome, outcome, refused}
+use Rattle.base.specs.Answers.{refused}
 use Rattle.base.specs.declared.refusal.Refusal.the-variants.{NoPlace}
 use Rattle.mesh.specs.Triangles.{triangleAt}
 use Rattle.mesh.specs.CheckLaws.{below-each}
@@ -19,18 +19,19 @@ use Rattle.kernel.specs.declared.kernel.Kernel.{Kernel}
 use Rattle.pieces.specs.declared.pieces.Pieces.{Pieces}
 use Rattle.pieces.specs.Pieces.{decomposed}
 use Rattle.layout.specs.Layout.{slotLimit}
-use Rattle.readings.specs.Readings.{Reading, answerOf}
+use Rattle.readings.specs.Readings.{Reading, rawMass, answerOf}
+use Rattle.page.specs.Page.{Row, row, pageAnswer}
 use Rattle.squeeze.specs.Squeeze.{rank, renumbered, keptTo}
 use Rattle.squeeze.specs.Marks.{Below}
 use Rattle.squeeze.specs.TriangleLaws.{same-triangle}
 use Rattle.machine.specs.Machine.{Mesh, Slot, empty, full, bump, Machine, Turn, turn, freedBy, stepsOf, putTurn, clearTurn, reweighTurn}
 use Rattle.machine.specs.Holding.{triangles}
-use Rattle.machine.specs.Fresh.{workedAfresh}
-use Rattle.machine.specs.Calls.{Call, put, clear, reweigh, advance, squeeze, read, machine, holding, without, others, heard}
+use Rattle.machine.specs.Fresh.{freshRow, freshRows, workedAfresh, pageAfresh}
+use Rattle.machine.specs.Calls.{Call, put, clear, reweigh, advance, squeeze, read, page, machine, holding, without, Heard, others, heard}
 use Rattle.machine.specs.Valid.{Shape, Valid}
 use Rattle.machine.proofs.Rows.{Width}
 use Rattle.machine.proofs.Parts.{freshPart, freshAt, freshSlot, freshAll, freshSeen}
-use Rattle.machine.proofs.Afresh.{joined}
+use Rattle.machine.proofs.Afresh.{slot-mass, joined}
 use Rattle.machine.proofs.Slim.{slim-is}
 use Rattle.machine.proofs.Look.{same-seen}
 use Rattle.machine.proofs.Squeezing.{remesh, squeezed-shape, left-same, left-sum-same, volume-same}
@@ -72,12 +73,27 @@ module _ (m : Mesh) (xs : List Float) (ks : List ℕ) (w : ℕ) where
     pub afresh-same : Shape n → Shape m → (ss : List Slot) (r : Reading) → workedAfresh n ss r ≡ workedAfresh m ss r
     afresh-same g h ss r = sym (joined n g ss r) ∙ (ap (answerOf r) (seen-same ss) ∙ joined m h ss r)
 
+    module _ (g : Shape n) (h : Shape m) where
+      row-same : (i : ℕ) (s : Slot) → freshRow n i s ≡ freshRow m i s
+      row-same i empty = refl
+      row-same i (full k fit p) =
+          ap (λ (x : Float). row i (decomposed k (m .radius) .count) x ∷ [])
+          (sym (slot-mass n g k fit p) ∙ (ap rawMass (slot-same (full k fit p)) ∙ slot-mass m h k fit p))
+
+      rows-same : (i : ℕ) (ss : List Slot) → freshRows n i ss ≡ freshRows m i ss
+      rows-same i [] = refl
+      rows-same i (s ∷ ss) = rw (row-same i s, rows-same (suc i) ss) refl
+
+      pub page-same : (ss : List Slot) (bs : List ℕ) → pageAfresh n ss bs ≡ pageAfresh m ss bs
+      unfolding pageAfresh
+      page-same ss bs = ap (λ (rs : List Row). pageAnswer rs bs) (rows-same 0 ss)
+
 -- ---- a machine on another mesh
 abbrev remade : Machine → List Float → List ℕ → ℕ → ℕ → Machine
 remade m xs ks w g = record { mesh = remesh (m .mesh) xs ks w; slots = m .slots; charged = m .charged; dropped = m .dropped; freed = g }
 
 abbrev lifted : Turn → List Float → List ℕ → ℕ → ℕ → Turn
-lifted t xs ks w g = record { next = remade (t .next) xs ks w g; reply = t .reply; out = t .out }
+lifted t xs ks w g = record { next = remade (t .next) xs ks w g; reply = t .reply; out = t .out; page = t .page }
 
 -- a mesh with the triangles of a machine's
 record Alike (m : Mesh) (xs : List Float) (ks : List ℕ) (w : ℕ) : Type 0 where
@@ -147,10 +163,17 @@ module _ (m : Machine) (xs : List Float) (ks : List ℕ) (w g : ℕ) where
   unfolding machine
   read-goes a r = record { lift = rw (left-sum-same (m .mesh) xs ks w (m .slots), afresh-same (m .mesh) xs ks w (a .same) (a .shape) (a .was) (m .slots) r) refl; mesh = refl }
 
+  page-goes : Alike (m .mesh) xs ks w → (bs : List ℕ) → Goes m (page bs) xs ks w g
+  unfolding machine
+  page-goes a bs = record { lift = rw (left-sum-same (m .mesh) xs ks w (m .slots), page-same (m .mesh) xs ks w (a .same) (a .shape) (a .was) (m .slots) bs) refl; mesh = refl }
+
 -- ---- a list of calls
-abbrev heardBy : Machine → List Call → List Outcome
+abbrev told : Turn → Heard
+told t = record { reply = t .reply; out = t .out; page = t .page }
+
+abbrev heardBy : Machine → List Call → List Heard
 heardBy m [] = []
-heardBy m (c ∷ cs) = others c (outcome (machine m c .reply) (machine m c .out)) (heardBy (machine m c .next) cs)
+heardBy m (c ∷ cs) = others c (told (machine m c)) (heardBy (machine m c .next) cs)
 
 corners-below : (m : Mesh) → Shape m → Below (m .verts) (m .corners)
 corners-below m g = record { corner = below-each (m .verts) (m .corners) (g .below) }
@@ -169,10 +192,10 @@ squeezed-alike m xs ks w a =
 module _ (m : Machine) (c : Call) (cs : List Call) (xs : List Float) (ks : List ℕ) (w g : ℕ) where
   one-heard : Goes m c xs ks w g → Alike (m .mesh) xs ks w
       → (Alike (machine m c .next .mesh) xs ks w → heardBy (remade (machine m c .next) xs ks w g) cs ≡ heardBy (machine m c .next) (without cs))
-      → _≡_ {A = List Outcome} (outcome (machine (remade m xs ks w g) c .reply) (machine (remade m xs ks w g) c .out) ∷ heardBy (machine (remade m xs ks w g) c .next) cs)
-      (outcome (machine m c .reply) (machine m c .out) ∷ heardBy (machine m c .next) (without cs))
+      → _≡_ {A = List Heard} (told (machine (remade m xs ks w g) c) ∷ heardBy (machine (remade m xs ks w g) c .next) cs)
+      (told (machine m c) ∷ heardBy (machine m c .next) (without cs))
   one-heard s a ih =
-      rw (s .lift) (ap (λ (os : List Outcome). outcome (machine m c .reply) (machine m c .out) ∷ os) (ih (subst (λ (t : Mesh). Alike t xs ks w) (sym (s .mesh)) a)))
+      rw (s .lift) (ap (λ (os : List Heard). told (machine m c) ∷ os) (ih (subst (λ (t : Mesh). Alike t xs ks w) (sym (s .mesh)) a)))
 
 same-heard : (cs : List Call) (m : Machine) (xs : List Float) (ks : List ℕ) (w g : ℕ) → Alike (m .mesh) xs ks w → heardBy (remade m xs ks w g) cs ≡ heardBy m (without cs)
 unfolding machine
@@ -185,6 +208,7 @@ same-heard (squeeze ∷ cs) m xs ks w g a =
     let n = remesh (m .mesh) xs ks w in
     rw (slim-is n (corners-below n (a .shape))) (same-heard cs m (keptTo ks xs w) (renumbered ks) (rank ks w) (freedBy n + g) (squeezed-alike (m .mesh) xs ks w a))
 same-heard (read r ∷ cs) m xs ks w g a = one-heard m (read r) cs xs ks w g (read-goes m xs ks w g a r) a (same-heard cs (machine m (read r) .next) xs ks w g)
+same-heard (page bs ∷ cs) m xs ks w g a = one-heard m (page bs) cs xs ks w g (page-goes m xs ks w g a bs) a (same-heard cs (machine m (page bs) .next) xs ks w g)
 
 -- ---- a reading of the machine's mesh is one of the mesh opened
 pub record From (o m : Mesh) : Type 0 where
@@ -205,19 +229,29 @@ from-next o m squeeze f =
     rw (slim-is (m .mesh) (corners-below (remesh o (m .mesh .coords) (m .mesh .corners) (m .mesh .verts)) (f .alike .shape)))
     (record { radius = f .radius; faces = f .faces; alike = squeezed-alike o (m .mesh .coords) (m .mesh .corners) (m .mesh .verts) (f .alike) })
 from-next o m (read r) f = f
+from-next o m (page bs) f = f
 
-pub on-opened : (o m : Mesh) → From o m → (ss : List Slot) (r : Reading) → workedAfresh m ss r ≡ workedAfresh o ss r
-on-opened o m f ss r =
-    let e : m ≡ remesh o (m .coords) (m .corners) (m .verts)
-    = ap (λ (x : Float). record { radius = x; coords = m .coords; corners = m .corners; verts = m .verts; faces = m .faces }) (f .radius)
-    ∙ ap (λ (n : ℕ). record { radius = o .radius; coords = m .coords; corners = m .corners; verts = m .verts; faces = n }) (f .faces) in
-    ap (λ (x : Mesh). workedAfresh x ss r) e ∙ afresh-same o (m .coords) (m .corners) (m .verts) (f .alike .same) (f .alike .shape) (f .alike .was) ss r
+module _ (o m : Mesh) (f : From o m) where
+  mesh-is : m ≡ remesh o (m .coords) (m .corners) (m .verts)
+  mesh-is =
+      ap (λ (x : Float). record { radius = x; coords = m .coords; corners = m .corners; verts = m .verts; faces = m .faces }) (f .radius)
+      ∙ ap (λ (n : ℕ). record { radius = o .radius; coords = m .coords; corners = m .corners; verts = m .verts; faces = n }) (f .faces)
+
+  pub on-opened : (ss : List Slot) (r : Reading) → workedAfresh m ss r ≡ workedAfresh o ss r
+  on-opened ss r =
+      ap (λ (x : Mesh). workedAfresh x ss r) mesh-is
+      ∙ afresh-same o (m .coords) (m .corners) (m .verts) (f .alike .same) (f .alike .shape) (f .alike .was) ss r
+
+  pub page-opened : (ss : List Slot) (bs : List ℕ) → pageAfresh m ss bs ≡ pageAfresh o ss bs
+  page-opened ss bs =
+      ap (λ (x : Mesh). pageAfresh x ss bs) mesh-is
+      ∙ page-same o (m .coords) (m .corners) (m .verts) (f .alike .same) (f .alike .shape) (f .alike .was) ss bs
 
 module _ (wd : ℕ) (fm : Width wd) (exF : List Float) (exW : List ℕ) where
   store-heard : (cs : List Call) (m : Machine) → Valid (m .mesh) (m .slots) → heard wd (holding m exF exW) cs ≡ heardBy m cs
   store-heard [] m v = refl
   store-heard (c ∷ cs) m v =
-      rw (one-call wd fm m v exF exW c) (ap (others c (outcome (machine m c .reply) (machine m c .out))) (store-heard cs (machine m c .next) (kept m v c .valid)))
+      rw (one-call wd fm m v exF exW c) (ap (others c (told (machine m c))) (store-heard cs (machine m c .next) (kept m v c .valid)))
 
   pub unaltered : (m : Machine) → Valid (m .mesh) (m .slots) → (cs : List Call) → heard wd (holding m exF exW) cs ≡ heard wd (holding m exF exW) (without cs)
   unaltered m v cs =

@@ -20,7 +20,7 @@ use Rattle.store.specs.Calls.{openStep}
 use Rattle.readings.specs.Readings.{list}
 use Rattle.machine.specs.Machine.{openRow}
 use Rattle.machine.specs.Holding.{flat}
-use Rattle.machine.specs.Calls.{Call, put, clear, reweigh, advance, squeeze, read, Store, store, leaves, chargedIn}
+use Rattle.machine.specs.Calls.{Call, put, clear, reweigh, advance, squeeze, read, page, Store, store, leaves, chargedIn}
 use Rattle.machine.specs.Demands.{leaving}
 
 -- ---- the kernels of a list
@@ -59,6 +59,7 @@ putBy (reweigh i v) = []
 putBy (advance n) = []
 putBy squeeze = []
 putBy (read r) = []
+putBy (page bs) = []
 
 abbrev pub putIn : List Call → List Kernel
 putIn cs = flat (map putBy cs)
@@ -71,6 +72,7 @@ placeBy (reweigh i v) = []
 placeBy (advance n) = []
 placeBy squeeze = []
 placeBy (read r) = []
+placeBy (page bs) = []
 
 abbrev pub placesIn : List Call → List ℕ
 placesIn cs = flat (map placeBy cs)

@@ -7,7 +7,7 @@ use lib.Dec.{ltb}
 use lib.ListN.{getD, replicate}
 use lib.Ieee.{Float, lt}
 use Rattle.base.specs.Floats.{+0}
-use Rattle.base.specs.Answers.{Answer, refused, Outcome, outcome}
+use Rattle.base.specs.Answers.{Answer, refused, Outcome}
 use Rattle.base.specs.declared.refusal.Refusal.the-variants.{NoPlace, Unfinished}
 use Rattle.kernel.specs.declared.kernel.Kernel.{Kernel}
 use Rattle.pieces.specs.Pieces.{decomposed}
@@ -18,10 +18,11 @@ use Rattle.put.specs.Puts.{putStep}
 use Rattle.density.specs.declared.convention.Convention.{Convention}
 use Rattle.density.specs.declared.convention.Convention.the-variants.{Raw, Rho0, Mass}
 use Rattle.readings.specs.Readings.{Reading, density, report, list, track, refusing, readStep}
+use Rattle.page.specs.Page.{Paged, paged, pageStep}
 use Rattle.squeeze.specs.Squeeze.{squeezeStep}
 use Rattle.machine.specs.Machine.{empty, Machine, workLeft, Turn, turn, putTurn, clearTurn, reweighTurn, advanceTurn, squeezeTurn}
 use Rattle.machine.specs.Holding.{floatsOf, wordsOf}
-use Rattle.machine.specs.Fresh.{workedAfresh}
+use Rattle.machine.specs.Fresh.{workedAfresh, pageAfresh}
 
 -- the calls of demand 3's list
 pub data Call : Type 0 where
@@ -31,6 +32,8 @@ pub data Call : Type 0 where
   advance : ℕ → Call
   squeeze : Call
   read : Reading → Call
+  -- the wall page, into lent bytes
+  page : List ℕ → Call
 
 -- ---- the machine: "It refuses by the table below as its own places stand; a refused call changes nothing."
 
@@ -55,7 +58,14 @@ abbrev pub readTurn : Machine → Reading → Outcome
 readTurn m r = cond (needs r && ltb 0 (workLeft m)) (refusing r Unfinished) (workedAfresh (m .mesh) (m .slots) r)
 
 abbrev pub given : Machine → Outcome → Turn
-given m a = record { next = m; reply = a .reply; out = a .out }
+given m a = record { next = m; reply = a .reply; out = a .out; page = [] }
+
+-- 02, L8: "It is given only when nothing is left to do, else 8"; a page changes the machine no more than a reading
+abbrev pub pageTurn : Machine → List ℕ → Paged
+pageTurn m bs = cond (ltb 0 (workLeft m)) (paged (refused Unfinished) bs) (pageAfresh (m .mesh) (m .slots) bs)
+
+abbrev pub posted : Machine → Paged → Turn
+posted m a = record { next = m; reply = a .reply; out = []; page = a .page }
 
 unfoldable pub machine : Machine → Call → Turn
 machine m (put i k) = inPlace m i (putTurn m i k (decomposed k (m .mesh .radius)))
@@ -64,6 +74,7 @@ machine m (reweigh i v) = inPlace m i (reweighTurn m i v (getD (m .slots) i empt
 machine m (advance n) = advanceTurn m n
 machine m squeeze = squeezeTurn m
 machine m (read r) = given m (readTurn m r)
+machine m (page bs) = posted m (pageTurn m bs)
 
 -- ---- the store
 
@@ -77,13 +88,17 @@ pub record Result : Type 0 where
   pub left : Store
   pub reply : Answer
   pub out : List Float
+  pub page : List ℕ
 
 abbrev pub result : After → Result
-result a = record { left = record { floats = a .floats; words = a .words }; reply = a .reply; out = [] }
+result a = record { left = record { floats = a .floats; words = a .words }; reply = a .reply; out = []; page = [] }
 
--- a reading leaves the store
+-- a reading leaves the store, and so does a page
 abbrev pub seen : Store → Outcome → Result
-seen s a = record { left = s; reply = a .reply; out = a .out }
+seen s a = record { left = s; reply = a .reply; out = a .out; page = [] }
+
+abbrev pub pinned : Store → Paged → Result
+pinned s a = record { left = s; reply = a .reply; out = []; page = a .page }
 
 -- each call is the function of its contract
 unfoldable pub store : ℕ → Store → Call → Result
@@ -93,6 +108,7 @@ store q s (reweigh i v) = result (reweighStep q (s .floats) (s .words) i v)
 store q s (advance n) = result (advanceStep q (s .floats) (s .words) n)
 store q s squeeze = result (squeezeStep q (s .floats) (s .words))
 store q s (read r) = seen s (readStep q (s .floats) (s .words) r)
+store q s (page bs) = pinned s (pageStep q (s .floats) (s .words) bs)
 
 -- ---- a list of calls: each gets what the call before it left
 abbrev pub leaves : ℕ → Store → List Call → Store
@@ -119,6 +135,7 @@ chargedBy (reweigh i v) r = 0
 chargedBy (advance n) r = 0
 chargedBy squeeze r = 0
 chargedBy (read x) r = 0
+chargedBy (page bs) r = 0
 
 -- the steps that an advance answers
 abbrev pub doneBy : Call → Answer → ℕ
@@ -128,6 +145,7 @@ doneBy (reweigh i v) r = 0
 doneBy (advance n) r = getD (r .counts) 0 0
 doneBy squeeze r = 0
 doneBy (read x) r = 0
+doneBy (page bs) r = 0
 
 -- the left that an advance answers
 abbrev pub leftIn : Answer → ℕ
@@ -141,7 +159,7 @@ abbrev pub doneIn : ℕ → Store → List Call → ℕ
 doneIn q s [] = 0
 doneIn q s (c ∷ cs) = doneBy c (store q s c .reply) + doneIn q (store q s c .left) cs
 
--- ---- a list without its squeezes, and what its other calls answer and write into the runs lent beside the store
+-- ---- a list without its squeezes, and what its other calls answer and write into what is lent beside the store
 abbrev pub without : List Call → List Call
 without [] = []
 without (put i k ∷ cs) = put i k ∷ without cs
@@ -150,15 +168,25 @@ without (reweigh i v ∷ cs) = reweigh i v ∷ without cs
 without (advance n ∷ cs) = advance n ∷ without cs
 without (squeeze ∷ cs) = without cs
 without (read r ∷ cs) = read r ∷ without cs
+without (page bs ∷ cs) = page bs ∷ without cs
 
-abbrev pub others : Call → Outcome → List Outcome → List Outcome
+pub record Heard : Type 0 where
+  pub reply : Answer
+  pub out : List Float
+  pub page : List ℕ
+
+abbrev pub others : Call → Heard → List Heard → List Heard
 others (put i k) o os = o ∷ os
 others (clear i) o os = o ∷ os
 others (reweigh i v) o os = o ∷ os
 others (advance n) o os = o ∷ os
 others squeeze o os = os
 others (read r) o os = o ∷ os
+others (page bs) o os = o ∷ os
 
-abbrev pub heard : ℕ → Store → List Call → List Outcome
+abbrev pub hearing : Result → Heard
+hearing a = record { reply = a .reply; out = a .out; page = a .page }
+
+abbrev pub heard : ℕ → Store → List Call → List Heard
 heard q s [] = []
-heard q s (c ∷ cs) = others c (outcome (store q s c .reply) (store q s c .out)) (heard q (store q s c .left) cs)
+heard q s (c ∷ cs) = others c (hearing (store q s c)) (heard q (store q s c .left) cs)

@@ -19,8 +19,8 @@ use Rattle.readings.specs.Readings.{Reading, sixes}
 use Rattle.machine.specs.Machine.{Mesh, Machine, workLeft, opened, openRow}
 use Rattle.machine.specs.Holding.{excessF, excessW}
 use Rattle.machine.specs.Valid.{Valid}
-use Rattle.machine.specs.Fresh.{kernelsOf, allPieces, worstFrom, workedAfresh}
-use Rattle.machine.specs.Calls.{Call, advance, read, needs, machine, Store, store, leaves, after-all, holding, leftIn, chargedIn, doneIn, without, heard}
+use Rattle.machine.specs.Fresh.{kernelsOf, allPieces, worstFrom, workedAfresh, pageAfresh}
+use Rattle.machine.specs.Calls.{Call, advance, read, page, needs, machine, Store, store, leaves, after-all, holding, leftIn, chargedIn, doneIn, without, heard}
 
 -- ---- one call c: the store s beside the machine m, which "gets that opening and the same calls"; exF and exW are the
 -- excess of the two runs, as the opening found it
@@ -29,10 +29,11 @@ pub record Same (q : ℕ) (exF : List Float) (exW : List ℕ) (m : Machine) (s :
   pub before : s ≡ holding m exF exW
   -- "Puts, clears, reweighs and advances are refused exactly when it refuses them, with its number; accepted puts
   -- answer its pieces and need, advances its done and left": an answer is the number of a refusal and the values. A
-  -- squeeze answers how many coordinates it freed; of a reading more is said below
+  -- squeeze answers how many coordinates it freed; of a reading and a page more is said below
   pub reply : store q s c .reply ≡ machine m c .reply
-  -- each word of a run that is lent beside the store
+  -- each word of a run that is lent beside the store, and each byte of a page
   pub lent : store q s c .out ≡ machine m c .out
+  pub shown : store q s c .page ≡ machine m c .page
   -- "After each call the runs hold 01's fields for its mesh, radius, places and steps, volumes so far included": each
   -- word of both; past the fields come the words that squeezes freed, which are zero, and the excess
   pub fields : store q s c .left ≡ holding (machine m c .next) exF exW
@@ -50,12 +51,25 @@ pub record Read (q : ℕ) (mesh : Mesh) (m : Machine) (s : Store) (r : Reading) 
   -- "no reading alters a kept weight", nor any other word of the store
   pub kept : store q s (read r) .left ≡ s
 
+-- ---- 02, L8: a page anywhere in a list, into the bytes bs
+pub record Post (q : ℕ) (mesh : Mesh) (m : Machine) (s : Store) (bs : List ℕ) : Type 0 where
+  -- "It is given only when nothing is left to do, else 8"
+  pub unfinished : 0 < workLeft m → store q s (page bs) .reply ≡ refused Unfinished
+  pub only-then : store q s (page bs) .reply ≡ refused Unfinished → 0 < workLeft m
+  -- any other answers and writes what demand 2's functions give, worked afresh on the mesh opened and the kernels then in
+  -- the machine's places; both give 17 and 18. "demand 3 leaves out a page to which 17 applies and 8 doesn't": this does not
+  pub afresh : (store q s (page bs) .reply ≡ refused Unfinished → ⊥)
+      → (store q s (page bs) .reply ≡ pageAfresh mesh (m .slots) bs .reply)
+      × (store q s (page bs) .page ≡ pageAfresh mesh (m .slots) bs .page)
+  -- a page alters no word of the store
+  pub kept : store q s (page bs) .left ≡ s
+
 -- ---- "the first gets the runs that an accepted opening left, each later one those that the call before it left,
 -- whole, and nobody else writes there"
 pub data Each (q : ℕ) (exF : List Float) (exW : List ℕ) (mesh : Mesh) : Machine → Store → List Call → Type 0 where
   end : {m : Machine} {s : Store} → Each q exF exW mesh m s []
   next : {m : Machine} {s : Store} {c : Call} {cs : List Call}
-      → Same q exF exW m s c → ((r : Reading) → Read q mesh m s r)
+      → Same q exF exW m s c → ((r : Reading) → Read q mesh m s r) → ((bs : List ℕ) → Post q mesh m s bs)
       → Each q exF exW mesh (machine m c .next) (store q s c .left) cs → Each q exF exW mesh m s (c ∷ cs)
 
 -- ---- the pieces worked afresh are demand 2's too: the call that decomposes a list of kernels ks, six floats each,
@@ -68,8 +82,8 @@ pub record Decomposed (radius : Float) (ks : List Kernel) : Type 0 where
 
 -- ---- a list of calls, from the store s that an opening left and the machine m that it opened
 pub record Follows (q : ℕ) (exF : List Float) (exW : List ℕ) (m : Machine) (s : Store) (cs : List Call) : Type 0 where
-  -- "For every list of puts, clears, reweighs, advances and readings, refused ones among them", and of squeezes:
-  -- "Demand 3's list may hold it" (02, L12)
+  -- "For every list of puts, clears, reweighs, advances and readings, refused ones among them", and of pages (02, L8) and
+  -- squeezes: "Demand 3's list may hold it" (02, L12)
   pub calls : Each q exF exW (m .mesh) m s cs
   -- the machine after the list, and so after each part of it: the pieces in its places, which the runs hold, are those
   -- of its kernels, and no place has more steps than its need

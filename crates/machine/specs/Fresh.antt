@@ -20,6 +20,7 @@ use Rattle.density.specs.Conventions.{bulkOf, rho0Scale, appliedScale}
 use Rattle.density.specs.Reports.{reportOf}
 use Rattle.track.specs.Track.{along}
 use Rattle.readings.specs.Readings.{Reading, density, report, list, track, origin, rescaled, sixes, reported, trackCheck}
+use Rattle.page.specs.Page.{Row, row, Paged, pageAnswer}
 use Rattle.machine.specs.Machine.{Mesh, Slot, empty, full}
 
 -- ---- "the machine's filled places in order": their kernels
@@ -86,3 +87,17 @@ unfoldable pub workedAfresh : Mesh → List Slot → Reading → Outcome
 workedAfresh m ss r =
     let ks = kernelsOf ss in
     readingOn m (allPieces (m .radius) ks) (length ks) (worstFrom (m .radius) +0 ks) r
+
+-- ---- 02, L8, the wall page: "One line per filled place shows its number [..], its pieces [..] and its raw mass"; "The mass
+-- is the place's own field mass": `kernel_field_mass` of its pieces alone. Place i, and the places from i on
+abbrev pub freshRow : Mesh → ℕ → Slot → List Row
+freshRow m i empty = []
+freshRow m i (full k fit p) = row i (decomposed k (m .radius) .count) (massOf m (piecesOf (m .radius) k)) ∷ []
+
+abbrev pub freshRows : Mesh → ℕ → List Slot → List Row
+freshRows m i [] = []
+freshRows m i (s ∷ ss) = freshRow m i s ++ freshRows m (suc i) ss
+
+-- the page of those rows into lent bytes, rows 17 and 18
+unfoldable pub pageAfresh : Mesh → List Slot → List ℕ → Paged
+pageAfresh m ss bs = pageAnswer (freshRows m 0 ss) bs

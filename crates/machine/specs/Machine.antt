@@ -57,15 +57,16 @@ pub record Machine : Type 0 where
 abbrev pub workLeft : Machine → ℕ
 workLeft m = leftSum (m .mesh) (m .slots)
 
--- what a call does: the machine after it, the reply, and the run lent beside the store as it is then ([] where none is
--- lent)
+-- what a call does: the machine after it, the reply, and what is lent beside the store as it is then: a run of floats,
+-- or the bytes of a page ([] where none is lent)
 pub record Turn : Type 0 where
   pub next : Machine
   pub reply : Answer
   pub out : List Float
+  pub page : List ℕ
 
 abbrev pub turn : Machine → Answer → Turn
-turn m r = record { next = m; reply = r; out = [] }
+turn m r = record { next = m; reply = r; out = []; page = [] }
 
 -- with other places, and so much more charged and dropped
 abbrev pub with-slots : Machine → List Slot → ℕ → ℕ → Machine

@@ -1,0 +1,83 @@
+-- The page of a store that holds a machine is the machine's, its masses worked afresh. Assumes nothing.
+use mathlib.Core.Path.{_≡_, refl, sym, ap, _∙_}
+use mathlib.Core.List.{List, [], _∷_, _++_, append-nil, append-assoc}
+use mathlib.Core.Bool.{Bool, true, false, cond}
+use Prim.Native.Nat.{ℕ, zero, suc, _+_, _-_, _≤_, _<_}
+use native.Mathlib.Omega.{arith}
+use lib.ListN.{length, take, getD}
+use lib.Seq.{take-suc, take-all, length-take-le}
+use lib.Dec.{ltb, eqb}
+use lib.Ieee.{Float}
+use borrow.Author.Tests.{ltb-false, ne-eqb}
+use Rattle.base.specs.Answers.{refused}
+use Rattle.base.specs.declared.refusal.Refusal.the-variants.{Unfinished}
+use Rattle.base.specs.declared.refusal.Checked.the-variants.{Passed, Failed}
+use Rattle.pieces.specs.declared.pieces.Pieces.{Pieces}
+use Rattle.layout.specs.Layout.{facesOf}
+use Rattle.readings.specs.Readings.{rawMass, heldAt}
+use Rattle.readings.specs.Checks.{readCheck}
+use Rattle.page.specs.Page.{Row, row, paged, pageAnswer, rowAt, heldRows, guardedPage, pageStep}
+use Rattle.machine.specs.Machine.{Mesh, Slot, empty, full, leftSum}
+use Rattle.machine.specs.Holding.{placeRow, wordsOf}
+use Rattle.machine.specs.Fresh.{massOf, piecesOf, freshRow, freshRows, pageAfresh}
+use Rattle.machine.specs.Valid.{Within, Valid}
+use Rattle.machine.proofs.Rows.{Width}
+use Rattle.machine.proofs.Sixteen.{laidOut}
+use Rattle.machine.proofs.Held.{status-held}
+use Rattle.machine.proofs.Sane.{no-fault}
+use Rattle.machine.proofs.Sweep.{left-held}
+use Rattle.machine.proofs.Read.{whole-slot}
+use Rattle.machine.proofs.Afresh.{slot-mass}
+
+module _ (wd : ℕ) (fm : Width wd) (m : Mesh) (ss : List Slot) (v : Valid m ss) (xs : List Float) (ys : List ℕ) where
+  abbrev FS : List Float
+  FS = laidOut m ss xs
+
+  abbrev WS : List ℕ
+  WS = wordsOf m ss ys
+
+  -- one place more, behind
+  rows-snoc : (i : ℕ) (l : List Slot) (s : Slot) → freshRows m i (l ++ (s ∷ [])) ≡ freshRows m i l ++ freshRow m (i + length l) s
+  rows-snoc i [] s = append-nil (freshRow m i s) ∙ ap (λ (k : ℕ). freshRow m k s) (let e : i ≡ i + 0 = omega arith in e)
+  rows-snoc i (x ∷ l) s =
+      let e : suc i + length l ≡ i + length (x ∷ l) = omega arith in
+      ap (λ (t : List Row). freshRow m i x ++ t) (rows-snoc (suc i) l s ∙ ap (λ (k : ℕ). freshRows m (suc i) l ++ freshRow m k s) e)
+      ∙ sym (append-assoc (freshRow m i x) (freshRows m (suc i) l) (freshRow m (i + length (x ∷ l)) s))
+
+  module _ (none : leftSum m ss ≡ 0) where
+    row-held : (i : ℕ) → i < 32 → (s : Slot) → getD ss i empty ≡ s → Within m s → rowAt FS i (getD (placeRow m s) 0 0) ≡ freshRow m i s
+    row-held i h empty e w = refl
+    row-held i h (full k fit p) e w =
+        let n : eqb (1 + fit .count) 0 ≡ false = ne-eqb (1 + fit .count) 0 (λ z. omega arith) in
+        let c : 1 + fit .count - 1 ≡ fit .count = omega arith in
+        let a = ap rawMass (whole-slot wd fm m ss v xs ys none i h (full k fit p) e w) ∙ slot-mass m (v .mesh) k fit p in
+        rw (n, a, c) (ap (λ (f : Pieces). row i (f .count) (massOf m (piecesOf (m .radius) k)) ∷ []) (w .fitted))
+
+    rows-to : (n : ℕ) → n ≤ 32 → heldRows wd FS WS n ≡ freshRows m 0 (take n ss)
+    unfolding heldRows
+    rows-to zero h = refl
+    rows-to (suc n) h =
+        let l : 0 + length (take n ss) ≡ n = omega (arith, length-take-le n ss (rw (v .slots) (omega arith))) in
+        rw (
+          status-held wd fm m ss (v .slots) ys n h,
+          rows-to n (omega arith),
+          row-held n h (getD ss n empty) refl (v .within n),
+          take-suc ss n empty (rw (v .slots) h),
+          rows-snoc 0 (take n ss) (getD ss n empty),
+          l,
+        ) refl
+
+    rows-held : heldRows wd FS WS 32 ≡ freshRows m 0 ss
+    rows-held = rows-to 32 (omega arith) ∙ ap (freshRows m 0) (take-all 32 ss (rw (v .slots) (omega arith)))
+
+  faces-held : facesOf WS ≡ m .faces
+  unfolding wordsOf
+  faces-held = refl
+
+  pub page-held : (bs : List ℕ) → pageStep wd FS WS bs ≡ cond (ltb 0 (leftSum m ss)) (paged (refused Unfinished) bs) (pageAfresh m ss bs)
+  unfolding pageStep readCheck pageAfresh
+  page-held bs = rw (no-fault wd fm m ss v xs ys, faces-held, left-held wd fm m ss v ys) (go (ltb 0 (leftSum m ss)) refl)
+    where
+      go : (b : Bool) → ltb 0 (leftSum m ss) ≡ b → guardedPage (cond b (Failed Unfinished) Passed) bs (pageAnswer (heldRows wd FS WS 32) bs) ≡ cond b (paged (refused Unfinished) bs) (pageAnswer (freshRows m 0 ss) bs)
+      go true e = refl
+      go false e = ap (λ (rs : List Row). pageAnswer rs bs) (rows-held (let z = ltb-false 0 (leftSum m ss) e in omega arith))
