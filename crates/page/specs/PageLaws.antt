@@ -145,6 +145,16 @@ fair-append : (rs ss : List Row) → AllFair rs → AllFair ss → AllFair (rs +
 fair-append [] ss g h = h
 fair-append (r ∷ rs) ss g h = (g .0, fair-append rs ss (g .1) h)
 
+-- as many places are filled as there are at most
+pub filled-most : (q : ℕ) (ws : List ℕ) (k : ℕ) → heldFilled q ws k ≤ k
+unfolding heldFilled
+filled-most q ws zero = omega arith
+filled-most q ws (suc k) = go (eqb (statusOf q ws k) 0) (filled-most q ws k)
+  where
+    go : (b : Bool) → heldFilled q ws k ≤ k → heldFilled q ws k + cond b 0 1 ≤ suc k
+    go true h = omega arith
+    go false h = omega arith
+
 module _ (q : ℕ) (fs : List Float) (ws : List ℕ) where
   abbrev at : ℕ → List Row
   at k = rowAt fs k (statusOf q ws k)

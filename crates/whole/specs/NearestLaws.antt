@@ -2,12 +2,12 @@
 use mathlib.Core.Path.{_≡_, refl, sym, ap, subst, _∙_}
 use mathlib.Core.Bool.{Bool, true, false, cond}
 use mathlib.Core.Logic.{_⊎_, inl, inr}
-use Prim.Native.Nat.{ℕ, _+_, _-_, _*_, _/_, _%_, _≤_, _<_}
+use Prim.Native.Nat.{ℕ, suc, _+_, _-_, _*_, _/_, _%_, _≤_, _<_}
 use native.Mathlib.Nat.{mul-comm, mul-assoc, mul-right-comm, add-mul, suc-mul, div-add-mod', mod-lt, div-eq-of-lt, mod-eq-of-lt, lt-of-mul-lt-mul-right, mul-le-mul-right, mul-lt-mul-of-pos-right}
 use native.Mathlib.Omega.{arith}
 use native.Mathlib.Decide.{decLt}
-use lib.Dec.{ltb}
-use borrow.Author.Tests.{ltb-true, ltb-false, lt-ltb, le-ltb}
+use lib.Dec.{ltb, eqb}
+use borrow.Author.Tests.{ltb-true, ltb-false, lt-ltb, le-ltb, eqb-true, eqb-false}
 use lib.Ieee.Nearest.{div-same}
 use Rattle.whole.specs.Whole.{nearest}
 
@@ -103,6 +103,38 @@ near-least n d r g k h = elim (half-off n d (r * d) (k * d) (g .near) (other d r
   | inl l ↦ inl l
   | inr z ↦ inr (z .0, g .even (z .1))
 ]
+
+-- k, of which the same holds, is r
+between : (n d u v : ℕ) → u + (d + d) ≤ v → 2 * apart n u ≡ d → 2 * apart n v ≡ d → 0 < d → ⊥
+between n d u v h a b p = omega arith
+
+two-on : (d r k : ℕ) → r < k → r % 2 ≡ 0 → k % 2 ≡ 0 → r * d + (d + d) ≤ k * d
+two-on d r k h a b =
+    let l : suc r < k = omega arith in
+    omega (arith, above d (suc r) k l, suc-mul r d)
+
+both-even : (n d r k : ℕ) → 0 < d → 2 * apart n (r * d) ≡ d → 2 * apart n (k * d) ≡ d → r % 2 ≡ 0 → k % 2 ≡ 0 → (k ≡ r → ⊥) → ⊥
+both-even n d r k p a b e f h = go (decLt r k) (decLt k r)
+  where
+    go : Dec (r < k) → Dec (k < r) → ⊥
+    go (yes l) x = between n d (r * d) (k * d) (two-on d r k l e f) a b p
+    go (no l) (yes x) = between n d (k * d) (r * d) (two-on d k r x f e) b a p
+    go (no l) (no x) = h (omega arith)
+
+pub near-only : (n d r k : ℕ) → 0 < d → Near n d r
+    → ((k ≡ r → ⊥) → (apart n (k * d) < apart n (r * d)) ⊎ ((apart n (k * d) ≡ apart n (r * d)) × (k % 2 ≡ 0))) → k ≡ r
+near-only n d r k p g f = go (eqb k r) refl
+  where
+    go2 : (h : k ≡ r → ⊥) → (apart n (k * d) < apart n (r * d)) ⊎ ((apart n (k * d) ≡ apart n (r * d)) × (k % 2 ≡ 0))
+        → (apart n (r * d) < apart n (k * d)) ⊎ ((apart n (r * d) ≡ apart n (k * d)) × (2 * apart n (r * d) ≡ d)) → ⊥
+    go2 h (inl x) (inl y) = omega arith
+    go2 h (inl x) (inr y) = omega (arith, y .0)
+    go2 h (inr x) (inl y) = omega (arith, x .0)
+    go2 h (inr x) (inr y) = both-even n d r k p (y .1) (ap (λ (t : ℕ). 2 * t) (x .0) ∙ y .1) (g .even (y .1)) (x .1) h
+
+    go : (b : Bool) → eqb k r ≡ b → k ≡ r
+    go true e = eqb-true k r e
+    go false e = let h = eqb-false k r e in absurd (go2 h (f h) (half-off n d (r * d) (k * d) (g .near) (other d r k h)))
 
 -- ---- small and great
 pub nearest-none : (n d : ℕ) → 2 * n < d → nearest n d ≡ 0

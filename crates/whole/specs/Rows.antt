@@ -5,6 +5,7 @@ use lib.IntN.{ℤ, pos, negℤ}
 use lib.Ieee.{nan, inf, le, lt, eq, neg, ofBits}
 use Rattle.base.specs.Floats.{bits, abs}
 use Rattle.whole.specs.Whole.{nearest, magnitude, rounded, massLimit, printable}
+use Rattle.whole.specs.Nearest.{off}
 
 unfoldable pub rows : ℤ
 unfolding le lt eq neg ofBits abs nearest magnitude rounded printable
@@ -48,8 +49,8 @@ pub below-one-and-half : rounded (bits 0x3ff7_ffff_ffff_ffff) ≡ pos 1
 unfolding rows
 below-one-and-half = refl
 
--- 10^15 is good, and the float after it, an infinity and NaN are not
-pub limit-is : rounded massLimit ≡ pos 1000000000000000
+-- 10^15, no less and no more, is good; the float after it, an infinity and NaN are not
+pub limit-is : off massLimit (pos 1000000000000000) ≡ 0
 unfolding rows
 limit-is = refl
 
