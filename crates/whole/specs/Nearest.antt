@@ -113,7 +113,7 @@ only-nearest true m e k n =
     let d = down e in
     sym (negℤ-negℤ k)
     ∙ ap negℤ (only a d (down-pos e) (negℤ k) (λ j h.
-      rw (flipped a d k, flipped a d (negℤ j), negℤ-negℤ j, ← abs-neg k) at (n .least (negℤ j) (λ z. h (sym (negℤ-negℤ j) ∙ ap negℤ z)))))
+    rw (flipped a d k, flipped a d (negℤ j), negℤ-negℤ j, ← abs-neg k) at (n .least (negℤ j) (λ z. h (sym (negℤ-negℤ j) ∙ ap negℤ z)))))
 
 -- and it is off by a half at most
 pub within-half : (s : Bool) (m : ℕ) (e : ℤ) → 2 * off (fin s m e) (rounded (fin s m e)) ≤ down e
