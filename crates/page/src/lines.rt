@@ -1,4 +1,5 @@
-// The page's lines, written at a position of a run; each function answers the position after what it wrote, and leaves all other bytes as they were.
+// The page's lines, written at a position of a run; each function answers the position after what it wrote, and leaves
+// all other bytes as they were.
 // Internal: a function with a `requires` is called by proved code alone.
 ghost use mathlib.Core.Path.{_≡_};
 ghost use mathlib.Core.List.{_∷_};

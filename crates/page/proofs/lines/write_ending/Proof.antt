@@ -8,7 +8,13 @@ use Rattle.page.proofs.lines.write_ending.Tie as tie
 
 returns : tie.Need-returns
 unfolding ending
-returns c = (omega (arith, c .before .before .before .before .before .before .before .before .before .before .before .write-spaces .ensures .0, c .before .before .before .before .before .before .before .write-whole .ensures .0, c .before .before .write-bytes .ensures .next), then (c .before .before .before .before .before .before .before .before .before .before .before .write-spaces .ensures .1) (then (c .before .before .before .before .before .before .before .write-whole .ensures .1) (c .before .before .write-bytes .ensures)))
+returns c =
+    let newline = c .before .before in
+    let mass = newline .before .before .before .before .before in
+    let gap = mass .before .before .before .before in (
+      omega (arith, gap .write-spaces .ensures .0, mass .write-whole .ensures .0, newline .write-bytes .ensures .next),
+      then (gap .write-spaces .ensures .1) (then (mass .write-whole .ensures .1) (newline .write-bytes .ensures)),
+    )
 
 pub write-ending-spec : {M : Type 1} → statement M
 write-ending-spec =

@@ -10,7 +10,13 @@ use Rattle.page.proofs.lines.write_line.Tie as tie
 returns : tie.Need-returns
 unfolding placeLine
 returns c =
-    (omega (arith, c .before .before .before .before .before .before .before .before .before .before .before .before .before .before .before .write-right .ensures .0, c .before .before .before .before .before .before .before .before .before .before .write-bytes .ensures .next, c .before .before .before .before .before .before .write-right2 .ensures .0, c .before .before .write-ending .ensures .0), then (c .before .before .before .before .before .before .before .before .before .before .before .before .before .before .before .write-right .ensures .1) (then (c .before .before .before .before .before .before .before .before .before .before .write-bytes .ensures) (then (c .before .before .before .before .before .before .write-right2 .ensures .1) (c .before .before .write-ending .ensures .1))))
+    let end = c .before .before in
+    let pieces = end .before .before .before .before in
+    let gap = pieces .before .before .before .before in
+    let place = gap .before .before .before .before .before in (
+      omega (arith, place .write-right .ensures .0, gap .write-bytes .ensures .next, pieces .write-right2 .ensures .0, end .write-ending .ensures .0),
+      then (place .write-right .ensures .1) (then (gap .write-bytes .ensures) (then (pieces .write-right2 .ensures .1) (end .write-ending .ensures .1))),
+    )
 
 write-right-requires : tie.Need-write-right-requires
 write-right-requires c κs = (omega (arith, c .before .before .pre .0), digits-under 1 _ (c .before .before .pre .1))

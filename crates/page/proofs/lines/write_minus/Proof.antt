@@ -10,10 +10,15 @@ use Rattle.page.proofs.lines.write_minus.Tie as tie
 
 returns : tie.Need-returns
 returns c =
-    let a = c .before .before .before .before .before .before .before .before .before .before .before .before .before .before .before .args in
-    let d = c .before .before .before .before .before .before .before .before .before .before .before .before .before .decimal-length in
-    let w = c .before .before .write-digits in
-    (omega (arith, c .before .before .before .before .before .before .before .before .before .before .before .write-spaces .ensures .0, c .before .before .before .before .before .before .write-bytes .ensures .next, w .ensures .0), right-minus _ _ _ (d .result) (d .ensures .0 ∙ sym (decimal-length (a .n))) (c .before .before .before .before .before .before .before .before .before .before .before .write-spaces .ensures .1) (then (c .before .before .before .before .before .before .write-bytes .ensures) (decimal-written (a .n) (d .ensures .0) (w .ensures .1))))
+    let w = c .before .before in
+    let sign = w .before .before .before .before in
+    let gap = sign .before .before .before .before .before in
+    let d = gap .before .before .decimal-length in
+    let n = gap .before .before .before .before .args .n in (
+      omega (arith, gap .write-spaces .ensures .0, sign .write-bytes .ensures .next, w .write-digits .ensures .0),
+      right-minus _ _ _ (d .result) (d .ensures .0 ∙ sym (decimal-length n)) (gap .write-spaces .ensures .1)
+          (then (sign .write-bytes .ensures) (decimal-written n (d .ensures .0) (w .write-digits .ensures .1))),
+    )
 
 pub write-minus-spec : {M : Type 1} → statement M
 write-minus-spec =

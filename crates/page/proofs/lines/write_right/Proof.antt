@@ -9,10 +9,14 @@ use Rattle.page.proofs.lines.write_right.Tie as tie
 
 returns : tie.Need-returns
 returns c =
-    let a = c .before .before .before .before .before .before .before .before .before .before .args in
-    let d = c .before .before .before .before .before .before .before .before .decimal-length in
-    let w = c .before .before .write-digits in
-    (omega (arith, c .before .before .before .before .before .before .write-spaces .ensures .0, w .ensures .0), right-written _ _ (a .wide) _ (d .result) (d .ensures .0 ∙ sym (decimal-length (a .n))) (c .before .before .before .before .before .before .write-spaces .ensures .1) (decimal-written (a .n) (d .ensures .0) (w .ensures .1)))
+    let w = c .before .before in
+    let gap = w .before .before .before .before in
+    let d = gap .before .before .decimal-length in
+    let a = gap .before .before .before .before .args in (
+      omega (arith, gap .write-spaces .ensures .0, w .write-digits .ensures .0),
+      right-written _ _ (a .wide) _ (d .result) (d .ensures .0 ∙ sym (decimal-length (a .n))) (gap .write-spaces .ensures .1)
+          (decimal-written (a .n) (d .ensures .0) (w .write-digits .ensures .1)),
+    )
 
 pub write-right-spec : {M : Type 1} → statement M
 write-right-spec =

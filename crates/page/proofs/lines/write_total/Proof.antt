@@ -8,7 +8,10 @@ use Rattle.page.proofs.lines.write_total.Tie as tie
 
 returns : tie.Need-returns
 unfolding totalLine
-returns c = (omega (arith, c .before .before .before .before .before .before .write-bytes .ensures .next, c .before .before .write-ending .ensures .0), then (c .before .before .before .before .before .before .write-bytes .ensures) (c .before .before .write-ending .ensures .1))
+returns c =
+    let end = c .before .before .write-ending in
+    let word = c .before .before .before .before .before .before .write-bytes in
+    (omega (arith, word .ensures .next, end .ensures .0), then (word .ensures) (end .ensures .1))
 
 pub write-total-spec : {M : Type 1} → statement M
 write-total-spec =

@@ -15,28 +15,37 @@ returns c =
     ((omega (arith, n), none-written _ _ _ e), (none-total _ _ _ e _, omega arith, omega arith))
 
 rounded-requires : tie.Need-rounded-requires
-rounded-requires c κs = subst T (sym (fair-mass _ _ _ (c .before .pieces .result) (c .before .before .if1 .left) (c .before .pieces .ensures) (c .slot-mass .result) (c .slot-mass .ensures) (c .before .before .before .before .before .pre .1 .0))) tt
+rounded-requires c κs =
+    let p = c .before in
+    let m = c .slot-mass in
+    subst T (sym (fair-mass _ _ _ (p .pieces .result) (p .before .if1 .left) (p .pieces .ensures) (m .result) (m .ensures) (p .before .before .before .before .pre .1 .0))) tt
 
 write-line-requires : tie.Need-write-line-requires
 write-line-requires c κs =
-    let a = c .before .before .before .before .before .before .before .args in
-    let n = one-count (a .f .now) (a .i) (a .status) (c .before .before .before .pieces .result) (c .before .before .before .before .if1 .left) (c .before .before .before .pieces .ensures) (c .before .before .slot-mass .result) (c .before .before .slot-mass .ensures) in
-    let p = c .before .before .before .before .before .before .before .pre in
-    (omega (arith, n, p .1 .1 .0), omega (arith, p .0 .1), omega (arith, p .0 .2, c .before .before .before .pieces .ensures), omega (arith, c .before .rounded .ensures .1))
+    let v = c .before in
+    let m = v .before .slot-mass in
+    let p = v .before .before in
+    let z = p .before .before .before .before in
+    let n = one-count (z .args .f .now) (z .args .i) (z .args .status) (p .pieces .result) (p .before .if1 .left) (p .pieces .ensures) (m .result) (m .ensures) in
+    (omega (arith, n, z .pre .1 .1 .0), omega (arith, z .pre .0 .1), omega (arith, z .pre .0 .2, p .pieces .ensures), omega (arith, v .rounded .ensures .1))
 
 add-requires : tie.Need-add-requires
-add-requires c κs = (c .before .before .before .before .rounded .ensures .1, c .before .before .before .before .before .before .before .before .before .before .pre .1 .1 .1, c .before .before .before .before .before .before .before .before .before .before .pre .1 .1 .2)
+add-requires c κs =
+    let v = c .before .before .before .before in
+    let z = v .before .before .before .before .before .before in
+    (v .rounded .ensures .1, z .pre .1 .1 .1, z .pre .1 .1 .2)
 
 returns-2 : tie.Need-returns-2
 returns-2 c =
-    let a = c .before .before .before .before .before .before .before .before .before .before .before .args in
-    let p = c .before .before .before .before .before .before .before .pieces in
-    let m = c .before .before .before .before .before .before .slot-mass in
-    let v = c .before .before .before .before .before .rounded in
-    let n = one-count (a .f .now) (a .i) (a .status) (p .result) (c .before .before .before .before .before .before .before .before .if1 .left) (p .ensures) (m .result) (m .ensures) in
-    let w = c .before .before .before .write-line in
-    let t = one-total (a .f .now) (a .i) (a .status) (p .result) (c .before .before .before .before .before .before .before .before .if1 .left) (p .ensures) (m .result) (m .ensures) _ (v .ensures .0) in
-    ((omega (arith, n, c .add .ensures .0, w .ensures .0), rw (c .add .ensures .0) (one-written (a .f .now) (a .i) (a .status) (p .result) (c .before .before .before .before .before .before .before .before .if1 .left) (p .ensures) (m .result) (m .ensures) _ (v .ensures .0) (w .ensures .1))), (rw t (c .add .ensures .1), c .add .ensures .2, c .add .ensures .3))
+    let w = c .before .before .before in
+    let v = w .before .before in
+    let m = v .before .slot-mass in
+    let p = v .before .before in
+    let a = p .before .before .before .before .args in
+    let n = one-count (a .f .now) (a .i) (a .status) (p .pieces .result) (p .before .if1 .left) (p .pieces .ensures) (m .result) (m .ensures) in
+    let t = one-total (a .f .now) (a .i) (a .status) (p .pieces .result) (p .before .if1 .left) (p .pieces .ensures) (m .result) (m .ensures) _ (v .rounded .ensures .0) in
+    let l = one-written (a .f .now) (a .i) (a .status) (p .pieces .result) (p .before .if1 .left) (p .pieces .ensures) (m .result) (m .ensures) _ (v .rounded .ensures .0) (w .write-line .ensures .1) in
+    ((omega (arith, n, c .add .ensures .0, w .write-line .ensures .0), rw (c .add .ensures .0) l), (rw t (c .add .ensures .1), c .add .ensures .2, c .add .ensures .3))
 
 pub slot-line-spec : {M : Type 1} → statement M
 slot-line-spec =
