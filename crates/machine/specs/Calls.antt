@@ -170,6 +170,7 @@ without (squeeze ∷ cs) = without cs
 without (read r ∷ cs) = read r ∷ without cs
 without (page bs ∷ cs) = page bs ∷ without cs
 
+-- of one call: its reply, and what is lent beside the store as it is then
 pub record Heard : Type 0 where
   pub reply : Answer
   pub out : List Float

@@ -57,7 +57,8 @@ pub record Post (q : ℕ) (mesh : Mesh) (m : Machine) (s : Store) (bs : List ℕ
   pub unfinished : 0 < workLeft m → store q s (page bs) .reply ≡ refused Unfinished
   pub only-then : store q s (page bs) .reply ≡ refused Unfinished → 0 < workLeft m
   -- any other answers and writes what demand 2's functions give, worked afresh on the mesh opened and the kernels then in
-  -- the machine's places; both give 17 and 18. "demand 3 leaves out a page to which 17 applies and 8 doesn't": this does not
+  -- the machine's places; both give 17 and 18. "demand 3 leaves out a page to which 17 applies and 8 doesn't": it is not
+  -- left out here
   pub afresh : (store q s (page bs) .reply ≡ refused Unfinished → ⊥)
       → (store q s (page bs) .reply ≡ pageAfresh mesh (m .slots) bs .reply)
       × (store q s (page bs) .page ≡ pageAfresh mesh (m .slots) bs .page)
