@@ -3,6 +3,7 @@
 //! code but the powers.
 use crate::conventions::{Convention, Reading, Report, write_list, write_track};
 use crate::machine::squeezed;
+use crate::page::{self, Row};
 use crate::pieces::Kernel;
 use crate::text::{ByArchive, Text, volume_on};
 
@@ -148,20 +149,24 @@ impl Held {
         Ok((all - kept.len()) as u32)
     }
 
-    /// The filled places' pieces with their held volumes: "a piece's alpha is the kernel's if that kernel stays, else 1, and its weight is w
-    /// times the coefficient".
+    /// A place's pieces with their held volumes: "a piece's alpha is the kernel's if that kernel stays, else 1, and its weight is w times
+    /// the coefficient".
+    fn pieces_of(&self, i: usize) -> impl Iterator<Item = (Kernel, f64)> {
+        let k = &self.floats[1 + 7 * i..][..7];
+        let stays = (k[5] - 1.0).abs() <= 1e-9;
+        (0..self.state(i)[0].saturating_sub(1)).map(move |j| {
+            let p = &self.floats[225 + 48 * i + 3 * j..][..3];
+            (Kernel { c: [k[0], k[1], k[2]], sigma: p[0], w: k[4] * p[1], alpha: if stays { k[5] } else { 1.0 } }, p[2])
+        })
+    }
+
+    /// Those of the filled places, in order.
     fn pieces(&self) -> (Vec<Kernel>, Vec<f64>) {
-        let (mut pieces, mut volumes) = (Vec::new(), Vec::new());
-        for i in 0..32 {
-            let k = &self.floats[1 + 7 * i..][..7];
-            let stays = (k[5] - 1.0).abs() <= 1e-9;
-            for j in 0..self.state(i)[0].saturating_sub(1) {
-                let p = &self.floats[225 + 48 * i + 3 * j..][..3];
-                pieces.push(Kernel { c: [k[0], k[1], k[2]], sigma: p[0], w: k[4] * p[1], alpha: if stays { k[5] } else { 1.0 } });
-                volumes.push(p[2]);
-            }
-        }
-        (pieces, volumes)
+        (0..32).flat_map(|i| self.pieces_of(i)).unzip()
+    }
+
+    fn filled_places(&self) -> impl Iterator<Item = usize> {
+        (0..32).filter(|i| self.state(*i)[0] > 0)
     }
 
     fn finished_for(&self, reading: Reading, by: Convention) -> Result<(), u32> {
@@ -185,9 +190,8 @@ impl Held {
         let (pieces, volumes) = self.pieces();
         let (xyz, faces) = self.mesh();
         let mass = by.mass::<ByArchive>(&pieces, raw_mass(&pieces, &volumes), ByArchive::body_volume(xyz, faces));
-        let filled: Vec<usize> = (0..32).filter(|i| self.state(*i)[0] > 0).collect();
-        let error = filled.iter().map(|i| self.floats[1 + 7 * i + 6]).fold(0.0, |most, e| if e > most { e } else { most });
-        Ok(Report { mass, kernels: filled.len() as u32, pieces: pieces.len() as u32, error })
+        let error = self.filled_places().map(|i| self.floats[1 + 7 * i + 6]).fold(0.0, |most, e| if e > most { e } else { most });
+        Ok(Report { mass, kernels: self.filled_places().count() as u32, pieces: pieces.len() as u32, error })
     }
 
     pub fn list(&self, by: Convention, out: &mut [f64]) -> Result<u32, u32> {
@@ -199,6 +203,25 @@ impl Held {
     pub fn track(&self, by: Convention, points: &[f64], out: &mut [f64]) -> Result<u32, u32> {
         self.finished_for(Reading::Density, by)?;
         write_track::<ByArchive>(&self.rescaled(by), points, out)
+    }
+
+    /// 02's L8: "The mass is the place's own field mass", a sum of its own over the held volumes.
+    pub fn page_rows(&self) -> Vec<Row> {
+        let row = |place| {
+            let (pieces, volumes): (Vec<Kernel>, Vec<f64>) = self.pieces_of(place).unzip();
+            Row { place, pieces: pieces.len(), mass: raw_mass(&pieces, &volumes) }
+        };
+        self.filled_places().map(row).collect()
+    }
+
+    /// "It is given only when nothing is left to do, else 8".
+    pub fn page(&self, out: &mut [u8]) -> Result<u64, u32> {
+        self.sound()?;
+        if self.left() > 0 { Err(8) } else { page::write(&self.page_rows(), out) }
+    }
+
+    pub fn filled_count(&self) -> usize {
+        if self.sound().is_ok() { self.filled_places().count() } else { 0 }
     }
 
     pub fn piece_count(&self) -> usize {

@@ -4,11 +4,12 @@ use crate::conventions::{Convention, MASS, RAW, RHO0, Report};
 use crate::held::Held;
 use crate::inputs::{self, Rng};
 use crate::machine::Machine;
+use crate::page;
 use crate::pieces::Kernel;
 use crate::text::Text;
 use std::sync::LazyLock;
 
-/// A call on an opened store; a list has a run of so many floats, and a track its coordinates and such a run.
+/// A call on an opened store; a list has a run of so many floats, a track its coordinates and such a run, a page so many bytes.
 #[derive(Clone, Copy, Debug)]
 pub enum Call {
     Put(u32, Kernel),
@@ -20,6 +21,7 @@ pub enum Call {
     Report(Convention),
     List(Convention, usize),
     Track(Convention, &'static [f64], usize),
+    Page(usize),
 }
 
 /// What a call answers, its refusal's number or its values.
@@ -34,13 +36,15 @@ pub enum Answer {
     Report(Report),
     Listed(u32),
     Tracked(u32),
+    Paged(u64),
 }
 
-/// What is held to the store: it takes the calls that the store takes.
+/// What is held to the store: it takes the calls that the store takes. A page is written into the bytes of its floats.
 pub trait Model {
     fn answer(&mut self, call: Call, out: &mut [f64]) -> Answer;
     fn left(&self) -> u64;
     fn face_count(&self) -> usize;
+    fn filled_count(&self) -> usize;
     fn piece_count(&self) -> usize;
 }
 
@@ -61,6 +65,7 @@ macro_rules! model {
                 Call::Report(by) => of(self.report(by), Answer::Report),
                 Call::List(by, _) => of(self.list(by, out), Answer::Listed),
                 Call::Track(by, points, _) => of(self.track(by, points, out), Answer::Tracked),
+                Call::Page(room) => of(self.page(&mut page::bytes(out)[..room]), Answer::Paged),
             }
         }
         fn left(&self) -> u64 {
@@ -68,6 +73,9 @@ macro_rules! model {
         }
         fn face_count(&self) -> usize {
             self.face_count()
+        }
+        fn filled_count(&self) -> usize {
+            self.filled_count()
         }
         fn piece_count(&self) -> usize {
             self.piece_count()
@@ -253,7 +261,7 @@ impl Places {
 
 /// The next call, by where the model stands.
 pub fn call(r: &mut Rng, model: &impl Model, places: &Places) -> Call {
-    match r.below(28) {
+    match r.below(30) {
         0..=5 => Call::Put(places.one(r), kernel(r)),
         6 | 7 => Call::Clear(places.one(r)),
         8 | 9 => Call::Reweigh(places.one(r), weight(r)),
@@ -262,6 +270,7 @@ pub fn call(r: &mut Rng, model: &impl Model, places: &Places) -> Call {
         19 | 20 => Call::Report(convention(r)),
         21 | 22 => Call::Squeeze,
         23 | 24 => track(r),
+        25 | 26 => Call::Page(page_room(r, model)),
         _ => Call::List(convention(r), list_room(r, model)),
     }
 }
@@ -290,6 +299,17 @@ fn list_room(r: &mut Rng, model: &impl Model) -> usize {
         0 => full.saturating_sub(1),
         1 => r.below(full as u64 + 1) as usize,
         2 => full + r.below(20) as usize,
+        _ => full,
+    }
+}
+
+/// Room for all lines, for a byte less, for any count, for more.
+pub fn page_room(r: &mut Rng, model: &impl Model) -> usize {
+    let full = 65 * (model.filled_count() + 1);
+    match r.below(8) {
+        0 => full - 1,
+        1 => r.below(full as u64) as usize,
+        2 | 3 => full + r.below(80) as usize,
         _ => full,
     }
 }

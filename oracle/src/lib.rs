@@ -17,6 +17,7 @@ pub mod machine;
 pub mod meshes;
 #[cfg(original)]
 pub mod original;
+pub mod page;
 pub mod pieces;
 #[cfg(original)]
 pub mod program;

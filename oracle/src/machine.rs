@@ -1,6 +1,7 @@
 //! 01's machine ("The store"), written from its sentences. It is fed the calls' arguments alone, never a store's runs; what a kernel's
 //! pieces and volumes are the original's own text says. [`Machine::fields`] writes out the two runs that 01 then asks for.
 use crate::conventions::{Convention, Reading, Report, write_list, write_track};
+use crate::page::{self, Row};
 use crate::pieces::Kernel;
 use crate::text::Text;
 use std::cell::RefCell;
@@ -208,6 +209,25 @@ impl<T: Text> Machine<T> {
     pub fn track(&self, by: Convention, points: &[f64], out: &mut [f64]) -> Result<u32, u32> {
         self.finished_for(Reading::Density, by)?;
         write_track::<T>(&self.rescaled(by), points, out)
+    }
+
+    /// 02's L8: "The mass is the place's own field mass", afresh.
+    pub fn page_rows(&self) -> Vec<Row> {
+        let row = |(place, at): (usize, &Option<Filled>)| {
+            let (pieces, _) = T::decompose(&[at.as_ref()?.kernel], self.radius);
+            Some(Row { place, pieces: pieces.len(), mass: T::kernel_field_mass(&self.xyz, &self.faces, &pieces) })
+        };
+        self.places.iter().enumerate().filter_map(row).collect()
+    }
+
+    /// "It is given only when nothing is left to do, else 8".
+    pub fn page(&self, out: &mut [u8]) -> Result<u64, u32> {
+        if self.left() > 0 { Err(8) } else { page::write(&self.page_rows(), out) }
+    }
+
+    /// How many places are filled.
+    pub fn filled_count(&self) -> usize {
+        self.places.iter().flatten().count()
     }
 
     /// How many pieces the filled places have.

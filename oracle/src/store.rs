@@ -82,7 +82,7 @@ pub fn squeeze(floats: &mut [f64], words: &mut [u32]) -> Squeezed {
     unsafe { cauchy_store_squeeze(floats.as_mut_ptr(), floats.len(), words.as_mut_ptr(), words.len()) }
 }
 
-pub use reading::{density, list, report, track};
+pub use reading::{density, list, page, report, track};
 
 /// The readings.
 mod reading {
@@ -123,6 +123,12 @@ mod reading {
         points: u32,
     }
 
+    #[repr(C)]
+    struct Bytes {
+        no: u32,
+        bytes: u64,
+    }
+
     unsafe extern "C" {
         fn cauchy_store_density(f: *const f64, f_len: usize, w: *const u32, w_len: usize, by: Convention, at: Point) -> Value;
         fn cauchy_store_report(f: *const f64, f_len: usize, w: *const u32, w_len: usize, by: Convention) -> StoreReport;
@@ -146,6 +152,7 @@ mod reading {
             out: *mut f64,
             out_len: usize,
         ) -> Tracked;
+        fn cauchy_store_page(f: *const f64, f_len: usize, w: *const u32, w_len: usize, page: *mut u8, page_len: usize) -> Bytes;
     }
 
     /// A number, and the density where it is 0.
@@ -171,5 +178,12 @@ mod reading {
         let (f, w, at, to) = (floats.as_ptr(), words.as_ptr(), points.as_ptr(), out.as_mut_ptr());
         let told = unsafe { cauchy_store_track(f, floats.len(), w, words.len(), by, at, points.len(), to, out.len()) };
         (told.no, told.points)
+    }
+
+    /// A number, and the count of bytes.
+    pub fn page(floats: &[f64], words: &[u32], page: &mut [u8]) -> (u32, u64) {
+        let (f, w) = (floats.as_ptr(), words.as_ptr());
+        let told = unsafe { cauchy_store_page(f, floats.len(), w, words.len(), page.as_mut_ptr(), page.len()) };
+        (told.no, told.bytes)
     }
 }

@@ -22,6 +22,7 @@ fn calls(r: &mut Rng) -> Vec<Call> {
     ];
     let by = histories::convention(r);
     calls.push(histories::track(r));
+    calls.push(Call::Page(cases::one(r, &[0, 64, 65, 1_000, 2_145])));
     calls.extend([Call::Density(by, [1.0, 2.0, 3.0]), Call::Report(by), Call::List(by, cases::one(r, &[0, 6, 600, 3_072]))]);
     calls
 }

@@ -6,6 +6,7 @@ use oracle::held::Held;
 use oracle::histories::{self, Answer, Body, Call, Model, Places};
 use oracle::inputs::Rng;
 use oracle::machine::{self, Machine};
+use oracle::page;
 use oracle::pattern;
 use oracle::store;
 use oracle::tally::Tally;
@@ -70,19 +71,25 @@ impl Runs {
                 let (no, count) = store::track(&self.floats, &self.words, by, points, out);
                 told(no, &[count.into()], Answer::Tracked(count))
             }
+            Call::Page(room) => {
+                let (no, bytes) = store::page(&self.floats, &self.words, &mut page::bytes(out)[..room]);
+                told(no, &[bytes as f64], Answer::Paged(bytes))
+            }
             _ => unreachable!("no reading"),
         }
     }
 }
 
 /// What was seen of answers: accepted and refused, by number; of squeezes: how many freed vertices, freed none, were refused; of tracks:
-/// how many had points, had none, were refused as 14, as another number.
+/// how many had points, had none, were refused as 14, as another number; of pages: how many had lines of places, had none, were refused
+/// as 8, 17 and 18, as another number.
 #[derive(Default)]
 pub struct Seen {
     accepted: u64,
-    refused: [u64; 15],
+    refused: [u64; 19],
     squeezes: [u64; 3],
     tracks: [u64; 4],
+    pages: [u64; 6],
 }
 
 impl Seen {
@@ -99,6 +106,12 @@ impl Seen {
             (Call::Track(..), Answer::Tracked(0)) => self.tracks[1] += 1,
             (Call::Track(..), Answer::Refused(14)) => self.tracks[2] += 1,
             (Call::Track(..), _) => self.tracks[3] += 1,
+            (Call::Page(_), Answer::Paged(66..)) => self.pages[0] += 1,
+            (Call::Page(_), Answer::Paged(_)) => self.pages[1] += 1,
+            (Call::Page(_), Answer::Refused(8)) => self.pages[2] += 1,
+            (Call::Page(_), Answer::Refused(17)) => self.pages[3] += 1,
+            (Call::Page(_), Answer::Refused(18)) => self.pages[4] += 1,
+            (Call::Page(_), _) => self.pages[5] += 1,
             _ => {}
         }
     }
@@ -109,7 +122,9 @@ impl Seen {
         let squeezes = format!("; of squeezes {freed} freed vertices, {none} freed none, {turned_away} refused");
         let [written, empty, bad, other] = self.tracks;
         let tracks = format!("; of tracks {written} written, {empty} without points, {bad} refused as 14, {other} as another");
-        format!("{} accepted{}{squeezes}{tracks}", self.accepted, refused.collect::<String>())
+        let [lines, total, left, figure, short, other] = self.pages;
+        let pages = format!("; of pages {lines} written, {total} without places, {left} refused as 8, {figure} as 17, {short} as 18");
+        format!("{} accepted{}{squeezes}{tracks}{pages}, {other} as another", self.accepted, refused.collect::<String>())
     }
 }
 
@@ -123,6 +138,7 @@ pub fn same(a: Answer, b: Answer) -> bool {
         (Answer::Freed(x), Answer::Freed(y)) => x == y,
         (Answer::Value(x), Answer::Value(y)) => floats(&[x], &[y]),
         (Answer::Listed(x), Answer::Listed(y)) | (Answer::Tracked(x), Answer::Tracked(y)) => x == y,
+        (Answer::Paged(x), Answer::Paged(y)) => x == y,
         (Answer::Report(x), Answer::Report(y)) => {
             floats(&x.mass, &y.mass) && (x.kernels, x.pieces) == (y.kernels, y.pieces) && floats(&[x.error], &[y.error])
         }
@@ -151,7 +167,7 @@ fn wanted(before: &Runs, had: usize, (mut floats, mut words): (Vec<f64>, Vec<u32
     (Runs { floats, words }, own)
 }
 
-/// How many floats of a lent run an answer says are written.
+/// How many floats of a lent run an answer says are written; the bytes of a page are no floats, and are compared as they are.
 fn written(answer: Answer) -> usize {
     match answer {
         Answer::Listed(n) => 6 * n as usize,
@@ -162,7 +178,7 @@ fn written(answer: Answer) -> usize {
 
 /// Whether the call only reads the store.
 fn reads(call: Call) -> bool {
-    matches!(call, Call::Density(..) | Call::Report(_) | Call::List(..) | Call::Track(..))
+    matches!(call, Call::Density(..) | Call::Report(_) | Call::List(..) | Call::Track(..) | Call::Page(_))
 }
 
 /// One call on both: the answer, the lent run, and the runs, which `fields` then says of the model. A refused call and a reading leave
@@ -197,9 +213,13 @@ pub fn differs<M: Model>(
     (difference, told, want)
 }
 
-/// A run for a list or a track; no other call is lent one.
+/// A run for a list or a track, and one whose bytes are more than a page has; no other call is lent one.
 pub fn lent(r: &mut Rng, call: Call) -> Vec<f64> {
-    if let Call::List(_, room) | Call::Track(_, _, room) = call { cases::garbage(r, room) } else { Vec::new() }
+    match call {
+        Call::List(_, room) | Call::Track(_, _, room) => cases::garbage(r, room),
+        Call::Page(room) => cases::garbage(r, room / 8 + 2),
+        _ => Vec::new(),
+    }
 }
 
 pub fn histories(count: u64, r: Rng) -> Tally {

@@ -1,5 +1,5 @@
 //! Compares the archive's store with 01's machine, written from 01's sentences over the original's own text: random histories on small
-//! meshes, every word of both runs and of a lent list after every call, every answer, and at the end done + left + dropped = charged.
+//! meshes, every word of both runs and of a lent run or page after every call, every answer, at the end done + left + dropped = charged.
 //! Beside each history a second store gets all its calls but the squeezes, and answers the same; each word of a track is also held to
 //! the archive's single reading at that point.
 //! Then openings, stores that nobody opened, wild runs, runs one word short, and every damage of one word: the number that a soundness

@@ -15,7 +15,7 @@ pub fn altered(spared: &mut Runs, runs: &Runs, call: Call, lent: &[f64], told: A
     }
     let (mut out, mut again) = (lent.to_vec(), lent.to_vec());
     let without = spared.answer(call, &mut out);
-    if let Call::List(..) | Call::Track(..) = call {
+    if let Call::List(..) | Call::Track(..) | Call::Page(_) = call {
         runs.reading(call, &mut again);
     }
     let fields = float_differs(&runs.floats[..1_761], &spared.floats[..1_761], 1_761);

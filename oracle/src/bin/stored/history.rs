@@ -135,6 +135,7 @@ fn head(call: Call) -> String {
         Call::Report(by) => format!("report{}", convention(by)),
         Call::List(by, room) => format!("list {room}{}", convention(by)),
         Call::Track(by, points, room) => format!("track {} {room}{}", points.len(), convention(by)),
+        Call::Page(_) => unreachable!("the program takes no page"),
     }
 }
 
@@ -159,6 +160,7 @@ fn answer(told: Answer) -> String {
         }
         Answer::Listed(pieces) => format!(" pieces {pieces}"),
         Answer::Tracked(points) => format!(" points {points}"),
+        Answer::Paged(_) => unreachable!("the program takes no page"),
     }
 }
 
