@@ -3,6 +3,7 @@
 use crate::body::FACES;
 use crate::body::XYZ;
 use crate::body::points;
+use crate::digest::digest_bytes;
 use crate::digest::digest_floats;
 use crate::line::NO_FLOATS;
 use crate::line::say;
@@ -12,6 +13,8 @@ use advance::advance::advance;
 use base::refusal::Measured;
 use density::convention::Convention;
 use kernel::kernel::Kernel;
+use page::call::PageRead;
+use page::call::page;
 use put::Placed;
 use put::put;
 use readings::at_point::density;
@@ -200,6 +203,28 @@ pub fn run_track(f: &Floats, w: &Words, v: Convention, coordinates: usize, room:
         let far = [0.5; 12291];
         run_track_in(f, w, v, &far, coordinates, room, &mut out);
     }
+}
+
+fn say_paged(p: PageRead) {
+    match p {
+        PageRead::Bytes(n) => say(b" bytes 0", [n, 0], NO_FLOATS),
+        PageRead::Refused(r) => say_refused(r),
+    }
+}
+
+// The page into the first `room` bytes of a run, whose digest is written too: bytes past the page stay.
+fn run_page_in(f: &Floats, w: &Words, room: usize, out: &mut [u8]) {
+    if room > out.len() {
+        return;
+    }
+    say_paged(page(f, w, &mut out[0..room]));
+    say(b" run X", [digest_bytes(out), 0], NO_FLOATS);
+}
+
+// Before it the run is of full stops.
+pub fn run_page(f: &Floats, w: &Words, room: usize) {
+    let mut out: [u8; 2200] = [46; 2200];
+    run_page_in(f, w, room, &mut out);
 }
 
 // Writes a word of the store from outside.

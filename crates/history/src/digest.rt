@@ -23,3 +23,16 @@ pub fn digest_words(w: &[u32]) -> u64 {
     }
     sum
 }
+
+// One more byte.
+fn mixed_byte(sum: u64, b: u8) -> u64 {
+    mixed(sum, b as u64)
+}
+
+pub fn digest_bytes(b: &[u8]) -> u64 {
+    let mut sum: u64 = 0;
+    for i in 0..b.len() {
+        sum = mixed_byte(sum, b[i]);
+    }
+    sum
+}

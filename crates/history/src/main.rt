@@ -20,6 +20,7 @@ use crate::calls::run_clear;
 use crate::calls::run_density;
 use crate::calls::run_list;
 use crate::calls::run_open;
+use crate::calls::run_page;
 use crate::calls::run_put;
 use crate::calls::run_report;
 use crate::calls::run_reweigh;
@@ -50,7 +51,13 @@ fn call(f: &mut Floats, w: &mut Words, first: u8, third: u8, n: [u64; 8], x: [f6
     match first {
         b'o' => run_open(f, w, n[1] as usize, 0, n[2] as usize, x[3]),
         b'e' => run_open(f, w, n[1] as usize, n[2] as usize, n[3] as usize, x[4]),
-        b'p' => run_put(f, w, n[1], x[2], x[3], x[4]),
+        b'p' => {
+            if third == b'g' {
+                run_page(f, w, n[1] as usize);
+            } else {
+                run_put(f, w, n[1], x[2], x[3], x[4]);
+            }
+        }
         b'c' => run_clear(f, w, n[1]),
         b'a' => run_advance(f, w, n[1]),
         b's' => run_squeeze(f, w),

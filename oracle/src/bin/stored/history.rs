@@ -5,6 +5,7 @@ use oracle::conventions::{Convention, RAW, RHO0, Report};
 use oracle::held::store_number;
 use oracle::histories::{Answer, Call, Model};
 use oracle::machine::{Machine, open_number};
+use oracle::page;
 use oracle::pattern;
 use oracle::text::ByTranscription;
 
@@ -29,6 +30,9 @@ const BEFORE: (f64, u32) = (1.5, 9);
 const LENT: f64 = 2.5;
 const LIST: usize = 1_200;
 const TRACK: usize = 4_100;
+/// A lent page is so many bytes, full stops before each call, here eight to a float.
+const PAGE: usize = 2_200;
+const STOPS: f64 = f64::from_bits(0x2e2e_2e2e_2e2e_2e2e);
 
 /// An uneven box, and two points more.
 #[rustfmt::skip]
@@ -106,6 +110,7 @@ impl Replay {
         let (mut run, room) = match call {
             Call::List(_, room) => (vec![LENT; LIST], room),
             Call::Track(_, _, room) => (vec![LENT; TRACK], room),
+            Call::Page(_) => (vec![STOPS; PAGE / 8], PAGE / 8),
             _ => (Vec::new(), 0),
         };
         let told = match store_number(&self.floats, &self.words) {
@@ -119,7 +124,11 @@ impl Replay {
             }
             no => Answer::Refused(no),
         };
-        let run = if run.is_empty() { String::new() } else { format!(" run {:016x}", digest_floats(&run)) };
+        let run = match call {
+            Call::Page(_) => format!(" run {:016x}", digest(page::bytes(&mut run).iter().map(|b| u64::from(*b)))),
+            _ if run.is_empty() => String::new(),
+            _ => format!(" run {:016x}", digest_floats(&run)),
+        };
         format!("{}{}{run}", head(call), answer(told))
     }
 }
@@ -135,7 +144,7 @@ fn head(call: Call) -> String {
         Call::Report(by) => format!("report{}", convention(by)),
         Call::List(by, room) => format!("list {room}{}", convention(by)),
         Call::Track(by, points, room) => format!("track {} {room}{}", points.len(), convention(by)),
-        Call::Page(_) => unreachable!("the program takes no page"),
+        Call::Page(room) => format!("page {room}"),
     }
 }
 
@@ -160,7 +169,7 @@ fn answer(told: Answer) -> String {
         }
         Answer::Listed(pieces) => format!(" pieces {pieces}"),
         Answer::Tracked(points) => format!(" points {points}"),
-        Answer::Paged(_) => unreachable!("the program takes no page"),
+        Answer::Paged(bytes) => format!(" bytes {bytes}"),
     }
 }
 

@@ -22,6 +22,7 @@ pub fn steps() -> Vec<Step> {
         reopened(),
         squeezed(),
         tracked(),
+        paged(),
     ];
     topics.concat()
 }
@@ -110,6 +111,10 @@ static FAR: [f64; 12_291] = [0.5; 12_291];
 fn track(by: Convention, coordinates: usize, room: usize) -> Step {
     let points: &'static [f64] = if coordinates <= POINTS.len() { &POINTS } else { &FAR };
     Step::Call(Call::Track(by, &points[..coordinates], room))
+}
+
+fn page(room: usize) -> Step {
+    Step::Call(Call::Page(room))
 }
 
 /// Nobody opened it: by its counts the runs are too short, then its corners are loose.
@@ -467,5 +472,58 @@ fn tracked() -> Vec<Step> {
         track(mass(1e9, 2000.0), 12_288, 4_096),
         track(rho0(1190.0), 12_288, 4_095),
         density(mass(1e9, 2000.0)),
+    ]
+}
+
+/// Pages of three places, with room and without; masses that have no figure, which comes before the room; work left, which comes before
+/// both; a place without pieces; a store too short and one that is not sound; no place filled.
+fn paged() -> Vec<Step> {
+    vec![
+        page(260),
+        page(2_200),
+        page(259),
+        page(0),
+        reweigh(17, NAN),
+        page(2_200),
+        page(0),
+        reweigh(17, 1e300),
+        page(2_200),
+        reweigh(17, -INFINITY),
+        page(2_200),
+        reweigh(17, -0.03),
+        reweigh(31, 1e12),
+        page(260),
+        put(6, one()),
+        page(2_200),
+        reweigh(17, NAN),
+        page(0),
+        advance(u64::MAX),
+        page(0),
+        reweigh(17, 0.25),
+        page(2_200),
+        put(5, none()),
+        page(390),
+        page(389),
+        squeeze(),
+        page(400),
+        Step::Write(0, 9),
+        page(2_200),
+        Step::Mend(0),
+        Step::Write(2, 18),
+        page(2_200),
+        Step::Mend(2),
+        clear(0),
+        clear(5),
+        clear(6),
+        clear(17),
+        page(130),
+        clear(31),
+        page(130),
+        page(65),
+        page(64),
+        open(24, 0, 2.0),
+        put(9, sixteen()),
+        put(10, thirteen()),
+        page(195),
     ]
 }
