@@ -1,10 +1,12 @@
-//! Densities, report and list of 32 places of 16 pieces each, all work done. The platform's side has the same pieces and volumes, and
-//! does the lines of `from_toml_impl` after the decomposition; its results are the same bits, which is asked first.
+//! Densities, report, list and wall page of 32 places of 16 pieces each, all work done. The platform's side has the same pieces and
+//! volumes, and does the lines of `from_toml_impl` after the decomposition, or prints by `format!`; its results are the same bits, which
+//! is asked first.
 use crate::lent::{Body, Shared};
 use crate::table::{Bench, Id, Row, Way};
 use oracle::conventions::{Convention, MASS, RAW, RHO0};
 use oracle::original::native_platform::{KernelSi, body_volume, densitize};
 use oracle::original::native_steps;
+use oracle::page::{self, Row as Line};
 use oracle::pieces::Kernel;
 use oracle::{pattern, store};
 use std::hint::black_box;
@@ -74,6 +76,14 @@ impl Pieces {
         }
     }
 
+    /// What a page shows: of each 16 pieces a sum of their own.
+    fn page(&self, out: &mut [u8]) -> Result<u64, u32> {
+        let mass = |(list, volumes): (&[KernelSi], &[f64])| list.iter().zip(volumes).fold(0.0, |sum, (k, volume)| sum + k.w * volume);
+        let masses = self.list.chunks(16).zip(self.volumes.chunks(16)).map(mass);
+        let lines: Vec<Line> = masses.enumerate().map(|(place, mass)| Line { place, pieces: 16, mass }).collect();
+        page::write(&lines, out)
+    }
+
     /// `MassReport`'s floats, by mass.
     fn report(&self, volume: f64) -> [f64; 7] {
         let (raw, rho0) = (self.raw_mass(), self.rho0_scale());
@@ -91,6 +101,7 @@ pub fn rows(bench: &mut Bench) {
         density(bench, &store, name, by, check);
     }
     list(bench, &store, check);
+    page(bench, &store);
     report(bench, "report by mass, 512 pieces, 1,000 faces", &small, store);
     let large = Body::twenty_thousand();
     let store = full(&large);
@@ -124,6 +135,21 @@ fn list(bench: &mut Bench, store: &Shared, check: Id) {
     let platform = bench.way(Way::turns(TURNS, 1, move || pieces.write(black_box(&mut written))));
     bench.row(Row::new("list by mass, 512 pieces, 1,000 faces", ours).platform(platform));
     bench.row(Row::new("list by mass, 512 pieces, beyond the check", ours).platform(platform).less(check));
+}
+
+fn page(bench: &mut Bench, store: &Shared) {
+    const BYTES: usize = 65 * 33;
+    let (store, pieces) = (store.clone(), Pieces::of(store));
+    let (mut out, mut written) = ([0; BYTES], [0; BYTES]);
+    let ours = move |out: &mut [u8]| {
+        let lent = store.borrow();
+        assert_eq!(store::page(&lent.floats, &lent.words, out), (0, BYTES as u64));
+    };
+    ours(&mut out);
+    assert!(pieces.page(&mut written) == Ok(BYTES as u64) && out == written, "page");
+    let ours = bench.way(Way::turns(TURNS, 1, move || ours(black_box(&mut out))));
+    let platform = bench.way(Way::turns(TURNS, 1, move || pieces.page(black_box(&mut written))));
+    bench.row(Row::new("page, 32 places of 16 pieces, 1,000 faces, against `format!`", ours).platform(platform));
 }
 
 fn report(bench: &mut Bench, name: &str, body: &Rc<Body>, store: Shared) {
