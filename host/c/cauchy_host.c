@@ -23,6 +23,8 @@ const char *cauchy_refusal_text(uint32_t no) {
     case CAUCHY_EXPONENT: return "exponent: some exponent is not 1";
     case CAUCHY_BAD_TRACK: return "bad track: more than 4,096 points, or lengths that do not fit";
     case CAUCHY_MANY_KERNELS: return "many kernels: a bill takes at most 32";
+    case CAUCHY_NO_FIGURE: return "no figure: the mass of a place is NaN or exceeds 10^15 kg";
+    case CAUCHY_SHORT_PAGE: return "short page: 65 bytes are needed for each filled place and for the total";
     case CAUCHY_BAD_KERNEL_LINE: return "bad kernel line: not (kernel (c h h h) (sigma h) (w h) (alpha h or none))";
     case CAUCHY_LOADERS_DIFFER: return "loaders differ: native and source make different kernels of some line";
     case CAUCHY_NOT_CLOSED: return "not closed: an edge does not occur once each way, or a face names a corner twice";

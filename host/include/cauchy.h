@@ -10,6 +10,7 @@
  *   kernel list  6 doubles a kernel: c (3), sigma, w, alpha
  *   lines        the bytes of a file of kernels
  *   track        3 doubles a point
+ *   page         bytes of text, without a byte 0 after them
  *   store        floats and words: the store itself, which has no memory elsewhere
  * A run that a call only reads is const.
  *
@@ -74,6 +75,8 @@ enum {
     CAUCHY_EXPONENT = 12,        /* an exponent is not 1, where only 1 can be integrated */
     CAUCHY_BAD_TRACK = 14,       /* a track of more than 4,096 points or not of threes, or its run is too short */
     CAUCHY_MANY_KERNELS = 15,    /* more kernels to be billed than a store has places */
+    CAUCHY_NO_FIGURE = 17,       /* the mass of a place is NaN or exceeds 10^15 kg, and a page cannot show it */
+    CAUCHY_SHORT_PAGE = 18,      /* the bytes to be written are too few for the page */
     CAUCHY_BAD_KERNEL_LINE = 20, /* a line of a file is no kernel line */
     CAUCHY_LOADERS_DIFFER = 21,  /* the two loaders make different kernels of the lines */
     CAUCHY_NOT_CLOSED = 22       /* the mesh is not closed */
@@ -92,6 +95,9 @@ enum {
 /* The lengths that a store needs for V vertices and F faces; longer runs are good, and keep their excess. */
 #define CAUCHY_STORE_FLOATS(V) ((size_t)1761 + (size_t)3 * (size_t)(V))
 #define CAUCHY_STORE_WORDS(F) ((size_t)98 + (size_t)3 * (size_t)(F))
+
+/* The bytes of the page of P filled places: 64 characters and a newline for each of them, and for the total. */
+#define CAUCHY_PAGE_BYTES(P) ((size_t)65 * ((size_t)(P) + 1))
 
 /* The doubles that are enough for the kernels of any B bytes of lines: a kernel line has 123 bytes or more. */
 #define CAUCHY_CONVERT_FLOATS(B) ((size_t)6 * ((size_t)(B) / 123))
@@ -196,6 +202,11 @@ typedef struct CauchyTrack {
     uint32_t no, points; /* points whose density is written */
 } CauchyTrack;
 
+typedef struct CauchyBytes {
+    uint32_t no;
+    uint64_t bytes; /* bytes written */
+} CauchyBytes;
+
 typedef struct CauchyKernels {
     uint32_t no;
     uint64_t kernels; /* kernels written */
@@ -275,6 +286,15 @@ CAUCHY_MUST_USE
 CauchyTrack cauchy_store_track(const double *floats, size_t n_floats, const uint32_t *words, size_t n_words,
                                CauchyConvention convention, const double *points, size_t n_points, double *out,
                                size_t n_out);
+
+/* Writes the wall page; bytes past it stay. Each filled place has a line, in order: its number in columns 1-2, its
+ * pieces in 4-5 and its own field mass in 45-64, by the weight as entered and in whole kilograms, to the nearest and
+ * ties to even. All are right-aligned, with spaces elsewhere; a mass below 0 has a minus sign, and zero is 0. A last
+ * line has TOTAL in columns 1-5 and the sum of the printed masses in 45-64. CAUCHY_PAGE_BYTES tells the length; that of
+ * CAUCHY_PLACES is enough for any store.                              4 5 8 17 18; 8 while any work is left */
+CAUCHY_MUST_USE
+CauchyBytes cauchy_store_page(const double *floats, size_t n_floats, const uint32_t *words, size_t n_words,
+                              uint8_t *page, size_t n_page);
 
 /* ---- Kernels -------------------------------------------------------------------------------------- */
 

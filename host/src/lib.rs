@@ -59,4 +59,4 @@ pub use refusal::Refusal;
 pub use report::{MassReport, StoreReport};
 pub use snapshot::SnapshotError;
 pub use solve::solve;
-pub use store::{Held, MAX_TRACK, OpenError, PLACES, Placed, Steps, Store};
+pub use store::{Held, MAX_PAGE, MAX_TRACK, OpenError, PLACES, Placed, Steps, Store};

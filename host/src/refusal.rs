@@ -43,6 +43,10 @@ pub enum Refusal {
     BadTrack = 14,
     /// More kernels are to be billed than a store has places.
     ManyKernels = 15,
+    /// The mass of a place is NaN or exceeds 10^15 kg, and a page cannot show it.
+    NoFigure = 17,
+    /// The bytes to be written are too few for the page.
+    ShortPage = 18,
     /// A line of a file is no kernel line.
     BadKernelLine = 20,
     /// The two loaders make different kernels of the lines.
@@ -53,7 +57,7 @@ pub enum Refusal {
 
 impl Refusal {
     /// All refusals, by rising number.
-    pub const ALL: [Refusal; 17] = [
+    pub const ALL: [Refusal; 19] = [
         Refusal::Ragged,
         Refusal::Oversize,
         Refusal::LooseCorner,
@@ -68,6 +72,8 @@ impl Refusal {
         Refusal::Exponent,
         Refusal::BadTrack,
         Refusal::ManyKernels,
+        Refusal::NoFigure,
+        Refusal::ShortPage,
         Refusal::BadKernelLine,
         Refusal::LoadersDiffer,
         Refusal::NotClosed,
@@ -77,7 +83,7 @@ impl Refusal {
     ///
     /// ```
     /// let numbers = cauchy::Refusal::ALL.map(|refusal| refusal.number());
-    /// assert_eq!(numbers, [1, 2, 3, 4, 5, 6, 7, 8, 9, 10, 11, 12, 14, 15, 20, 21, 22]);
+    /// assert_eq!(numbers, [1, 2, 3, 4, 5, 6, 7, 8, 9, 10, 11, 12, 14, 15, 17, 18, 20, 21, 22]);
     /// ```
     pub fn number(self) -> u32 {
         self as u32
@@ -104,6 +110,8 @@ impl Refusal {
             Refusal::Exponent => "exponent: some exponent is not 1",
             Refusal::BadTrack => "bad track: more than 4,096 points, or lengths that do not fit",
             Refusal::ManyKernels => "many kernels: a bill takes at most 32",
+            Refusal::NoFigure => "no figure: the mass of a place is NaN or exceeds 10^15 kg",
+            Refusal::ShortPage => "short page: 65 bytes are needed for each filled place and for the total",
             Refusal::BadKernelLine => {
                 "bad kernel line: not (kernel (c h h h) (sigma h) (w h) (alpha h or none))"
             }

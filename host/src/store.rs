@@ -9,6 +9,9 @@ pub const PLACES: u32 = 32;
 /// The most points that one [`Store::track`] takes.
 pub const MAX_TRACK: usize = 4096;
 
+/// The bytes of the longest page: 65 for each of the [`PLACES`] and for the total.
+pub const MAX_PAGE: usize = 65 * (PLACES as usize + 1);
+
 // The layout of 01: what stands before the mesh in each run, and the fields of a place.
 const FLOATS_BEFORE_MESH: usize = 1761;
 const WORDS_BEFORE_MESH: usize = 98;
@@ -381,6 +384,64 @@ impl Store {
                 return Ok(out);
             }
         }
+    }
+
+    /// The wall page: a line of 64 characters and a newline for each filled place, in order, with its number in columns
+    /// 1-2, its pieces in 4-5 and its own field mass in 45-64, by the weight as entered and in whole kilograms, to the
+    /// nearest and ties to even; then a line with TOTAL in columns 1-5 and the sum of the printed masses in 45-64. All
+    /// numbers are right-aligned. It needs all work done, and no mass that is NaN or exceeds 10^15 kg.
+    ///
+    /// ```
+    /// # use cauchy::{Kernel, Mesh, Refusal, Store};
+    /// # let vertices = [[0.0, 0.0, 0.0], [6.0, 0.0, 0.0], [0.0, 6.0, 0.0], [0.0, 0.0, 6.0]];
+    /// # let faces = [[0, 2, 1], [0, 1, 3], [0, 3, 2], [1, 2, 3]];
+    /// let mut store = Store::open(6.0, Mesh { vertices: &vertices, faces: &faces })?;
+    /// store.put(7, Kernel { c: [1.0; 3], sigma: 0.0, w: 1000.0, alpha: 1.0 })?;
+    /// store.put(12, Kernel { c: [1.0; 3], sigma: 0.0, w: -1.0, alpha: 1.0 })?;
+    /// assert_eq!(store.page(), Err(Refusal::Unfinished));
+    /// store.advance(8)?;
+    /// let page = store.page()?;
+    /// let lines: Vec<_> = page.lines().collect();
+    /// assert_eq!(lines[0], format!(" 7  1{:>59}", 36000));
+    /// assert_eq!(lines[1], format!("12  1{:>59}", -36));
+    /// assert_eq!(lines[2], format!("TOTAL{:>59}", 35964));
+    /// store.reweigh(7, f64::NAN)?;
+    /// assert_eq!(store.page(), Err(Refusal::NoFigure));
+    /// # Ok::<(), Box<dyn std::error::Error>>(())
+    /// ```
+    pub fn page(&self) -> Result<String, Refusal> {
+        let mut page = [0; MAX_PAGE];
+        let count = self.page_into(&mut page)?;
+        Ok(page[..count].iter().copied().map(char::from).collect())
+    }
+
+    /// Writes the page that [`Store::page`] gives, and answers how many bytes that are; bytes past them stay. They are
+    /// 65 for each filled place and 65 for the total, and [`MAX_PAGE`] at most.
+    ///
+    /// ```
+    /// # use cauchy::{Kernel, MAX_PAGE, Mesh, Refusal, Store};
+    /// # let mesh = Mesh { vertices: &[[0.0; 3]; 3], faces: &[[0, 1, 2]] };
+    /// let store = Store::open(500.0, mesh)?;
+    /// let mut page = [b'#'; MAX_PAGE];
+    /// assert_eq!(store.page_into(&mut page)?, 65);
+    /// assert!(page.starts_with(b"TOTAL   ") && page[62..].starts_with(b" 0\n#"));
+    /// assert_eq!(store.page_into(&mut page[..64]), Err(Refusal::ShortPage));
+    /// # Ok::<(), Box<dyn std::error::Error>>(())
+    /// ```
+    pub fn page_into(&self, page: &mut [u8]) -> Result<usize, Refusal> {
+        let (floats, words) = (&self.floats, &self.words);
+        // SAFETY: vectors of the store's own, only read, and a slice that is unshared.
+        let told = unsafe {
+            sys::cauchy_store_page(
+                floats.as_ptr(),
+                floats.len(),
+                words.as_ptr(),
+                words.len(),
+                page.as_mut_ptr(),
+                page.len(),
+            )
+        };
+        Refusal::check(told.no).map(|()| told.bytes as usize)
     }
 
     /// What a place holds; `None` where it is empty or 32 or above.

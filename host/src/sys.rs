@@ -99,6 +99,12 @@ pub struct Track {
 }
 
 #[repr(C)]
+pub struct Bytes {
+    pub no: u32,
+    pub bytes: u64,
+}
+
+#[repr(C)]
 pub struct Kernels {
     pub no: u32,
     pub kernels: u64,
@@ -212,6 +218,14 @@ unsafe extern "C" {
         out: *mut f64,
         n_out: usize,
     ) -> Track;
+    pub fn cauchy_store_page(
+        floats: *const f64,
+        n_floats: usize,
+        words: *const u32,
+        n_words: usize,
+        page: *mut u8,
+        n_page: usize,
+    ) -> Bytes;
 
     pub safe fn cauchy_kernel_from_file(kernel: FileKernel, default_alpha: f64) -> Kernel;
     pub fn cauchy_convert(

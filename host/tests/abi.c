@@ -239,6 +239,8 @@ static void advance(void) {
     const CauchyConvention by_mass = convention(CAUCHY_MASS, 9e5, 1300);
     CauchyTrack t = cauchy_store_track(floats, N_FLOATS, words, N_WORDS, by_mass, xyz, 5, NULL, 0);
     CHECK(t.no == CAUCHY_UNFINISHED && t.points == 0);
+    CauchyBytes p = cauchy_store_page(floats, N_FLOATS, words, N_WORDS, NULL, 0);
+    CHECK(p.no == CAUCHY_UNFINISHED && p.bytes == 0);
     CauchyStoreReport r = cauchy_store_report(floats, N_FLOATS, words, N_WORDS, convention(CAUCHY_RAW, 0, 0));
     CHECK(r.no == CAUCHY_UNFINISHED && r.kernels == 0 && r.pieces == 0 && r.error == 0);
     CHECK(r.report.raw_mass == 0 && r.report.rho0_scale == 0 && r.report.rho0_mass == 0 && r.report.applied_scale == 0);
@@ -403,6 +405,136 @@ static void readings(void) {
     check_report(convention(77, 7e5, 1300), 1300, 7e5);
     CauchyValue d = cauchy_store_density(NULL, 0, NULL, 0, convention(CAUCHY_RAW, 0, 0), vector(1, 2, 3));
     CHECK(d.no == CAUCHY_SHORT_STORE && d.value == 0);
+}
+
+/* ---- The wall page ----------------------------------------------------------------------------------- */
+
+enum { LINE_BYTES = 65, PAGE = LINE_BYTES * (CAUCHY_PLACES + 1) };
+
+static uint8_t page[PAGE + 3];
+static char wanted[PAGE + 1];
+
+static void clean_page(void) { memset(page, 0xaa, sizeof page); }
+
+static int page_untouched(void) {
+    for (size_t i = 0; i < sizeof page; i++) if (page[i] != 0xaa) return 0;
+    return 1;
+}
+
+/* Whether a page of this store is the text that is wanted, exactly as long, and the bytes past it stay. */
+static int pinned(const double *f, const uint32_t *w) {
+    const size_t bytes = strlen(wanted);
+    for (size_t room = bytes; room <= bytes + 3; room++) {
+        clean_page();
+        const CauchyBytes p = cauchy_store_page(f, N_FLOATS, w, N_WORDS, page, room);
+        if (p.no != 0 || p.bytes != bytes || memcmp(page, wanted, bytes)) return 0;
+        for (size_t i = bytes; i < sizeof page; i++) if (page[i] != 0xaa) return 0;
+    }
+    return 1;
+}
+
+static int not_pinned(const double *f, const uint32_t *w, size_t room, uint32_t no) {
+    clean_page();
+    const CauchyBytes p = cauchy_store_page(f, N_FLOATS, w, N_WORDS, page, room);
+    return p.no == no && p.bytes == 0 && page_untouched();
+}
+
+/* The store of this test: a place of one piece and one of 13, masses worked here. */
+static void pages(void) {
+    const long long first = llrint(mass_of(list, 1)), second = llrint(mass_of(list + 6, 13));
+    CHECK(CAUCHY_PAGE_BYTES(2) == 3 * LINE_BYTES && CAUCHY_PAGE_BYTES(CAUCHY_PLACES) == PAGE);
+    sprintf(wanted, " 3  1%59lld\n31 13%59lld\nTOTAL%59lld\n", first, second, first + second);
+    CHECK(strlen(wanted) == CAUCHY_PAGE_BYTES(2) && first > 1000 && second > 1000);
+    remember();
+    CHECK(pinned(floats, words) && unchanged());
+    CHECK(not_pinned(floats, words, 3 * LINE_BYTES - 1, CAUCHY_SHORT_PAGE));
+    CHECK(not_pinned(floats, words, 0, CAUCHY_SHORT_PAGE) && unchanged());
+    CHECK(cauchy_store_page(NULL, 0, NULL, 0, page, PAGE).no == CAUCHY_SHORT_STORE && page_untouched());
+    CauchyBytes p = cauchy_store_page(floats, N_FLOATS, words, 97, page, PAGE);
+    CHECK(p.no == CAUCHY_SHORT_STORE && p.bytes == 0 && page_untouched());
+    words[98] = V;
+    CHECK(not_pinned(floats, words, PAGE, CAUCHY_UNSOUND));
+    words[98] = faces[0];
+}
+
+static double paged_floats[N_FLOATS];
+static uint32_t paged_words[N_WORDS];
+
+/* A store of so many places of one piece, whose volumes become 1, so that a weight is its place's mass. */
+static void fill_pages(uint32_t places) {
+    double *f = paged_floats;
+    uint32_t *w = paged_words;
+    CHECK(cauchy_store_open(f, N_FLOATS, w, N_WORDS, radius, xyz, N_XYZ, faces, N_FACES).no == 0);
+    for (uint32_t i = 0; i < places; i++) CHECK(cauchy_store_put(f, N_FLOATS, w, N_WORDS, i, flat()).pieces == 1);
+    CHECK(cauchy_store_advance(f, N_FLOATS, w, N_WORDS, UINT64_MAX).left == 0);
+    for (uint32_t i = 0; i < places; i++) f[225 + 48 * i + 2] = 1;
+}
+
+static void weigh(uint32_t place, double w) {
+    CHECK(cauchy_store_reweigh(paged_floats, N_FLOATS, paged_words, N_WORDS, place, w) == 0);
+}
+
+/* To the nearest, ties to even, no minus before 0; the total is of what is printed. */
+static void rounded_pages(void) {
+    const struct {
+        double mass;
+        const char *printed, *twice;
+    } rows[] = {
+        {0, "0", "0"},       {-0.0, "0", "0"},   {0.3, "0", "0"},     {-0.3, "0", "0"},   {-0.4, "0", "0"},
+        {0.5, "0", "0"},     {-0.5, "0", "0"},   {0.6, "1", "2"},     {-0.6, "-1", "-2"}, {1.5, "2", "4"},
+        {-1.5, "-2", "-4"},  {2.5, "2", "4"},    {-2.5, "-2", "-4"},  {3.5, "4", "8"},    {5e-324, "0", "0"},
+        {0.49999999999999994, "0", "0"},         {0.5000000000000001, "1", "2"},
+        {1.4999999999999998, "1", "2"},          {-7, "-7", "-14"},   {4503599627370496, "", ""},
+        {4503599627370.5, "4503599627370", "9007199254740"},
+        {-4503599627371.5, "-4503599627372", "-9007199254744"},
+        {999999999999998.5, "999999999999998", "1999999999999996"},
+        {999999999999999.5, "1000000000000000", "2000000000000000"},
+        {1e15, "1000000000000000", "2000000000000000"},
+        {-1e15, "-1000000000000000", "-2000000000000000"},
+        {1000000000000000.125, "", ""},          {-1000000000000000.125, "", ""},
+        {INFINITY, "", ""},  {-INFINITY, "", ""}, {NAN, "", ""},      {1e300, "", ""},
+    };
+    fill_pages(2);
+    for (size_t row = 0; row < sizeof rows / sizeof *rows; row++) {
+        weigh(0, rows[row].mass), weigh(1, rows[row].mass);
+        const char *m = rows[row].printed;
+        sprintf(wanted, " 0  1%59s\n 1  1%59s\nTOTAL%59s\n", m, m, rows[row].twice);
+        CHECK(*m ? pinned(paged_floats, paged_words) : not_pinned(paged_floats, paged_words, PAGE, CAUCHY_NO_FIGURE));
+        /* no figure for one place alone, and told before a page that is too short */
+        weigh(*m ? 1 : 0, 5);
+        CHECK(not_pinned(paged_floats, paged_words, 0, *m ? CAUCHY_SHORT_PAGE : CAUCHY_NO_FIGURE));
+    }
+}
+
+/* No place, all of them, and one without pieces. */
+static void full_pages(void) {
+    fill_pages(0);
+    sprintf(wanted, "TOTAL%59d\n", 0);
+    CHECK(CAUCHY_PAGE_BYTES(0) == LINE_BYTES && pinned(paged_floats, paged_words));
+    CHECK(not_pinned(paged_floats, paged_words, LINE_BYTES - 1, CAUCHY_SHORT_PAGE));
+
+    fill_pages(CAUCHY_PLACES);
+    char *at = wanted;
+    long long sum = 0;
+    for (int i = 0; i < CAUCHY_PLACES; i++) {
+        const long long mass = (i % 3 - 1) * 1000000000000000LL / (i + 1);
+        weigh((uint32_t)i, (double)mass);
+        at += sprintf(at, "%2d  1%59lld\n", i, mass);
+        sum += mass;
+    }
+    sprintf(at, "TOTAL%59lld\n", sum);
+    CHECK(strlen(wanted) == PAGE && pinned(paged_floats, paged_words));
+    CHECK(not_pinned(paged_floats, paged_words, PAGE - 1, CAUCHY_SHORT_PAGE));
+    for (uint32_t i = 0; i < CAUCHY_PLACES; i++) weigh(i, -1e15);
+    CHECK(cauchy_store_page(paged_floats, N_FLOATS, paged_words, N_WORDS, page, PAGE).bytes == PAGE);
+    CHECK(!memcmp(page + PAGE - 21, "  -32000000000000000\n", 21));
+
+    fill_pages(0);
+    CauchyKernel none = flat();
+    none.alpha = NAN, none.w = NAN;
+    CHECK(cauchy_store_put(paged_floats, N_FLOATS, paged_words, N_WORDS, 9, none).pieces == 0);
+    sprintf(wanted, " 9  0%59d\nTOTAL%59d\n", 0, 0);
+    CHECK(pinned(paged_floats, paged_words));
 }
 
 static void kernels(void) {
@@ -681,6 +813,9 @@ int main(void) {
     bills();
     readings();
     refused_tracks();
+    pages();
+    rounded_pages();
+    full_pages();
     kernels();
     conversions();
     strict_conversions();

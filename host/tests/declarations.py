@@ -12,8 +12,8 @@ from header import header
 # Rust's and Rattle's names of the types in C; a type of the crate is the C type with `Cauchy` before it.
 TYPES = {"f64": "double", "u32": "uint32_t", "u64": "uint64_t", "usize": "size_t", "u8": "uint8_t"}
 RATTLE_TYPES = {"V3": "Vector"}
-# Arguments that have a shorter name in Rattle.
-RATTLE_NAMES = {"k": "kernel", "default": "default_alpha"}
+# Arguments that have another name in Rattle, in every function or in one.
+RATTLE_NAMES = {"k": "kernel", "default": "default_alpha", "cauchy_store_page.out": "page"}
 
 
 class Difference(Exception):
@@ -66,10 +66,10 @@ def rust_functions(text):
     return functions
 
 
-def rattle_arguments(text):
+def rattle_arguments(function, text):
     """A run `&[T]` is a pointer and a count in C."""
     for name, kind in rust_variables(text):
-        name = RATTLE_NAMES.get(name, name)
+        name = RATTLE_NAMES.get(f"{function}.{name}", RATTLE_NAMES.get(name, name))
         run = re.fullmatch(r"&(mut )?\[(\w+)\]", kind)
         if run:
             yield name, ("" if run[1] else "const ") + c_type(run[2]) + "*"
@@ -81,7 +81,7 @@ def rattle_arguments(text):
 def rattle_functions(text):
     found = re.findall(r'pub extern "C" fn (\w+)\((.*?)\) -> (\w+) ensures', code(text))
     need(len(found) == code(text).count('extern "C"'), "crates/cauchy: an exported function that is not understood")
-    return {name: (list(rattle_arguments(arguments)), c_type(answer)) for name, arguments, answer in found}
+    return {name: (list(rattle_arguments(name, arguments)), c_type(answer)) for name, arguments, answer in found}
 
 
 # ---- The comparison ---------------------------------------------------------------------------------------------
@@ -180,6 +180,8 @@ EDITS = [
     ("host/include/cauchy.h", "double default_alpha, uint32_t loader",
      "uint32_t loader, double default_alpha", "cauchy_convert, argument 3"),
     ("host/src/sys.rs", "lines: *const u8", "lines: *const f64", "cauchy_convert, argument 1"),
+    ("host/src/sys.rs", "page: *mut u8", "page: *const u8", "cauchy_store_page, argument 5"),
+    ("host/src/sys.rs", "pub bytes: u64", "pub bytes: u32", "CauchyBytes, field 2"),
     ("host/include/cauchy.h", "CAUCHY_VACANT = 7", "CAUCHY_VACANT = 13", "CAUCHY_VACANT"),
     ("host/include/cauchy.h", "CAUCHY_MUST_USE\nCauchyTrack", "CauchyTrack", "cauchy_store_track: CAUCHY_MUST_USE"),
     ("host/c/cauchy_host.c", "vacant: the place", "vacant: a place", "CAUCHY_VACANT"),

@@ -34,8 +34,8 @@ from .meshes import body_volume, closed, field_mass, homogeneous, kernel_volume,
 from .numbers import arc, exp, log, log10, power, radial_g, root, ten
 from .refusals import (
     REFUSALS, BadKernelLine, BadMatrix, BadTrack, Exponent, FlatPivot, FloatStateError, LoadersDiffer, LooseCorner,
-    ManyKernels, NoPlace, NotClosed, Oversize, Ragged, Refused, ShortList, ShortStore, Unfinished, UnknownRefusal,
-    Unsound, Vacant, check_float_state,
+    ManyKernels, NoFigure, NoPlace, NotClosed, Oversize, Ragged, Refused, ShortList, ShortPage, ShortStore, Unfinished,
+    UnknownRefusal, Unsound, Vacant, check_float_state,
 )
 from .snapshot import SnapshotError
 from .source import (
@@ -52,12 +52,12 @@ __all__ = [
     "MAX_FACES", "MAX_PIECES", "MAX_TRACK", "MAX_VERTICES", "PLACES", "RAW", "REFUSALS", "BadKernelLine",
     "BadMatrix", "BadTrack", "Bill", "Convention", "Exponent", "FlatPivot", "FloatStateError", "Floats", "Held",
     "Items", "Kernel", "KernelList", "Loader", "LoadersDiffer", "LooseCorner", "ManyKernels", "MassReport",
-    "NoPlace", "NotClosed", "Oversize", "Pieces", "Placed", "Ragged", "Refused", "ShortList", "ShortStore",
-    "SnapshotError", "Steps", "Store", "StoreReport", "Unfinished", "UnknownRefusal", "Unsound", "Vacant", "arc",
-    "bill", "body_volume", "check_float_state", "closed", "convert", "decompose", "decompose_list", "densitize",
-    "exp", "field_mass", "homogeneous", "kernel_from_file", "kernel_volume", "log", "log10", "mass", "power",
-    "radial_g", "rho0", "root", "solve", "source_calibrate", "source_density_at", "source_enclosed_volume",
-    "source_kernel_volume", "source_normalize", "ten", "volume_centroid",
+    "NoFigure", "NoPlace", "NotClosed", "Oversize", "Pieces", "Placed", "Ragged", "Refused", "ShortList",
+    "ShortPage", "ShortStore", "SnapshotError", "Steps", "Store", "StoreReport", "Unfinished", "UnknownRefusal",
+    "Unsound", "Vacant", "arc", "bill", "body_volume", "check_float_state", "closed", "convert", "decompose",
+    "decompose_list", "densitize", "exp", "field_mass", "homogeneous", "kernel_from_file", "kernel_volume", "log",
+    "log10", "mass", "power", "radial_g", "rho0", "root", "solve", "source_calibrate", "source_density_at",
+    "source_enclosed_volume", "source_kernel_volume", "source_normalize", "ten", "volume_centroid",
 ]
 
 # Users know these names by this package, and so do messages, pickles and doctests.

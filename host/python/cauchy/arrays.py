@@ -216,6 +216,11 @@ def written(out: Any) -> Run:
     return _of(out, len(out), _FLOATS)
 
 
+def written_octets(out: bytearray) -> Run:
+    """New bytes, to be written."""
+    return _of(out, len(out), _BYTES)
+
+
 def _run(values: Items, name: str, width: int, kind: _Kind) -> Run:
     view = _buffer(values, name)
     if view is None:

@@ -21,8 +21,9 @@ WORDS_BEFORE_MESH = 98
 RAW_KIND, RHO0_KIND, MASS_KIND = 0, 1, 2
 NATIVE_LOADER, SOURCE_LOADER, STRICT_LOADER = 0, 1, 2
 
-# The bytes of the shortest kernel line of a file, one without an exponent, and its newline.
+# The bytes of the shortest kernel line of a file, one without an exponent, and its newline; those of a line of a page.
 SHORTEST_LINE = 123
+PAGE_LINE = 65
 
 
 class CauchyVector(Structure):
@@ -91,6 +92,10 @@ class CauchyTrack(Structure):
     _fields_ = [("no", c_uint32), ("points", c_uint32)]
 
 
+class CauchyBytes(Structure):
+    _fields_ = [("no", c_uint32), ("bytes", c_uint64)]
+
+
 class CauchyKernels(Structure):
     _fields_ = [("no", c_uint32), ("kernels", c_uint64)]
 
@@ -124,6 +129,7 @@ PROTOTYPES: Dict[str, Tuple[Any, ...]] = {
     "store_report": (CauchyStoreReport, *_STORE, CauchyConvention),
     "store_list": (CauchyListed, *_STORE, CauchyConvention, *_FLOATS),
     "store_track": (CauchyTrack, *_STORE, CauchyConvention, *_FLOATS, *_FLOATS),
+    "store_page": (CauchyBytes, *_STORE, *_BYTES),
     "kernel_from_file": (CauchyKernel, CauchyFileKernel, c_double),
     "convert": (CauchyKernels, *_BYTES, c_double, c_uint32, *_FLOATS),
     "decompose": (CauchyPieces, CauchyKernel, c_double, *_FLOATS),

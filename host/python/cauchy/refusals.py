@@ -129,6 +129,20 @@ class ManyKernels(Refused):
     meaning = "many kernels: a bill takes at most 32"
 
 
+class NoFigure(Refused):
+    """The mass of a place is NaN or exceeds 10^15 kg, and a page cannot show it."""
+
+    number = 17
+    meaning = "no figure: the mass of a place is NaN or exceeds 10^15 kg"
+
+
+class ShortPage(Refused):
+    """The bytes to be written are too few for the page. Those that this package lends never are."""
+
+    number = 18
+    meaning = "short page: 65 bytes are needed for each filled place and for the total"
+
+
 class BadKernelLine(Refused):
     """A line of a file is no kernel line: also one without its newline, or with a carriage return before it."""
 
@@ -154,7 +168,7 @@ REFUSALS: Dict[int, Type[Refused]] = {
     kind.number: kind
     for kind in (
         Ragged, Oversize, LooseCorner, ShortStore, Unsound, NoPlace, Vacant, Unfinished, ShortList, BadMatrix,
-        FlatPivot, Exponent, BadTrack, ManyKernels, BadKernelLine, LoadersDiffer, NotClosed,
+        FlatPivot, Exponent, BadTrack, ManyKernels, NoFigure, ShortPage, BadKernelLine, LoadersDiffer, NotClosed,
     )
 }
 

@@ -3,7 +3,7 @@ from array import array
 from typing import Any, Iterator, List, Optional, Tuple, Union, overload
 
 from . import arrays, snapshot
-from .library import FLOATS_BEFORE_MESH, MAX_PIECES, MAX_TRACK, PLACES, WORDS_BEFORE_MESH, call
+from .library import FLOATS_BEFORE_MESH, MAX_PIECES, MAX_TRACK, PAGE_LINE, PLACES, WORDS_BEFORE_MESH, call
 from .memory import Runs
 from .refusals import NoPlace, Refused, Unsound, check_float_state
 from .turns import Turns
@@ -16,7 +16,7 @@ _KERNELS_AT, _KERNEL_FLOATS = 1, 7
 _STATES_AT, _STATE_WORDS = 2, 3
 
 # The functions that only read a store, so that they may share it; the header's `const` says the same.
-READINGS = frozenset(("store_density", "store_report", "store_list", "store_track"))
+READINGS = frozenset(("store_density", "store_report", "store_list", "store_track", "store_page"))
 
 
 class Store:
@@ -219,6 +219,30 @@ class Store:
         out = array("d", [0.0]) * (PLACES * MAX_PIECES * 6)
         answer = self._call("store_list", crossing_convention(convention), *arrays.written(out).lent())
         return listed(out, answer.pieces)
+
+    def page(self) -> str:
+        """The wall page: a line of 64 characters for each filled place, in order, with its number in columns 1-2, its
+        pieces in 4-5 and its own field mass in 45-64, by the weight as entered and in whole kilograms, to the nearest
+        and ties to even; then a line with TOTAL and the sum of the printed masses. Each line ends in a newline. It
+        needs all work done, and no mass that is NaN or exceeds 10^15 kg.
+
+        >>> store = Store(6, [0, 0, 0, 6, 0, 0, 0, 6, 0, 0, 0, 6], [0, 2, 1, 0, 1, 3, 0, 3, 2, 1, 2, 3])
+        >>> store.put(7, Kernel((1, 1, 1), 0, 1000, 1)), store.put(12, Kernel((1, 1, 1), 0, -1, 1))
+        (Placed(pieces=1, need=4), Placed(pieces=1, need=4))
+        >>> store.advance(8)
+        Steps(done=8, left=0)
+        >>> print(store.page(), end="")
+         7  1                                                      36000
+        12  1                                                        -36
+        TOTAL                                                      35964
+        >>> store.reweigh(7, float("nan"))
+        >>> store.page()
+        Traceback (most recent call last):
+        cauchy.NoFigure: no figure: the mass of a place is NaN or exceeds 10^15 kg (no 17)
+        """
+        out = bytearray(PAGE_LINE * (PLACES + 1))
+        answer = self._call("store_page", *arrays.written_octets(out).lent())
+        return bytes(out[:answer.bytes]).decode("ascii")
 
     def held(self, place: int) -> Optional[Held]:
         """What a place holds; None where it is empty.

@@ -93,7 +93,7 @@ RIGHT = {
 METHODS = {
     "put": "place kernel", "clear": "place", "reweigh": "place number", "squeeze": "", "advance": "budget", "left": "",
     "work": "budget", "density": "convention point", "track": "convention points", "report": "convention",
-    "list": "convention", "held": "place", "mesh": "", "to_bytes": "", "copy": "",
+    "list": "convention", "page": "", "held": "place", "mesh": "", "to_bytes": "", "copy": "",
 }
 FUNCTIONS = {
     "Store": "number vertices faces", "Store.from_bytes": "bytes", "Kernel": "point number number number",

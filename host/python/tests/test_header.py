@@ -54,7 +54,7 @@ class Declarations(unittest.TestCase):
     def test_all_functions_and_structures_are_the_headers(self):
         self.assertEqual(list(differences(TEXT)), [])
         functions, structures, _, _ = header(TEXT)
-        self.assertGreaterEqual((len(functions), len(structures)), (36, 19))
+        self.assertGreaterEqual((len(functions), len(structures)), (37, 20))
 
     def test_changes_of_the_header_are_seen(self):
         changes = [
@@ -70,6 +70,8 @@ class Declarations(unittest.TestCase):
             ("uint64_t steps, floats;", "uint64_t floats, steps;"),
             ("const uint8_t *lines, size_t n_lines, double", "const double *lines, size_t n_lines, double"),
             ("double default_alpha, uint32_t loader,", "uint32_t loader, double default_alpha,"),
+            ("uint64_t bytes;", "uint32_t bytes;"),
+            ("uint8_t *page, size_t n_page", "double *page, size_t n_page"),
         ]
         for old, new in changes:
             with self.subTest(old=old):
@@ -93,7 +95,7 @@ class Declarations(unittest.TestCase):
         functions, _, _, _ = header(TEXT)
         written = {name for arguments, _ in functions.values() for name, kind in arguments
                    if kind.endswith("*") and "const" not in kind}
-        self.assertEqual(written, {"floats", "words", "out", "answer"})
+        self.assertEqual(written, {"floats", "words", "out", "answer", "page"})
 
     def test_the_archive_has_no_other_function(self):
         try:
@@ -125,6 +127,8 @@ class Numbers(unittest.TestCase):
             self.assertEqual(getattr(library, f"{name}_KIND"), self.constants[f"CAUCHY_{name}"])
         for name in ("NATIVE", "SOURCE", "STRICT"):
             self.assertEqual(getattr(library, f"{name}_LOADER"), self.constants[f"CAUCHY_{name}"])
+        page = re.search(r"#define CAUCHY_PAGE_BYTES\(P\) \(\(size_t\)(\d+) \* \(\(size_t\)\(P\) \+ 1\)\)", TEXT)
+        self.assertEqual(library.PAGE_LINE, int(page[1]))
         enough = re.search(r"#define CAUCHY_CONVERT_FLOATS\(B\) \(\(size_t\)6 \* \(\(size_t\)\(B\) / (\d+)\)\)", TEXT)
         self.assertEqual(library.SHORTEST_LINE, int(enough[1]))
         for name in ("FLOATS", "WORDS"):

@@ -36,7 +36,7 @@ def work(store, places):
 
 
 def figures(store):
-    return store.report(mass(5e11)), store.list(rho0()), bytes(store.floats), bytes(store.words)
+    return store.report(mass(5e11)), store.list(rho0()), store.page(), bytes(store.floats), bytes(store.words)
 
 
 class Threads(unittest.TestCase):

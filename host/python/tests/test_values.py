@@ -179,6 +179,57 @@ class Bills(unittest.TestCase):
             self.assertLessEqual(6 * len(store.list(RAW)), due.floats)
 
 
+class Pages(unittest.TestCase):
+    MASSES = {0.3: 0, -0.4: 0, -0.5: 0, 0.5: 0, 1.5: 2, 2.5: 2, -2.5: -2, 123456.75: 123457, 1e15: 10**15,
+              -1e15: -10**15}
+
+    def store(self, *places):
+        store = Store(500, *sphere(0))
+        for place in places:
+            store.put(place, Kernel((0, 0, 0), 0, 1, 1))
+        list(store.work())
+        return store
+
+    def test_it_shows_each_place_and_the_total(self):
+        store = self.store(0, 9, 10, 31)
+        store.put(10, Kernel((50, 0, 0), 0.01, 300, 2))
+        store.put(31, Kernel((50, 0, 0), 0.01, 300, NAN))
+        list(store.work())
+        masses, rest = {}, store.list(RAW)
+        for place in (0, 9, 10, 31):
+            own, rest = rest[:store.held(place).pieces], rest[store.held(place).pieces:]
+            masses[place] = round(cauchy.field_mass(*sphere(0), own))
+        lines = [f"{place:2} {store.held(place).pieces:2}{mass:59}\n" for place, mass in masses.items()]
+        self.assertEqual(store.page(), "".join(lines) + f"TOTAL{sum(masses.values()):59}\n")
+        self.assertEqual([len(line) for line in store.page().splitlines()], [64] * 5)
+
+    def test_masses_are_rounded_to_the_nearest_ties_to_even(self):
+        store = self.store(3)
+        volume = store.report(RAW).raw_mass
+        for mass, printed in self.MASSES.items():
+            weights = [mass / volume * (1 + i * 2.0**-53) for i in (0, 2, -1, 4, -2, 6, -3)]
+            found = [w for w in weights if not store.reweigh(3, w) and store.report(RAW).raw_mass == mass]
+            self.assertTrue(found, f"no weight gives a mass of exactly {mass}")
+            store.reweigh(3, found[0])
+            self.assertEqual(store.page(), f" 3  1{printed:59}\nTOTAL{printed:59}\n")
+
+    def test_no_place_and_all_of_them(self):
+        self.assertEqual(self.store().page(), f"TOTAL{0:59}\n")
+        self.assertEqual(len(self.store(*range(32)).page()), 65 * 33)
+
+    def test_it_is_refused_and_changes_nothing(self):
+        store = self.store(3, 4)
+        for weight in (NAN, float("inf"), 1e300, -1e300):
+            store.reweigh(4, weight)
+            before = store.to_bytes()
+            with self.assertRaises(cauchy.NoFigure):
+                store.page()
+            self.assertEqual(store.to_bytes(), before)
+        store.put(5, Kernel((0, 0, 0), 0, 1, 1))
+        with self.assertRaises(cauchy.Unfinished):
+            store.page()
+
+
 def line(*numbers):
     """A kernel line of a file: x, y, z, sigma, w, and the exponent where there is one."""
     x, y, z, sigma, w, alpha = (digits(number) for number in (*numbers, None)[:6])
@@ -270,6 +321,9 @@ class Refusals(unittest.TestCase):
         store.put(0, Kernel((0, 0, 0), 1, 2, 1))
         vertices, faces = sphere(0)
         wide = [Kernel((0, 0, 0), 1, 2, 2)]
+        heavy = store.copy()
+        heavy.put(1, Kernel((0, 0, 0), 0, 1e15, 1))
+        heavy.advance(10**6)
         told = {
             cauchy.Ragged: lambda: Store(1, [0] * 8, []),
             cauchy.Oversize: lambda: Store(1, bytearray_view(3 * 1048577), []),
@@ -283,6 +337,7 @@ class Refusals(unittest.TestCase):
             cauchy.Exponent: lambda: cauchy.source_normalize(vertices, faces, wide, 1),
             cauchy.BadTrack: lambda: store.track(RAW, [0] * 4),
             cauchy.ManyKernels: lambda: cauchy.bill(wide * 33, 6, 8),
+            cauchy.NoFigure: lambda: heavy.page(),
             cauchy.BadKernelLine: lambda: cauchy.convert(LINE[1:], 1, Loader.NATIVE),
             cauchy.LoadersDiffer: lambda: cauchy.convert(line(1, 2, 3, 4, 5, -0.0), 0, Loader.STRICT),
             cauchy.NotClosed: lambda: cauchy.closed(vertices, faces[1:]),
@@ -290,7 +345,8 @@ class Refusals(unittest.TestCase):
         for kind, call in told.items():
             with self.subTest(kind=kind), self.assertRaises(kind):
                 call()
-        self.assertEqual(set(cauchy.REFUSALS.values()) - set(told), {cauchy.ShortStore, cauchy.Unsound})
+        unseen = {cauchy.ShortStore, cauchy.Unsound, cauchy.ShortPage}
+        self.assertEqual(set(cauchy.REFUSALS.values()) - set(told), unseen)
 
 
 def released():

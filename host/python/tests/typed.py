@@ -17,6 +17,7 @@ again: cauchy.Store = cauchy.Store.from_bytes(store.to_bytes())
 pieces: Tuple[cauchy.Kernel, ...] = cauchy.decompose(kernel, 500).pieces
 number: int = cauchy.NoPlace.number
 steps: int = cauchy.bill([kernel], 3, 1).steps
+page: str = store.page()
 converted: List[cauchy.Kernel] = cauchy.convert(b"", 1.5, cauchy.Loader.STRICT)
 
 cauchy.Kernel((0.0, 0.0), 1.0, 2.0, 1.0)  # type: ignore[arg-type]
