@@ -329,6 +329,76 @@ fn unused_vertices_are_counted_and_taken_out() {
     assert!((report(&said), files()) == wanted);
 }
 
+/// The wall page in what a run prints.
+fn wall(said: &str) -> String {
+    let lines = said.split("\nWall page: ").nth(1).unwrap().lines().skip(1);
+    lines.map_while(|line| line.strip_prefix("  ")).map(|line| format!("{line}\n")).collect()
+}
+
+#[test]
+fn the_wall_page_is_printed_and_written() {
+    let folder = Folder::new("page");
+    let said = folder.goes("run a.obj k.txt --raw --page wall.txt --snapshot s.snap");
+    let page = folder.goes("page s.snap");
+    assert_eq!((wall(&said), folder.read("wall.txt")), (page.clone(), page.clone().into_bytes()));
+    assert!(said.contains("written   wall.txt\n"), "{said}");
+    assert!(page.lines().all(|line| line.len() == 64) && page.len() == 3 * 65, "{page}");
+    let figures: Vec<Vec<&str>> = page.lines().map(|line| line.split_whitespace().collect()).collect();
+    let mass = |line: &[&str]| line.last().unwrap().parse::<i64>().unwrap();
+    assert_eq!((&figures[0][..2], &figures[1][..2]), (&["0", "1"][..], &["1", "13"][..]));
+    assert_eq!((figures[2][0], mass(&figures[2])), ("TOTAL", mass(&figures[0]) + mass(&figures[1])));
+    assert!(mass(&figures[0]) > 0 && mass(&figures[1]) < 0, "{page}");
+
+    // no convention changes it, and a store that was resumed has the same
+    let rescaled = folder.goes("run a.obj k.txt --mass 1e11 --snapshot begun --steps 9");
+    assert!(!rescaled.contains("Wall page"), "{rescaled}");
+    folder.fails(
+        "page begun",
+        1,
+        "begun: unfinished: work is left that this reading needs (no 8); cauchy resume",
+    );
+    let said = folder.goes("resume begun --mass 1e11 --snapshot begun --page again.txt");
+    assert_eq!((wall(&said), folder.read("again.txt")), (page.clone(), page.clone().into_bytes()));
+    assert_eq!(folder.goes("page begun"), page);
+
+    folder.fails("run a.obj k.txt --raw --page wall.txt", 1, "wall.txt: is there already");
+    folder.fails("run a.obj k.txt --raw --page p --list ./p", 2, "two outputs are to go there");
+    folder.fails("run a.obj k.txt --raw --page k.txt --overwrite", 2, "k.txt: it is read");
+    folder.fails("page none.snap", 1, "none.snap: no such file");
+    folder.fails("page a.obj", 1, "a.obj: not a snapshot of a store");
+    folder.fails("page s.snap --raw", 2, "page takes no option");
+}
+
+#[test]
+fn a_mass_without_a_figure_has_no_page() {
+    let folder = Folder::new("no-figure");
+    let told = "no figure: the mass of a place is NaN or exceeds 10^15 kg (no 17)";
+    folder.write("heavy.txt", format!("{KERNELS}0 0 0 0 1e90 1\n"));
+    let said = folder.goes("run a.obj heavy.txt --raw --list l.csv --snapshot heavy.snap");
+    assert!(said.contains(&format!("\nWall page: {told}\n")), "{said}");
+    folder.fails("page heavy.snap", 1, &format!("heavy.snap: {told}"));
+    // the other files are written
+    let output = folder.run("run a.obj heavy.txt --raw --list l.csv --page wall.txt --overwrite");
+    assert_eq!(output.status.code(), Some(1));
+    assert_eq!(String::from_utf8_lossy(&output.stderr), format!("cauchy: page: {told}\n"));
+    assert!(folder.read("l.csv").starts_with(b"place,") && !folder.0.join("wall.txt").exists());
+    folder.write("nan.lines", line([0.1, 0.1, 0.1, 2.0, f64::NAN], None));
+    assert!(folder.goes("run a.obj nan.lines --raw").contains(&format!("\nWall page: {told}\n")));
+}
+
+#[test]
+fn a_page_of_an_open_shell_has_a_note_beside_it() {
+    let folder = Folder::new("open-page");
+    folder.write("hole.obj", BODY.replace("f 2 3 4\n", ""));
+    let said = folder.goes("run hole.obj k.txt --raw --snapshot hole.snap");
+    let output = folder.run("page hole.snap");
+    assert!(output.status.success());
+    assert_eq!(String::from_utf8(output.stdout).unwrap(), wall(&said));
+    let note =
+        "cauchy: hole.snap: note: the mesh is NOT closed: field mass means nothing on a shell with a hole\n";
+    assert_eq!(String::from_utf8_lossy(&output.stderr), note);
+}
+
 #[test]
 fn bad_files_are_named() {
     let folder = Folder::new("bad-files");

@@ -13,6 +13,7 @@ mod page;
 mod plot;
 mod reading;
 mod track;
+mod wall;
 mod work;
 
 use failure::{Failure, Result};
@@ -27,6 +28,7 @@ fn main() -> ExitCode {
         Command::Help => say(include_str!("help.txt")),
         Command::Version => say(concat!("cauchy ", env!("CARGO_PKG_VERSION"), "\n")),
         Command::Bill(files) => bill::print(&files),
+        Command::Page(snapshot) => wall::print(&snapshot),
         Command::Work(options) => run(&options),
     });
     match told {

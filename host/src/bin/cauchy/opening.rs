@@ -41,10 +41,14 @@ pub fn open(origin: &Origin, squeeze: bool) -> Result<Opening> {
     Ok(Opening { store: opened.store, closed, head })
 }
 
-/// The store of a snapshot. It has no bill: the steps that are left are known.
+/// The store of a snapshot.
+pub fn snapshot(path: &Path) -> Result<Store> {
+    Store::from_bytes(&input::bytes(path)?).map_err(|fault| Failure::of_file(path, fault))
+}
+
+/// A snapshot has no bill: the steps that are left are known.
 fn open_snapshot(path: &Path) -> Result<Opened> {
-    let bytes = std::fs::read(path).map_err(|fault| Failure::of_system(path, &fault))?;
-    let store = Store::from_bytes(&bytes).map_err(|fault| Failure::of_file(path, fault))?;
+    let store = snapshot(path)?;
     let mesh = vec![format!("of the snapshot {}", path.display())];
     Ok(Opened { store, mesh, kernels: vec!["of the snapshot".to_string()], bill: vec![] })
 }

@@ -12,6 +12,8 @@ pub enum Command {
     Version,
     /// The bill of a mesh and a kernel list.
     Bill(Files),
+    /// The wall page of a snapshot.
+    Page(PathBuf),
     Work(Box<Options>),
 }
 
@@ -40,6 +42,7 @@ pub struct Options {
     pub csv: Option<PathBuf>,
     pub svg: Option<PathBuf>,
     pub list: Option<PathBuf>,
+    pub page: Option<PathBuf>,
     pub snapshot: Option<PathBuf>,
     pub steps: Option<u64>,
     pub squeeze: bool,
@@ -60,6 +63,7 @@ struct Given {
     csv: Option<PathBuf>,
     svg: Option<PathBuf>,
     list: Option<PathBuf>,
+    page: Option<PathBuf>,
     snapshot: Option<PathBuf>,
     steps: Option<u64>,
     squeeze: Option<()>,
@@ -88,7 +92,10 @@ pub fn parse(words: impl IntoIterator<Item = OsString>) -> Result<Command> {
         Some("run") => given.run(),
         Some("bill") => given.bill(),
         Some("resume") => given.resume(),
-        _ => Failure::usage(format!("{}: the commands are run, resume, bill and help", first.display())),
+        Some("page") => given.page(),
+        _ => {
+            Failure::usage(format!("{}: the commands are run, resume, bill, page and help", first.display()))
+        }
     }
 }
 
@@ -117,6 +124,7 @@ impl Given {
                 "--csv" => once(name, &mut given.csv, value()?.into())?,
                 "--svg" => once(name, &mut given.svg, value()?.into())?,
                 "--list" => once(name, &mut given.list, value()?.into())?,
+                "--page" => once(name, &mut given.page, value()?.into())?,
                 "--snapshot" => once(name, &mut given.snapshot, value()?.into())?,
                 "--steps" => once(name, &mut given.steps, whole(name, value()?)?)?,
                 "--squeeze" => once(name, &mut given.squeeze, ())?,
@@ -158,11 +166,24 @@ impl Given {
         }
     }
 
+    fn page(mut self) -> Result<Command> {
+        let snapshot = self.snapshot_file("page")?;
+        if self != Given::default() {
+            return Failure::usage("page takes no option: it prints the page of a snapshot");
+        }
+        Ok(Command::Page(snapshot))
+    }
+
+    /// The one file that a command takes.
+    fn snapshot_file(&mut self, command: &str) -> Result<PathBuf> {
+        match <[PathBuf; 1]>::try_from(std::mem::take(&mut self.files)) {
+            Ok([snapshot]) => Ok(snapshot),
+            Err(_) => Failure::usage(format!("{command} takes one file: SNAPSHOT")),
+        }
+    }
+
     fn resume(mut self) -> Result<Command> {
-        let files: [PathBuf; 1] = match std::mem::take(&mut self.files).try_into() {
-            Ok(files) => files,
-            Err(_) => return Failure::usage("resume takes one file: SNAPSHOT"),
-        };
+        let snapshot = self.snapshot_file("resume")?;
         if self.radius.is_some() || self.unit.is_some() {
             return Failure::usage(
                 "--radius and --mesh-unit go with run: a snapshot has its mesh and radius",
@@ -171,7 +192,6 @@ impl Given {
         if self.loader.is_some() || self.alpha.is_some() {
             return Failure::usage("--loader and --alpha go with run: a snapshot has its kernels");
         }
-        let [snapshot] = files;
         self.work(Origin::Snapshot(snapshot))
     }
 
@@ -190,6 +210,7 @@ impl Given {
             csv: self.csv,
             svg: self.svg,
             list: self.list,
+            page: self.page,
             snapshot: self.snapshot,
             steps: self.steps,
             squeeze: self.squeeze.is_some(),
@@ -297,10 +318,22 @@ mod tests {
     }
 
     #[test]
+    fn a_page_is_of_a_snapshot() {
+        assert_eq!(asked("page s.snap"), Ok(Command::Page("s.snap".into())));
+        let Ok(Command::Work(options)) = asked("resume s.snap --raw --page wall.txt") else { panic!() };
+        assert_eq!(options.page, Some("wall.txt".into()));
+    }
+
+    #[test]
     fn what_is_not_understood_is_said() {
         for (line, said) in [
             ("", "nothing asked"),
-            ("walk", "walk: the commands are run, resume, bill and help"),
+            ("walk", "walk: the commands are run, resume, bill, page and help"),
+            ("page", "page takes one file: SNAPSHOT"),
+            ("page a.obj k.txt", "page takes one file: SNAPSHOT"),
+            ("page s --raw", "page takes no option"),
+            ("page s --page p", "page takes no option"),
+            ("run a b --raw --page p --page p", "--page is given twice"),
             ("run a.obj --raw", "run takes two files"),
             ("run a b c --raw", "run takes two files"),
             ("resume --raw", "resume takes one file"),

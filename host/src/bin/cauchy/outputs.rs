@@ -9,6 +9,7 @@ pub struct Outputs {
     pub csv: Option<Output>,
     pub svg: Option<Output>,
     pub list: Option<Output>,
+    pub page: Option<Output>,
     pub snapshot: Option<Output>,
 }
 
@@ -20,7 +21,7 @@ impl Outputs {
             (Origin::Snapshot(read), Some(written)) => output::are_one(read, written),
             _ => false,
         };
-        let paths = [&options.csv, &options.svg, &options.list, &options.snapshot];
+        let paths = [&options.csv, &options.svg, &options.list, &options.page, &options.snapshot];
         let outputs: Vec<&Path> = paths.into_iter().flatten().map(PathBuf::as_path).collect();
         let mut inputs: Vec<&Path> = options.track.iter().map(PathBuf::as_path).collect();
         match &options.origin {
@@ -36,13 +37,14 @@ impl Outputs {
             csv: prepared(&options.csv, options.overwrite)?,
             svg: prepared(&options.svg, options.overwrite)?,
             list: prepared(&options.list, options.overwrite)?,
+            page: prepared(&options.page, options.overwrite)?,
             snapshot: prepared(&options.snapshot, options.overwrite || in_place)?,
         })
     }
 
     /// Their paths.
     pub fn paths(&self) -> Vec<String> {
-        let all = [&self.csv, &self.svg, &self.list, &self.snapshot];
+        let all = [&self.csv, &self.svg, &self.list, &self.page, &self.snapshot];
         all.into_iter().flatten().map(|output| output.path().display().to_string()).collect()
     }
 }

@@ -1,7 +1,7 @@
 //! What the program prints.
 use crate::figures::{count, counted, rounded, short, whole};
 use crate::track::Track;
-use cauchy::{Bill, Convention, Kernel, MassReport, PLACES, Store, StoreReport};
+use cauchy::{Bill, Convention, Kernel, MassReport, PLACES, Refusal, Store, StoreReport};
 use std::fmt::Write;
 use std::path::Path;
 
@@ -111,11 +111,14 @@ pub fn report(by: Convention, report: &StoreReport, origin: f64, closed: bool) -
     text
 }
 
+/// What is said of a mass on a mesh that is not closed.
+pub const NOT_CLOSED: &str = "the mesh is NOT closed: field mass means nothing on a shell with a hole";
+
 /// What a planner must not overlook.
 fn cautions(by: Convention, mass: &MassReport, origin: f64, closed: bool) -> Vec<&'static str> {
     let mut said = Vec::new();
     if !closed {
-        said.push("the mesh is NOT closed: field mass means nothing on a shell with a hole");
+        said.push(NOT_CLOSED);
     }
     let tiny = |x: f64| !x.is_finite() || x.abs() <= 1e-30;
     let falls_back = mass.target_mass > 0.0 && tiny(mass.raw_mass);
@@ -137,6 +140,19 @@ fn cautions(by: Convention, mass: &MassReport, origin: f64, closed: bool) -> Vec
         said.push("the mass by this convention is not a finite number");
     }
     said
+}
+
+/// The wall page, or why there is none.
+pub fn wall(page: &Result<String, Refusal>) -> String {
+    match page {
+        Ok(page) => {
+            let lines = page.lines().map(|line| format!("  {line}\n")).collect::<String>();
+            format!(
+                "\nWall page: place, pieces, and field mass in whole kilograms with weights as entered\n{lines}"
+            )
+        }
+        Err(refusal) => format!("\nWall page: {refusal}\n"),
+    }
 }
 
 /// The first rows of the rescaled list.

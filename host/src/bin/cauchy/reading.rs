@@ -1,4 +1,4 @@
-//! The readings of a store: report, list, track.
+//! The readings of a store: report, wall page, list, track.
 use crate::failure::{Failure, Result};
 use crate::figures::counted;
 use crate::options::Options;
@@ -22,6 +22,8 @@ pub fn read(
     let report = store.report(by).map_err(refused("report"))?;
     let origin = store.density(Convention::Raw, [0.0; 3]).map_err(refused("density"))?;
     say(&page::report(by, &report, origin, closed))?;
+    let wall = store.page();
+    say(&page::wall(&wall))?;
     let pieces = store.list(by).map_err(refused("list"))?;
     say(&page::list(by, store, &pieces))?;
     if let Some(output) = &outputs.list {
@@ -36,6 +38,10 @@ pub fn read(
         if let Some(output) = &outputs.svg {
             output.write(picture(by, store, path, &track).as_bytes())?;
         }
+    }
+    // last, since a page may be refused where the others are not
+    if let Some(output) = &outputs.page {
+        output.write(wall.map_err(refused("page"))?.as_bytes())?;
     }
     let paths = outputs.paths();
     if paths.is_empty() { Ok(()) } else { say(&format!("\n{}", page::entry("written", &paths))) }
