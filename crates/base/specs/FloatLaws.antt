@@ -71,7 +71,7 @@ unfolding div ofBits neg
 minus-one-over-zero = refl
 
 -- ---- the sign
-odd-signed : (d : ℕ) (s : Bool) (q k l : ℕ) → sign (odd d s q k l) ≡ s
+pub odd-signed : (d : ℕ) (s : Bool) (q k l : ℕ) → sign (odd d s q k l) ≡ s
 unfolding odd
 odd-signed d s zero k l = refl
 odd-signed d s (suc q) k l = refl

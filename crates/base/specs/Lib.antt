@@ -11,6 +11,7 @@ pub mod Ranges
 pub mod RangeLaws
 pub mod SignLaws
 pub mod UnitLaws
+pub mod ZeroLaws
 pub mod Refusals
 pub mod RefusalLaws
 pub mod Answers

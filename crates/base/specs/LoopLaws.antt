@@ -53,6 +53,18 @@ module _ {S : Type 0} {f g : ℕ → S → S} {n : ℕ} (same : (i : ℕ) (s : S
   pub times-same : (s : S) → times f n 0 s ≡ times g n 0 s
   times-same s = same-from n 0 s (omega arith)
 
+-- ---- turns that do the same on each state that has P, and keep P
+module _ {S : Type 0} (P : S → Type 0) (f g : ℕ → S → S) (same : (i : ℕ) (s : S) → P s → f i s ≡ g i s) (keeps : (i : ℕ) (s : S) → P s → P (g i s)) where
+  pub times-keeps : (k i : ℕ) (s : S) → P s → P (times g k i s)
+  unfolding times
+  times-keeps zero i s h = h
+  times-keeps (suc k) i s h = times-keeps k (suc i) (g i s) (keeps i s h)
+
+  pub times-alike : (k i : ℕ) (s : S) → P s → times f k i s ≡ times g k i s
+  unfolding times
+  times-alike zero i s h = refl
+  times-alike (suc k) i s h = rw (same i s h) (times-alike k (suc i) (g i s) (keeps i s h))
+
 -- ---- k turns, then j turns more
 module _ {S : Type 0} (f : ℕ → S → S) where
   pub times-more : (k j i : ℕ) (s : S) → times f (k + j) i s ≡ times f j (i + k) (times f k i s)

@@ -28,6 +28,15 @@ abs-neg nan = refl
 abs-neg (inf s) = refl
 abs-neg (fin s m e) = refl
 
+-- an absolute value is the value or its negative
+pub abs-either : (x : Float) → (abs x ≡ x) ⊎ (abs x ≡ neg x)
+unfolding abs neg
+abs-either nan = inl refl
+abs-either (inf true) = inr refl
+abs-either (inf false) = inl refl
+abs-either (fin true m e) = inr refl
+abs-either (fin false m e) = inl refl
+
 -- ---- products and quotients
 unlike-left : (s t : Bool) → unlike (not s) t ≡ not (unlike s t)
 unlike-left true true = refl
@@ -85,7 +94,7 @@ unfolding round
 zero-rounded true = refl
 zero-rounded false = refl
 
-round-zero : (s : Bool) (n d : ℕ) → n ≡ 0 → 0 < d → round binary64 s n d ≡ fin s 0 (pos 0)
+pub round-zero : (s : Bool) (n d : ℕ) → n ≡ 0 → 0 < d → round binary64 s n d ≡ fin s 0 (pos 0)
 round-zero s n d e h = round-same binary64 s n d 0 1 h (lit< tt) (ap (λ (k : ℕ). k * 1) e ∙ sym (zero-mul d)) ∙ zero-rounded s
 
 -- ---- differences

@@ -3,3 +3,4 @@ pub mod Conventions
 pub mod Reports
 pub mod Laws
 pub mod Rows
+pub mod EvenLaws

@@ -4,7 +4,7 @@ use mathlib.Core.Bool.{cond}
 use mathlib.Core.List.{List, [], _∷_}
 use lib.Dec.{eqb}
 use lib.ListN.{getD, set, length}
-use lib.Ieee.{Float, nan}
+use lib.Ieee.{Float, nan, neg}
 use Rattle.base.specs.declared.refusal.Refusal.the-variants.{ShortList}
 use Rattle.base.specs.declared.refusal.Checked.{Checked}
 use Rattle.base.specs.declared.refusal.Checked.the-variants.{Passed, Failed}
@@ -33,3 +33,7 @@ kernelSet xs i k =
     let s = set c2 (6 * i + 3) (k .sigma) in
     let w = set s (6 * i + 4) (k .w) in
     set w (6 * i + 5) (k .alpha)
+
+-- the kernel with the negative of its sigma
+abbrev pub turned : Kernel → Kernel
+turned k = record { c = k .c; sigma = neg (k .sigma); w = k .w; alpha = k .alpha }

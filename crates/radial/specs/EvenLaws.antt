@@ -1,12 +1,14 @@
--- The radial factor of -t is that of t, where it is above zero. Assumes nothing.
+-- The radial factor of -t is that of t, where it is above zero; and everywhere but for the sign of a zero. Assumes nothing.
 use Prim.Native.Nat.{ℕ}
-use mathlib.Core.Path.{_≡_, refl, sym, ap, _∙_}
+use mathlib.Core.Path.{_≡_, refl, sym, ap, subst, _∙_}
+use mathlib.Core.Logic.{inl}
 use mathlib.Core.Bool.{Bool, true, false, not, cond}
 use lib.Ieee.{Float, nan, inf, fin, neg, lt}
 use Rattle.base.specs.Floats.{_⊕_, _⊖_, _⊗_, _⊘_, +0, whole, sign, signed, abs}
 use Rattle.base.specs.Constants.{one, two, three, tenth}
 use Rattle.base.specs.Loops.{times}
 use Rattle.base.specs.SignLaws.{neg-neg, abs-neg, mul-neg-both, mul-neg-right, quotient-neg}
+use Rattle.base.specs.ZeroLaws.{Near, quotient-near}
 use Rattle.powers.specs.Arc.{arc, arcAbs}
 use Rattle.radial.specs.Radial.{Series, seriesOf, radialGSeries, radialG}
 
@@ -45,3 +47,23 @@ unfolding neg
 even nan h = refl
 even (inf s) h = even-of (inf s) refl h
 even (fin s m e) h = even-of (fin s m e) refl h
+
+-- ---- and everywhere, but for the sign of a zero, which t - arc t can be
+quotient-even-near : (t : Float) → sign (neg t) ≡ not (sign t) → Near ((neg t ⊖ arc (neg t)) ⊘ (neg t ⊗ neg t ⊗ neg t)) ((t ⊖ arc t) ⊘ (t ⊗ t ⊗ t))
+quotient-even-near t s =
+    let e = ap (λ (a : Float). (neg t ⊖ a) ⊘ (neg t ⊗ neg t ⊗ neg t)) (arc-neg t s) ∙ ap (λ (c : Float). (neg t ⊖ neg (arc t)) ⊘ c) (cube-neg t) in
+    subst (λ (x : Float). Near x ((t ⊖ arc t) ⊘ (t ⊗ t ⊗ t))) (sym e) (quotient-near t (arc t) (t ⊗ t ⊗ t))
+
+near-of : (t : Float) → sign (neg t) ≡ not (sign t) → Near (radialG (neg t)) (radialG t)
+unfolding radialG
+near-of t s = rw (abs-neg t) (by (lt (abs t) tenth))
+  where
+    by : (b : Bool) → Near (cond b (radialGSeries (neg t)) ((neg t ⊖ arc (neg t)) ⊘ (neg t ⊗ neg t ⊗ neg t))) (cond b (radialGSeries t) ((t ⊖ arc t) ⊘ (t ⊗ t ⊗ t)))
+    by true = inl (series-even t)
+    by false = quotient-even-near t s
+
+pub even-near : (t : Float) → Near (radialG (neg t)) (radialG t)
+unfolding neg
+even-near nan = inl refl
+even-near (inf s) = near-of (inf s) refl
+even-near (fin s m e) = near-of (fin s m e) refl

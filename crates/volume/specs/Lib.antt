@@ -1,3 +1,4 @@
 pub mod Volume
 pub mod Block
 pub mod Laws
+pub mod EvenLaws
