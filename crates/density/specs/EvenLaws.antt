@@ -14,8 +14,11 @@ pub density-even : (k : Kernel) (x : List Float) → densityOf (turned k) x ≡ 
 unfolding densityOf baseAt
 density-even k x = rw (mul-neg-both (k .sigma) (k .sigma)) refl
 
-pub density-abs : (k : Kernel) (x : List Float) → densityOf (record { c = k .c; sigma = abs (k .sigma); w = k .w; alpha = k .alpha }) x ≡ densityOf k x
+abbrev with-sigma : Kernel → Float → Kernel
+with-sigma k s = record { c = k .c; sigma = s; w = k .w; alpha = k .alpha }
+
+pub density-abs : (k : Kernel) (x : List Float) → densityOf (with-sigma k (abs (k .sigma))) x ≡ densityOf k x
 density-abs k x = elim (abs-either (k .sigma)) [
-  | inl e ↦ ap (λ (s : Float). densityOf (record { c = k .c; sigma = s; w = k .w; alpha = k .alpha }) x) e
-  | inr e ↦ ap (λ (s : Float). densityOf (record { c = k .c; sigma = s; w = k .w; alpha = k .alpha }) x) e ∙ density-even k x
+  | inl e ↦ ap (λ (s : Float). densityOf (with-sigma k s) x) e
+  | inr e ↦ ap (λ (s : Float). densityOf (with-sigma k s) x) e ∙ density-even k x
 ]

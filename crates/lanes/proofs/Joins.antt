@@ -1,18 +1,17 @@
 -- The steps together: what each did of its list makes the factors. Assumes nothing.
-use mathlib.Core.Path.{_≡_, sym, ap, _∙_, subst, subst⁻¹}
-use mathlib.Core.Logic.{inl, inr}
+use mathlib.Core.Path.{sym, ap, _∙_, subst⁻¹}
 use mathlib.Core.List.{List}
 use lib.ListN.{getD}
 use lib.Ieee.{Float, nan, binary64}
-use Rattle.base.specs.Floats.{_⊕_, _⊘_, abs}
+use Rattle.base.specs.Floats.{_⊕_, _⊘_}
 use Rattle.base.specs.Constants.{one}
 use Rattle.base.specs.Ranges.{Within}
 use Rattle.root.specs.Root.{squareRoot}
 use Rattle.powers.specs.Arc.{halved}
 use Rattle.radial.specs.Radial.{radialG}
 use Rattle.lanes.specs.Factors.{factor, Each}
-use Rattle.lanes.specs.Stages.{Large, Low, Above, raised, radius, inverted, radicand, quotient, AllLarge, AllLow, AllSmall, AllSided, Even, Tangents, Radicands, Halves, SmallFactors, Chosen, Quotients}
-use Rattle.lanes.proofs.Points.{large-is, tangent-of, radicand-of, raised-large, raised-low, one-side, factor-even, abs-above}
+use Rattle.lanes.specs.Stages.{Large, Low, raised, radius, inverted, radicand, quotient, AllLarge, AllLow, AllSmall, AllSided, Tangents, Radicands, Halves, SmallFactors, Chosen, Quotients}
+use Rattle.lanes.proofs.Points.{large-is, tangent-of, radicand-of, raised-large, raised-low, one-side}
 
 pub halves-are : (vs : List Float) {fs ws : List Float} → Each radicand vs fs → Halves vs fs ws → Each halved vs ws
 unfolding halved
@@ -48,8 +47,3 @@ by-series ts h k = record { at = λ i l. k .at i l (h .at i l) }
 
 pub by-radii : (sigma : Float) (xs : List Float) {ts gs : List Float} → Each (radius sigma) xs ts → Each radialG ts gs → Each (factor sigma) xs gs
 by-radii sigma xs e f = record { at = λ i h. f .at i h ∙ ap radialG (e .at i h) }
-
--- a is sigma's absolute value
-pub by-even : (sigma : Float) (xs : List Float) {a : Float} {gs : List Float} → a ≡ abs sigma → Even sigma gs → Each (factor a) xs gs → Each (factor sigma) xs gs
-by-even sigma xs {a} {gs} k (inl h) e = subst (λ (s : Float). Each (factor s) xs gs) (k ∙ abs-above sigma h) e
-by-even sigma xs {a} {gs} k (inr h) e = record { at = λ i l. let x = getD xs i nan in let q = e .at i l ∙ ap (λ (s : Float). factor s x) k in q ∙ factor-even sigma x (subst Above q (h .at i l)) }

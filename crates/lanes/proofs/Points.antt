@@ -7,20 +7,16 @@ use native.Mathlib.Nat.{le-refl, le-of-lt, zero-mul, mul-pos}
 use native.Mathlib.Omega.{arith}
 use borrow.Author.Tests.{ltb-true, ltb-false, eqb-true, le-ltb}
 use lib.Dec.{T, eqb, lit<}
-use lib.Ieee.{Float, nan, inf, fin, binary64, lt, le, eq, neg, div, ofBits, up, down}
+use lib.Ieee.{Float, nan, inf, fin, lt, le, eq, neg, div, ofBits, up, down}
 use lib.IntN.{ℤ}
 use lib.Ieee.Fits.{down-pos}
 use Rattle.base.specs.Floats.{_⊕_, _⊖_, _⊗_, _⊘_, sign, signed, abs}
 use Rattle.base.specs.Ranges.{Within, AtLeast}
 use Rattle.base.specs.RangeLaws.{ordered, square-within, one-plus-within, quotient-within, at-least}
-use Rattle.base.specs.SignLaws.{mul-neg-left}
 use Rattle.base.specs.Constants.{one, tenth}
-use Rattle.root.specs.Root.{squareRoot}
 use Rattle.powers.specs.Arc.{halved, arcCore, arcAbs, arc}
 use Rattle.radial.specs.Radial.{radialGSeries, radialG}
-use Rattle.radial.specs.EvenLaws.{even}
-use Rattle.lanes.specs.Factors.{factor}
-use Rattle.lanes.specs.Stages.{Large, Low, Small, Sided, Above, raised, inverted, turned, radicand, quotient}
+use Rattle.lanes.specs.Stages.{Large, Low, Small, Sided, raised, inverted, turned, radicand, quotient}
 
 -- ---- small
 pub small-is : (t : Float) → Small t → radialGSeries t ≡ radialG t
@@ -154,23 +150,3 @@ one-side t {u} {s} {g} {h} d e f k c = go (le tenth t) refl d
     go true l x = c ∙ ap (λ (z : Bool). cond z s g) l ∙ f ∙ ap radialG (e ∙ raised-same t l)
     go false l (inl x) = absurd (false≢true (sym l ∙ x))
     go false l (inr x) = c ∙ ap (λ (z : Bool). cond z s g) l ∙ k x
-
--- ---- the sign of sigma
-turned-sigma : (a x : Float) → Above (factor a x) → factor a x ≡ factor (neg a) x
-turned-sigma a x h = sym (even (a ⊗ squareRoot binary64 x) h) ∙ sym (ap radialG (mul-neg-left a (squareRoot binary64 x)))
-
-pub factor-even : (sigma x : Float) → Above (factor (abs sigma) x) → factor (abs sigma) x ≡ factor sigma x
-unfolding abs neg
-factor-even nan x h = refl
-factor-even (inf true) x h = turned-sigma (inf false) x h
-factor-even (inf false) x h = refl
-factor-even (fin true m e) x h = turned-sigma (fin false m e) x h
-factor-even (fin false m e) x h = refl
-
-pub abs-above : (sigma : Float) → Above sigma → abs sigma ≡ sigma
-unfolding abs lt ofBits
-abs-above nan h = refl
-abs-above (inf true) h = absurd (false≢true h)
-abs-above (inf false) h = refl
-abs-above (fin true m e) h = absurd (false≢true h)
-abs-above (fin false m e) h = refl

@@ -5,7 +5,7 @@ use mathlib.Core.Bool.{true, false, cond}
 use mathlib.Core.List.{List}
 use lib.ListN.{getD}
 use lib.Ieee.{Float, nan, binary64, lt, le}
-use Rattle.base.specs.Floats.{_⊕_, _⊖_, _⊗_, _⊘_, +0, abs}
+use Rattle.base.specs.Floats.{_⊕_, _⊖_, _⊗_, _⊘_, abs}
 use Rattle.base.specs.Constants.{one, halfPi, tenth}
 use Rattle.base.specs.Ranges.{Within}
 use Rattle.root.specs.Root.{squareRoot}
@@ -92,14 +92,3 @@ Chosen ts ss gs hs = All (λ i h. h ≡ cond (le tenth (getD ts i nan)) (getD ss
 
 abbrev pub Quotients : List Float → List Float → List Float → Type 0
 Quotients ts vs gs = All (λ i g. g ≡ quotient (getD ts i nan) (getD vs i nan)) gs
-
--- ---- the sign of sigma
-abbrev pub Above : Float → Type 0
-Above g = lt +0 g ≡ true
-
-abbrev pub AllAbove : List Float → Type 0
-AllAbove gs = All (λ i g. Above g) gs
-
--- what shows that gs, the factors of sigma's absolute value, are those of sigma: sigma is that value, or the factors are above 0, where they are even
-abbrev pub Even : Float → List Float → Type 0
-Even sigma gs = Above sigma ⊎ AllAbove gs

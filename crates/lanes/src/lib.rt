@@ -6,16 +6,13 @@ ghost use mathlib.Core.Path.{_≡_};
 ghost use lib.ListN.{length};
 ghost use Rattle.lanes.specs.Factors.{Each, factor};
 use crate::arcs::arcs;
-use crate::even::not_even;
 use crate::mixed::mixed;
 use crate::radii::radii_of;
 use crate::series::all_series;
-use base::floats::abs;
 use radial::radial_g;
 use root::root;
 
 pub mod arcs;
-pub mod even;
 pub mod mixed;
 pub mod radii;
 pub mod series;
@@ -55,9 +52,9 @@ fn staged(
     found.flag | mixed(t, found.high, u, v, f, s, g)
 }
 
-// Writes to g the radial factor of each point, x being the squares of the distances. The steps go by the
-// absolute value of sigma. What t, u, v, f and s hold before and after is of no account: they are lent so that
-// they are made once.
+// Writes to g the radial factor of each point, x being the squares of the distances, for any sigma; the arcs of a
+// sigma below 0 are worked one by one, so a caller gives its absolute value where it may. What t, u, v, f and s hold
+// before and after is of no account: they are lent so that they are made once.
 pub fn factors(
     x: &[f64; 28],
     sigma: f64,
@@ -70,8 +67,7 @@ pub fn factors(
 )
     ensures { λ _. ⌜ Each (factor sigma) (now (x .entry)) (now (g .exit)) ⌝ }
 {
-    let flag = staged(x, abs(sigma), t, u, v, f, s, g) | not_even(sigma, g);
-    if flag == 0 {
+    if staged(x, sigma, t, u, v, f, s, g) == 0 {
         return;
     }
     one_by_one(x, sigma, g);

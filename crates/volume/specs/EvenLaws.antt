@@ -1,6 +1,6 @@
--- 02, L14: "sigma and its negative give .. the same volume", for every mesh and centre, after every face. Assumes nothing.
--- A factor g of -t is that of t but for the sign of a zero (radial's EvenLaws); each product of a point keeps this, and the running sum, which is never -0,
--- does not see it (base's ZeroLaws).
+-- 02, L14: "sigma and its negative give .. the same volume", for every mesh, centre and sigma, after every face. A factor
+-- of -t is that of t but for the sign of a zero (radial's EvenLaws); each product of a point keeps this, and the running
+-- sum, which is never -0, does not see it (base's ZeroLaws). Assumes nothing.
 use mathlib.Core.Path.{_≡_, ap, _∙_}
 use mathlib.Core.Logic.{inl, inr}
 use Prim.Native.Nat.{ℕ, _-_}
@@ -25,11 +25,12 @@ use Rattle.volume.specs.Volume.{flux, fluxStep, faceSum, faceStep, volum
 
 module _ (t : Triangle) (c : V3) (sigma : Float) where
   -- what a point adds
-  pub flux-near : (n : V3) (k : Node) → Near (flux t n c (neg sigma) k) (flux t n c sigma k)
+  flux-near : (n : V3) (k : Node) → Near (flux t n c (neg sigma) k) (flux t n c sigma k)
   unfolding flux
   flux-near n k =
       let d = vsub (pointOf t k) c in
-      let g : Near (radialG (neg sigma ⊗ norm d)) (radialG (sigma ⊗ norm d)) = rw (mul-neg-left sigma (norm d)) (even-near (sigma ⊗ norm d)) in
+      let g : Near (radialG (neg sigma ⊗ norm d)) (radialG (sigma ⊗ norm d)) =
+      rw (mul-neg-left sigma (norm d)) (even-near (sigma ⊗ norm d)) in
       near-left (near-left (near-right g (k .w)) (dot d n)) half
 
   flux-fits : (n : V3) (k : Node) → T (fits binary64 (flux t n c sigma k))
@@ -37,45 +38,54 @@ module _ (t : Triangle) (c : V3) (sigma : Float) where
   flux-fits n k = let d = vsub (pointOf t k) c in mul-fits binary64 (k .w ⊗ radialG (sigma ⊗ norm d) ⊗ dot d n) half
 
   point-same : (i : ℕ) (s : Float) → Running s → fluxStep t c (neg sigma) i s ≡ fluxStep t c sigma i s
-  point-same i s r = near-added s (flux t (normalOf t) c (neg sigma) (node i)) (flux t (normalOf t) c sigma (node i)) (r .plus) (flux-near (normalOf t) (node i))
+  point-same i s r =
+      let n = normalOf t in
+      near-added s (flux t n c (neg sigma) (node i)) (flux t n c sigma (node i)) (r .plus) (flux-near n (node i))
 
   point-running : (i : ℕ) (s : Float) → Running s → Running (fluxStep t c sigma i s)
   point-running i s r = running-more s (flux t (normalOf t) c sigma (node i)) (flux-fits (normalOf t) (node i)) r
 
   -- a face
-  pub face-even : (s : Float) → Running s → faceSum t c (neg sigma) s ≡ faceSum t c sigma s
+  face-even : (s : Float) → Running s → faceSum t c (neg sigma) s ≡ faceSum t c sigma s
   unfolding faceSum
-  face-even s r = times-alike Running (fluxStep t c (neg sigma)) (fluxStep t c sigma) point-same point-running 7 0 s r
+  face-even s r =
+      times-alike Running (fluxStep t c (neg sigma)) (fluxStep t c sigma) point-same point-running 7 0 s r
 
-  pub face-running : (s : Float) → Running s → Running (faceSum t c sigma s)
+  face-running : (s : Float) → Running s → Running (faceSum t c sigma s)
   unfolding faceSum
-  face-running s r = times-keeps Running (fluxStep t c (neg sigma)) (fluxStep t c sigma) point-same point-running 7 0 s r
+  face-running s r =
+      times-keeps Running (fluxStep t c (neg sigma)) (fluxStep t c sigma) point-same point-running 7 0 s r
 
 module _ (t : ℕ → Triangle) (c : V3) (sigma : Float) where
-  -- k faces from f on
-  some-faces : (k f : ℕ) (s : Float) → Running s → times (faceStep t c (neg sigma)) k f s ≡ times (faceStep t c sigma) k f s
-  some-faces k f s r =
-      times-alike Running (faceStep t c (neg sigma)) (faceStep t c sigma) (λ i x h. face-even (t i) c sigma x h) (λ i x h. face-running (t i) c sigma x h) k f s r
+  -- k faces from f on, on a sum that is not -0
+  faces-even : (k f : ℕ) (s : Float) → Running s
+      → times (faceStep t c (neg sigma)) k f s ≡ times (faceStep t c sigma) k f s
+  faces-even k f s r =
+      times-alike Running (faceStep t c (neg sigma)) (faceStep t c sigma)
+      (λ i x h. face-even (t i) c sigma x h) (λ i x h. face-running (t i) c sigma x h) k f s r
 
-  -- the first n faces
+  faces-abs : (k f : ℕ) (s : Float) → Running s
+      → times (faceStep t c (abs sigma)) k f s ≡ times (faceStep t c sigma) k f s
+  faces-abs k f s r = elim (abs-either sigma) [
+    | inl e ↦ ap (λ (x : Float). times (faceStep t c x) k f s) e
+    | inr e ↦ ap (λ (x : Float). times (faceStep t c x) k f s) e ∙ faces-even k f s r
+  ]
+
+  -- ---- the first n faces
   pub volume-even : (n : ℕ) → volumeTo t c (neg sigma) n ≡ volumeTo t c sigma n
   unfolding volumeTo
-  volume-even n = some-faces n 0 +0 running-zero
+  volume-even n = faces-even n 0 +0 running-zero
 
-  -- all of them
+  pub volume-abs : (n : ℕ) → volumeTo t c (abs sigma) n ≡ volumeTo t c sigma n
+  unfolding volumeTo
+  volume-abs n = faces-abs n 0 +0 running-zero
+
+  -- ---- all n of them: `kernel_volume`
   pub kernel-volume-even : (n : ℕ) → kernelVolume t n c (neg sigma) ≡ kernelVolume t n c sigma
   kernel-volume-even n = volume-even n
 
-  pub volume-abs : (n : ℕ) → volumeTo t c (abs sigma) n ≡ volumeTo t c sigma n
-  volume-abs n = elim (abs-either sigma) [
-    | inl e ↦ ap (λ (s : Float). volumeTo t c s n) e
-    | inr e ↦ ap (λ (s : Float). volumeTo t c s n) e ∙ volume-even n
-  ]
-
-  -- the faces from `from` up to `to`, on a sum that is not -0: for code that works them by the absolute value
-  pub from-abs : (from to : ℕ) (s : Float) → Running s → volumeFrom t c (abs sigma) from to s ≡ volumeFrom t c sigma from to s
+  -- ---- the faces from `from` up to `to`, for code that works them by the absolute value
+  pub from-abs : (from to : ℕ) (s : Float) → Running s
+      → volumeFrom t c (abs sigma) from to s ≡ volumeFrom t c sigma from to s
   unfolding volumeFrom
-  from-abs from to s r = elim (abs-either sigma) [
-    | inl e ↦ ap (λ (x : Float). times (faceStep t c x) (to - from) from s) e
-    | inr e ↦ ap (λ (x : Float). times (faceStep t c x) (to - from) from s) e ∙ some-faces (to - from) from s r
-  ]
+  from-abs from to s r = faces-abs (to - from) from s r

@@ -2,9 +2,12 @@
 ghost use mathlib.Core.Path.{_≡_};
 ghost use Prim.Native.Nat.{_*_, _≤_};
 ghost use lib.ListN.{length};
+ghost use Rattle.base.specs.ZeroLaws.{minusZero};
 ghost use Rattle.mesh.specs.Triangles.{triangleAt, faceCount, Sound};
 ghost use Rattle.volume.specs.Volume.{flux, threeFluxes, faceSum, volumeFrom, kernelVolume, bodyVolume};
 use crate::block::volume_blocks;
+use base::floats::abs;
+use base::floats::is_negative;
 use field::dunavant::INNER_ONE;
 use field::dunavant::INNER_TWO;
 use field::dunavant::INNER_WEIGHT;
@@ -94,7 +97,15 @@ fn volume_faces(
     sum
 }
 
-// The sum after the faces from `from` up to `to`: whole blocks, then the faces that are left.
+// Whether a sum is -0: no sum that starts at +0 is, but a store's run, which anyone may have written, can hold one.
+fn is_minus_zero(sum: f64) -> bool
+    ensures { λ r. ⌜ r ≡ minusZero sum ⌝ }
+{
+    if sum == 0.0 { is_negative(sum) } else { false }
+}
+
+// The sum after the faces from `from` up to `to`: whole blocks, then the faces that are left. They go by the absolute
+// value of sigma: a factor of -t is that of t but for the sign of a zero, which a sum that is not -0 does not see.
 pub fn volume_from(
     sum: f64,
     xyz: &[f64],
@@ -107,9 +118,13 @@ pub fn volume_from(
     requires { ⌜ Sound (length (now xyz)) (now faces) ⌝ ∗ ⌜ (from ≤ to) × (3 * to ≤ length (now faces)) ⌝ }
     ensures { λ r. ⌜ r ≡ volumeFrom (triangleAt (now (xyz .entry)) (now (faces .entry))) c sigma from to sum ⌝ }
 {
+    if is_minus_zero(sum) {
+        return volume_faces(sum, xyz, faces, c, sigma, from, to);
+    }
+    let size = abs(sigma);
     let n = (to - from) / 4;
-    let blocks = volume_blocks(sum, xyz, faces, c, sigma, from, n);
-    volume_faces(blocks, xyz, faces, c, sigma, from + 4 * n, to)
+    let blocks = volume_blocks(sum, xyz, faces, c, size, from, n);
+    volume_faces(blocks, xyz, faces, c, size, from + 4 * n, to)
 }
 
 // The volume over all faces.
