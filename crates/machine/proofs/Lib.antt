@@ -19,3 +19,5 @@ pub mod Listed
 pub mod Demand
 pub mod Tally
 pub mod Billed
+pub mod Renumber
+pub mod Signs

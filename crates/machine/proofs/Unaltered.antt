@@ -89,25 +89,25 @@ module _ (m : Mesh) (xs : List Float) (ks : List ℕ) (w : ℕ) where
       page-same ss bs = ap (λ (rs : List Row). pageAnswer rs bs) (rows-same 0 ss)
 
 -- ---- a machine on another mesh
-abbrev remade : Machine → List Float → List ℕ → ℕ → ℕ → Machine
+abbrev pub remade : Machine → List Float → List ℕ → ℕ → ℕ → Machine
 remade m xs ks w g = record { mesh = remesh (m .mesh) xs ks w; slots = m .slots; charged = m .charged; dropped = m .dropped; freed = g }
 
-abbrev lifted : Turn → List Float → List ℕ → ℕ → ℕ → Turn
+abbrev pub lifted : Turn → List Float → List ℕ → ℕ → ℕ → Turn
 lifted t xs ks w g = record { next = remade (t .next) xs ks w g; reply = t .reply; out = t .out; page = t .page }
 
 -- a mesh with the triangles of a machine's
-record Alike (m : Mesh) (xs : List Float) (ks : List ℕ) (w : ℕ) : Type 0 where
-  shape : Shape (remesh m xs ks w)
-  was : Shape m
-  same : (f : ℕ) → f < m .faces → triangleAt xs ks f ≡ triangles m f
+pub record Alike (m : Mesh) (xs : List Float) (ks : List ℕ) (w : ℕ) : Type 0 where
+  pub shape : Shape (remesh m xs ks w)
+  pub was : Shape m
+  pub same : (f : ℕ) → f < m .faces → triangleAt xs ks f ≡ triangles m f
 
 -- one call that is no squeeze
-record Goes (m : Machine) (c : Call) (xs : List Float) (ks : List ℕ) (w g : ℕ) : Type 0 where
-  lift : machine (remade m xs ks w g) c ≡ lifted (machine m c) xs ks w g
-  mesh : machine m c .next .mesh ≡ m .mesh
+pub record Goes (m : Machine) (c : Call) (xs : List Float) (ks : List ℕ) (w g : ℕ) : Type 0 where
+  pub lift : machine (remade m xs ks w g) c ≡ lifted (machine m c) xs ks w g
+  pub mesh : machine m c .next .mesh ≡ m .mesh
 
 module _ (m : Machine) (xs : List Float) (ks : List ℕ) (w g : ℕ) where
-  put-goes : (i : ℕ) (k : Kernel) → Goes m (put i k) xs ks w g
+  pub put-goes : (i : ℕ) (k : Kernel) → Goes m (put i k) xs ks w g
   unfolding machine
   put-goes i k = record { lift = lift (ltb i slotLimit); mesh = stays (ltb i slotLimit) }
     where
@@ -122,7 +122,7 @@ module _ (m : Machine) (xs : List Float) (ks : List ℕ) (w g : ℕ) where
       stays true = refl
       stays false = refl
 
-  clear-goes : (i : ℕ) → Goes m (clear i) xs ks w g
+  pub clear-goes : (i : ℕ) → Goes m (clear i) xs ks w g
   unfolding machine
   clear-goes i = record { lift = lift (ltb i slotLimit) (getD (m .slots) i empty); mesh = stays (ltb i slotLimit) (getD (m .slots) i empty) }
     where
@@ -136,7 +136,7 @@ module _ (m : Machine) (xs : List Float) (ks : List ℕ) (w g : ℕ) where
       stays true (full k fit p) = refl
       stays false s = refl
 
-  reweigh-goes : (i : ℕ) (x : Float) → Goes m (reweigh i x) xs ks w g
+  pub reweigh-goes : (i : ℕ) (x : Float) → Goes m (reweigh i x) xs ks w g
   unfolding machine
   reweigh-goes i x = record { lift = lift (ltb i slotLimit) (getD (m .slots) i empty); mesh = stays (ltb i slotLimit) (getD (m .slots) i empty) }
     where
@@ -150,7 +150,7 @@ module _ (m : Machine) (xs : List Float) (ks : List ℕ) (w g : ℕ) where
       stays true (full k fit p) = refl
       stays false s = refl
 
-  advance-goes : (k : ℕ) → Goes m (advance k) xs ks w g
+  pub advance-goes : (k : ℕ) → Goes m (advance k) xs ks w g
   unfolding machine
   advance-goes k =
       let ss = iterate (bump (m .mesh)) (stepsOf m k) (m .slots) in
@@ -159,27 +159,27 @@ module _ (m : Machine) (xs : List Float) (ks : List ℕ) (w g : ℕ) where
         mesh = refl;
       }
 
-  read-goes : Alike (m .mesh) xs ks w → (r : Reading) → Goes m (read r) xs ks w g
+  pub read-goes : Alike (m .mesh) xs ks w → (r : Reading) → Goes m (read r) xs ks w g
   unfolding machine
   read-goes a r = record { lift = rw (left-sum-same (m .mesh) xs ks w (m .slots), afresh-same (m .mesh) xs ks w (a .same) (a .shape) (a .was) (m .slots) r) refl; mesh = refl }
 
-  page-goes : Alike (m .mesh) xs ks w → (bs : List ℕ) → Goes m (page bs) xs ks w g
+  pub page-goes : Alike (m .mesh) xs ks w → (bs : List ℕ) → Goes m (page bs) xs ks w g
   unfolding machine
   page-goes a bs = record { lift = rw (left-sum-same (m .mesh) xs ks w (m .slots), page-same (m .mesh) xs ks w (a .same) (a .shape) (a .was) (m .slots) bs) refl; mesh = refl }
 
 -- ---- a list of calls
-abbrev told : Turn → Heard
+abbrev pub told : Turn → Heard
 told t = record { reply = t .reply; out = t .out; page = t .page }
 
 abbrev heardBy : Machine → List Call → List Heard
 heardBy m [] = []
 heardBy m (c ∷ cs) = others c (told (machine m c)) (heardBy (machine m c .next) cs)
 
-corners-below : (m : Mesh) → Shape m → Below (m .verts) (m .corners)
+pub corners-below : (m : Mesh) → Shape m → Below (m .verts) (m .corners)
 corners-below m g = record { corner = below-each (m .verts) (m .corners) (g .below) }
 
 -- one squeeze more
-squeezed-alike : (m : Mesh) (xs : List Float) (ks : List ℕ) (w : ℕ) → Alike m xs ks w → Alike m (keptTo ks xs w) (renumbered ks) (rank ks w)
+pub squeezed-alike : (m : Mesh) (xs : List Float) (ks : List ℕ) (w : ℕ) → Alike m xs ks w → Alike m (keptTo ks xs w) (renumbered ks) (rank ks w)
 squeezed-alike m xs ks w a =
     let g = a .shape in
     let b : Below w ks = record { corner = below-each w ks (g .below) } in

@@ -5,3 +5,5 @@ pub mod Fresh
 pub mod Calls
 pub mod Demands
 pub mod Bills
+pub mod Renumbering
+pub mod Signs

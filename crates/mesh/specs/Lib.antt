@@ -1,4 +1,5 @@
 pub mod Vectors
 pub mod Triangles
+pub mod TriangleLaws
 pub mod Checks
 pub mod CheckLaws

@@ -1,19 +1,19 @@
 -- A squeezed mesh has the triangles of the mesh, and is sound as it was. Assumes nothing.
-use mathlib.Core.Path.{_≡_, refl, sym, ap, _∙_}
-use mathlib.Core.Bool.{Bool, true, false, _&&_, _||_, cond, or-true}
+use mathlib.Core.Path.{_≡_, refl, sym, _∙_}
+use mathlib.Core.Bool.{true, cond, or-true}
 use mathlib.Core.List.{List, [], _∷_, _++_, map}
-use Prim.Native.Nat.{ℕ, zero, suc, _+_, _*_, _≤_, _<_}
+use Prim.Native.Nat.{ℕ, zero, suc, _+_, _*_, _<_}
 use native.Mathlib.Nat.{add-zero}
 use native.Mathlib.Decide.{decLt}
 use native.Mathlib.Omega.{arith}
-use lib.Dec.{eqb, ltb}
-use lib.ListN.{length, getD, length-map, List·getD-append, List·getD-map}
+use lib.Dec.{eqb}
+use lib.ListN.{length, getD, List·getD-append, List·getD-map}
 use lib.Seq.{getD-append-add}
 use lib.Ieee.{Float, nan}
 use borrow.Author.Tests.{eq-eqb, lt-ltb}
 use Rattle.mesh.specs.Triangles.{vertex, triangleAt}
+use Rattle.mesh.specs.TriangleLaws.{same-named}
 use Rattle.mesh.specs.Checks.{allBelow}
-use Rattle.mesh.specs.declared.vectors.V3.{V3}
 use Rattle.squeeze.specs.Squeeze.{used, rank, renumbered, pointOf, keptTo}
 use Rattle.squeeze.specs.Marks.{Below}
 use Rattle.squeeze.specs.SqueezeLaws.{kept-length}
@@ -67,8 +67,7 @@ module _ (ks : List ℕ) (xs : List Float) (n : ℕ) (b : Below n ks) where
   same-corner j h = rw (corner-at ks j) (same-vertex ks xs (getD ks j 0) n (corner-used ks j h) (b .corner j h))
 
   pub same-triangle : (f : ℕ) → 3 * f + 2 < length ks → triangleAt (keptTo ks xs n) (renumbered ks) f ≡ triangleAt xs ks f
-  unfolding triangleAt
-  same-triangle f h = rw (same-corner (3 * f) (omega arith), same-corner (3 * f + 1) (omega arith), same-corner (3 * f + 2) h) refl
+  same-triangle f h = same-named xs ks (keptTo ks xs n) (renumbered ks) same-corner f h
 
   -- corners are in range again
   pub rank-below : (j : ℕ) → j < length ks → rank ks (getD ks j 0) < rank ks n

@@ -1,0 +1,472 @@
+-- 02, L14: no answer sees the sign of the sigma of a kernel that stays, but that a list writes it, and no volume so far
+-- does. Assumes nothing.
+use mathlib.Core.Path.{_≡_, refl, sym, ap, subst, _∙_}
+use mathlib.Core.Bool.{Bool, true, false, _&&_, cond}
+use mathlib.Core.List.{List, [], _∷_, _++_, map, map-append}
+use Prim.Native.Nat.{ℕ, zero, suc, _+_, _*_, _-_, _/_, _<_, min}
+use native.Mathlib.Omega.{arith}
+use lib.Dec.{ltb, eqb}
+use lib.ListN.{length, getD, drop, length-map, List·getD-map}
+use lib.Ieee.{Float, nan, inf, fin, neg, ofBits}
+use Rattle.base.specs.Floats.{_⊕_, _⊗_, +0, abs, greater}
+use Rattle.base.specs.SignLaws.{abs-neg}
+use Rattle.base.specs.Loops.{iterate}
+use Rattle.base.specs.LoopLaws.{times-same}
+use Rattle.base.specs.Answers.{Answer, accepted, refused, counted, Outcome, outcome, guardedRun, roomCheck}
+use Rattle.base.specs.declared.refusal.Refusal.the-variants.{NoPlace, Unfinished}
+use Rattle.base.specs.declared.refusal.Checked.{Checked}
+use Rattle.base.specs.declared.refusal.Checked.the-variants.{Passed, Failed}
+use Rattle.runs.specs.Runs.{write}
+use Rattle.mesh.specs.declared.vectors.V3.{V3}
+use Rattle.mesh.specs.declared.triangles.Triangle.{Triangle}
+use Rattle.mesh.specs.Triangles.{triangleAt, faceCount}
+use Rattle.field.specs.Field.{centreOf, fieldCheck}
+use Rattle.volume.specs.Volume.{volumeTo, kernelVolume}
+use Rattle.volume.specs.EvenLaws.{volume-abs, kernel-volume-even}
+use Rattle.kernel.specs.declared.kernel.Kernel.{Kernel}
+use Rattle.kernel.specs.Kernels.{kernelAt, turned}
+use Rattle.density.specs.declared.convention.Convention.{Convention}
+use Rattle.density.specs.Densitize.{densityOf, densitizeOf, densitized}
+use Rattle.density.specs.EvenLaws.{density-abs}
+use Rattle.density.specs.Conventions.{bulkOf, rho0Scale, appliedScale}
+use Rattle.pieces.specs.declared.pieces.Pieces.{Pieces}
+use Rattle.pieces.specs.Pieces.{delta, stays, sizeOf, curveOf, itself, fitted, decomposed, pieceAlpha}
+use Rattle.pieces.specs.Kernels.{pieceAt}
+use Rattle.mass.specs.Total.{fieldMass}
+use Rattle.mass.specs.Calls.{kernelVolumeCall, fieldMassCall}
+use Rattle.layout.specs.Layout.{width, slotLimit, pieceFrom}
+use Rattle.track.specs.TrackLaws.{stretch-same}
+use Rattle.readings.specs.Readings.{Reading, density, report, list, track, noKernel, origin, rescaled, six, sixes, trackCheck, refusing}
+use Rattle.readings.specs.SixLaws.{whole, sixes-length, at-whole, list-sound, count-of}
+use Rattle.page.specs.Page.{Row, row, pageAnswer}
+use Rattle.machine.specs.Machine.{Mesh, Slot, empty, full, leftSlot, leftSum, adv, bump, Machine, Turn, turn, stepsOf, putTurn, clearTurn, weighed, reweighTurn, opened}
+use Rattle.machine.specs.Holding.{triangles, cells, excessF, excessW}
+use Rattle.machine.specs.Valid.{Valid}
+use Rattle.machine.specs.Fresh.{kernelsOf, piecesOf, allPieces, worstFrom, valueOf, massOf, originOf, scaledList, readingOn, workedAfresh, freshRow, freshRows, pageAfresh}
+use Rattle.machine.specs.Calls.{Call, put, clear, reweigh, advance, squeeze, read, page, needs, machine, Store, after-all, holding, past, Heard}
+use Rattle.machine.specs.Signs.{unsigned, unsignedCall, unsignedRun, unsignedHeard, said, SameSaid, SignsUnseen}
+use Rattle.machine.proofs.Rows.{width3, map-set, map-getD}
+use Rattle.machine.proofs.Sixteen.{sixteen, laid-out}
+use Rattle.machine.proofs.Held.{get48}
+use Rattle.machine.proofs.Claim.{one-call, kept}
+use Rattle.machine.proofs.Unaltered.{told}
+use Rattle.machine.proofs.Opened.{opened-valid}
+use Rattle.machine.proofs.Demand.{last, passed, holds}
+
+abs-abs : (x : Float) → abs (abs x) ≡ abs x
+unfolding abs
+abs-abs nan = refl
+abs-abs (inf s) = refl
+abs-abs (fin s m e) = refl
+
+-- ---- kernels without the signs of their sigmas, six floats each
+abbrev even : Kernel → Kernel
+even k = record { c = k .c; sigma = abs (k .sigma); w = k .w; alpha = k .alpha }
+
+six-at : (ks : List Kernel) (i : ℕ) → i < length ks → kernelAt (sixes (map even ks)) i ≡ even (kernelAt (sixes ks) i)
+six-at ks i h =
+    at-whole (map even ks) i (rw (length-map ks even) h)
+    ∙ (ap whole (map-getD even ks i noKernel noKernel h) ∙ ap even (sym (at-whole ks i h)))
+
+-- `densitize`
+density-same : (ks : List Kernel) (x : List Float) → densitized (sixes (map even ks)) x ≡ densitized (sixes ks) x
+unfolding densitized densitizeOf
+density-same ks x =
+    rw (list-sound (map even ks), list-sound ks, count-of (map even ks), count-of ks, length-map ks even)
+    (ap (λ (r : Float). accepted (r ∷ [])) (times-same {n = length ks} (λ i s h. ap (λ (d : Float). s ⊕ d) (one i h)) +0))
+  where
+    one : (i : ℕ) → i < length ks → densityOf (kernelAt (sixes (map even ks)) i) x ≡ densityOf (kernelAt (sixes ks) i) x
+    one i h = ap (λ (k : Kernel). densityOf k x) (six-at ks i h) ∙ density-abs (kernelAt (sixes ks) i) x
+
+-- `kernel_field_mass`
+module _ (t : ℕ → Triangle) (n : ℕ) (ks : List Kernel) where
+  abbrev share : List Kernel → ℕ → Float
+  share ls i = let k = kernelAt (sixes ls) i in k .w ⊗ kernelVolume t n (centreOf k) (k .sigma)
+
+  share-same : (i : ℕ) → i < length ks → share (map even ks) i ≡ share ks i
+  unfolding centreOf
+  share-same i h =
+      let k = kernelAt (sixes ks) i in
+      ap (λ (j : Kernel). j .w ⊗ kernelVolume t n (centreOf j) (j .sigma)) (six-at ks i h)
+      ∙ ap (λ (v : Float). k .w ⊗ v) (volume-abs t (centreOf k) (k .sigma) n)
+
+  field-same : fieldMass t n (sixes (map even ks)) ≡ fieldMass t n (sixes ks)
+  unfolding fieldMass
+  field-same =
+      rw (count-of (map even ks), count-of ks, length-map ks even)
+      (times-same {n = length ks} (λ i s h. ap (λ (x : Float). s ⊕ x) (share-same i h)) +0)
+
+-- ---- what a reading makes of them
+module _ (m : Mesh) (ks : List Kernel) where
+  mass-same : massOf m (map even ks) ≡ massOf m ks
+  unfolding fieldMassCall fieldCheck
+  mass-same = rw (list-sound (map even ks), list-sound ks, field-same (triangles m) (faceCount (m .corners)) ks) refl
+
+  origin-same : originOf (map even ks) ≡ originOf ks
+  origin-same = ap valueOf (density-same ks origin)
+
+  abbrev scale : Convention → Float
+  scale v = appliedScale v (massOf m ks) (rho0Scale (bulkOf v) (originOf ks))
+
+  abbrev scaled : Convention → List Kernel
+  scaled v = map (rescaled (scale v)) ks
+
+  rescaled-even : (s : Float) (ls : List Kernel) → map (rescaled s) (map even ls) ≡ map even (map (rescaled s) ls)
+  rescaled-even s [] = refl
+  rescaled-even s (k ∷ ls) = ap (λ (l : List Kernel). even (rescaled s k) ∷ l) (rescaled-even s ls)
+
+  scaled-same : (v : Convention) → scaledList v m (map even ks) ≡ sixes (map even (scaled v))
+  scaled-same v = rw (mass-same, origin-same, rescaled-even (scale v) ks) refl
+
+-- the run that a list writes
+run-same : (ks : List Kernel) (rest : List Float)
+    → unsignedRun (length ks) (sixes (map even ks) ++ rest) ≡ unsignedRun (length ks) (sixes ks ++ rest)
+run-same [] rest = refl
+run-same (k ∷ ks) rest =
+    rw (abs-abs (k .sigma), run-same ks rest) refl
+
+written-same : (ks : List Kernel) (out : List Float)
+    → unsignedRun (length ks) (write out 0 (sixes (map even ks))) ≡ unsignedRun (length ks) (write out 0 (sixes ks))
+unfolding write
+written-same ks out =
+    rw (sixes-length (map even ks), sixes-length ks, length-map ks even) (run-same ks (drop (6 * length ks) out))
+
+-- a reading's answer and run
+abbrev readSaid : Reading → Outcome → Heard
+readSaid r o = unsignedHeard (read r) (record { reply = o .reply; out = o .out; page = [] })
+
+listed : (v : Convention) (out a b : List Float) (n : ℕ) → unsignedRun n a ≡ unsignedRun n b → (c : Checked)
+    → readSaid (list v out) (guardedRun c out (outcome (counted (n ∷ [])) a))
+    ≡ readSaid (list v out) (guardedRun c out (outcome (counted (n ∷ [])) b))
+listed v out a b n h Passed = ap (λ (xs : List Float). record { reply = counted (n ∷ []); out = xs; page = [] }) h
+listed v out a b n h (Failed r) = refl
+
+module _ (m : Mesh) (ks : List Kernel) (filled : ℕ) (worst : Float) where
+  reading-same : (r : Reading)
+      → readSaid r (readingOn m (map even ks) filled worst r) ≡ readSaid r (readingOn m ks filled worst r)
+  reading-same (density v x) =
+      rw (scaled-same m ks v) (ap (λ (a : Answer). record { reply = a; out = []; page = [] }) (density-same (scaled m ks v) x))
+  reading-same (report v) = rw (mass-same m ks, origin-same m ks, length-map ks even) refl
+  reading-same (list v out) =
+      let js = scaled m ks v in
+      let n : length js ≡ length ks = length-map ks (rescaled (scale m ks v)) in
+      rw (scaled-same m ks v, length-map ks even, ← n)
+      (listed v out (write out 0 (sixes (map even js))) (write out 0 (sixes js)) (length js) (written-same js out)
+      (roomCheck (6 * length js) (length out)))
+  reading-same (track v points out) =
+      let n = length points / 3 in
+      rw (scaled-same m ks v)
+      (ap (λ (ds : List Float). readSaid (track v points out) (guardedRun (trackCheck (length points) (length out)) out (outcome (counted (n ∷ [])) (write out 0 ds))))
+      (stretch-same (λ x. valueOf (densitized (sixes (map even (scaled m ks v))) x)) (λ x. valueOf (densitized (scaledList v m ks) x))
+      (λ x. ap valueOf (density-same (scaled m ks v) x)) points 0 n))
+
+-- ---- a kernel's pieces
+pieces-same : (r : Float) (k : Kernel) → map even (piecesOf r (unsigned k)) ≡ map even (piecesOf r k)
+unfolding decomposed pieceAt pieceAlpha ofBits
+pieces-same r k = go (stays (k .alpha)) refl
+  where
+    go : (b : Bool) → stays (k .alpha) ≡ b → map even (piecesOf r (unsigned k)) ≡ map even (piecesOf r k)
+    go true h = rw (h, abs-abs (k .sigma)) refl
+    go false h = rw h refl
+
+all-same : (r : Float) (ks : List Kernel) → map even (allPieces r (map unsigned ks)) ≡ map even (allPieces r ks)
+all-same r [] = refl
+all-same r (k ∷ ks) =
+    rw (
+      map-append even (piecesOf r (unsigned k)) (allPieces r (map unsigned ks)),
+      map-append even (piecesOf r k) (allPieces r ks),
+      pieces-same r k,
+      all-same r ks,
+    ) refl
+
+-- ---- a place
+abbrev fitBy : Bool → Pieces → Pieces
+fitBy b fit = record { count = fit .count; sigma = cond b (map abs (fit .sigma)) (fit .sigma); coefficient = fit .coefficient; error = fit .error }
+
+abbrev kernelBy : Bool → Kernel → Kernel
+kernelBy b k = record { c = k .c; sigma = cond b (abs (k .sigma)) (k .sigma); w = k .w; alpha = k .alpha }
+
+abbrev unsignedFit : Kernel → Pieces → Pieces
+unsignedFit k fit = fitBy (stays (k .alpha)) fit
+
+fit-even : (k : Kernel) (r : Float) → decomposed (unsigned k) r ≡ unsignedFit k (decomposed k r)
+unfolding decomposed abs ofBits
+fit-even k r = go (stays (k .alpha))
+  where
+    n : ℕ
+    n = sizeOf (delta (k .alpha)) .terms
+
+    go : (b : Bool) → cond b (itself (kernelBy b k)) (fitted n (curveOf (kernelBy b k) r) (kernelBy b k .sigma))
+        ≡ fitBy b (cond b (itself k) (fitted n (curveOf k r) (k .sigma)))
+    go true = refl
+    go false = refl
+
+worst-same : (r e : Float) (ks : List Kernel) → worstFrom r e (map unsigned ks) ≡ worstFrom r e ks
+worst-same r e [] = refl
+worst-same r e (k ∷ ks) =
+    ap (λ (f : Pieces). worstFrom r (greater e (f .error)) (map unsigned ks)) (fit-even k r)
+    ∙ worst-same r (greater e (decomposed k r .error)) ks
+
+abbrev unsignedSlot : Slot → Slot
+unsignedSlot empty = empty
+unsignedSlot (full k fit p) = full (unsigned k) (unsignedFit k fit) p
+
+slot-at : (ss : List Slot) (i : ℕ) → getD (map unsignedSlot ss) i empty ≡ unsignedSlot (getD ss i empty)
+slot-at ss i = List·getD-map unsignedSlot ss i empty
+
+kernels-same : (ss : List Slot) → kernelsOf (map unsignedSlot ss) ≡ map unsigned (kernelsOf ss)
+kernels-same [] = refl
+kernels-same (empty ∷ ss) = kernels-same ss
+kernels-same (full k fit p ∷ ss) = ap (λ (l : List Kernel). unsigned k ∷ l) (kernels-same ss)
+
+module _ (m : Mesh) where
+  afresh-same : (ss : List Slot) (r : Reading)
+      → readSaid r (workedAfresh m (map unsignedSlot ss) r) ≡ readSaid r (workedAfresh m ss r)
+  unfolding workedAfresh
+  afresh-same ss r =
+      let ks = kernelsOf ss in
+      let R = m .radius in
+      let w = worstFrom R +0 ks in
+      rw (kernels-same ss, length-map ks unsigned, worst-same R +0 ks)
+      (sym (reading-same m (allPieces R (map unsigned ks)) (length ks) w r)
+      ∙ (ap (λ (l : List Kernel). readSaid r (readingOn m l (length ks) w r)) (all-same R ks)
+      ∙ reading-same m (allPieces R ks) (length ks) w r))
+
+  mass-alike : (k : Kernel) → massOf m (piecesOf (m .radius) (unsigned k)) ≡ massOf m (piecesOf (m .radius) k)
+  mass-alike k =
+      let R = m .radius in
+      sym (mass-same m (piecesOf R (unsigned k))) ∙ (ap (massOf m) (pieces-same R k) ∙ mass-same m (piecesOf R k))
+
+  row-same : (i : ℕ) (s : Slot) → freshRow m i (unsignedSlot s) ≡ freshRow m i s
+  row-same i empty = refl
+  row-same i (full k fit p) =
+      ap (λ (f : Pieces). row i (f .count) (massOf m (piecesOf (m .radius) (unsigned k))) ∷ []) (fit-even k (m .radius))
+      ∙ ap (λ (x : Float). row i (decomposed k (m .radius) .count) x ∷ []) (mass-alike k)
+
+  rows-same : (i : ℕ) (ss : List Slot) → freshRows m i (map unsignedSlot ss) ≡ freshRows m i ss
+  rows-same i [] = refl
+  rows-same i (s ∷ ss) = rw (row-same i s, rows-same (suc i) ss) refl
+
+  page-same : (ss : List Slot) (bs : List ℕ) → pageAfresh m (map unsignedSlot ss) bs ≡ pageAfresh m ss bs
+  unfolding pageAfresh
+  page-same ss bs = ap (λ (rs : List Row). pageAnswer rs bs) (rows-same 0 ss)
+
+  left-same : (s : Slot) → leftSlot m (unsignedSlot s) ≡ leftSlot m s
+  left-same empty = refl
+  left-same (full k fit p) = refl
+
+  left-sum-same : (ss : List Slot) → leftSum m (map unsignedSlot ss) ≡ leftSum m ss
+  left-sum-same [] = refl
+  left-sum-same (s ∷ ss) = rw (left-same s, left-sum-same ss) refl
+
+  adv-same : (u : ℕ) (s : Slot) → adv u (unsignedSlot s) ≡ unsignedSlot (adv u s)
+  adv-same u empty = refl
+  adv-same u (full k fit p) = refl
+
+  bump-same : (ss : List Slot) → bump m (map unsignedSlot ss) ≡ map unsignedSlot (bump m ss)
+  bump-same [] = refl
+  bump-same (s ∷ ss) = rw (left-same s, bump-same ss, adv-same 1 s) (go (eqb (leftSlot m s) 0))
+    where
+      go : (b : Bool) → cond b (unsignedSlot s ∷ map unsignedSlot (bump m ss)) (unsignedSlot (adv 1 s) ∷ map unsignedSlot ss)
+          ≡ map unsignedSlot (cond b (s ∷ bump m ss) (adv 1 s ∷ ss))
+      go true = refl
+      go false = refl
+
+  bumps-same : (n : ℕ) (ss : List Slot) → iterate (bump m) n (map unsignedSlot ss) ≡ map unsignedSlot (iterate (bump m) n ss)
+  bumps-same zero ss = refl
+  bumps-same (suc n) ss = ap (bump m) (bumps-same n ss) ∙ bump-same (iterate (bump m) n ss)
+
+-- the volumes so far that the runs hold
+abs-at : (xs : List Float) (j : ℕ) → getD (map abs xs) j nan ≡ abs (getD xs j nan)
+unfolding abs
+abs-at xs j = List·getD-map abs xs j nan
+
+module _ (m : Mesh) (k : Kernel) (fit : Pieces) where
+  volume-same : (j n : ℕ) → volumeTo (triangles m) (centreOf (unsigned k)) (getD (unsignedFit k fit .sigma) j nan) n
+      ≡ volumeTo (triangles m) (centreOf k) (getD (fit .sigma) j nan) n
+  unfolding centreOf
+  volume-same j n = go (stays (k .alpha))
+    where
+      go : (b : Bool) → volumeTo (triangles m) (centreOf k) (getD (fitBy b fit .sigma) j nan) n
+          ≡ volumeTo (triangles m) (centreOf k) (getD (fit .sigma) j nan) n
+      go true = rw (abs-at (fit .sigma) j) (volume-abs (triangles m) (centreOf k) (getD (fit .sigma) j nan) n)
+      go false = refl
+
+  cells-same : (n i j t : ℕ) → getD (cells m (unsigned k) (unsignedFit k fit) n i t) (3 * j + 2) nan ≡ getD (cells m k fit n i t) (3 * j + 2) nan
+  cells-same zero i j t = refl
+  cells-same (suc n) i zero t = volume-same i (min (m .faces) t)
+  cells-same (suc n) i (suc j) t =
+      let e : 3 * suc j + 2 ≡ suc (suc (suc (3 * j + 2))) = omega arith in
+      rw e (cells-same n (suc i) j (t - m .faces))
+
+held-same : (m : Mesh) (s : Slot) (j : ℕ) → getD (sixteen m (unsignedSlot s)) (3 * j + 2) nan ≡ getD (sixteen m s) (3 * j + 2) nan
+held-same m empty j = refl
+held-same m (full k fit p) j = cells-same m k fit 16 0 j p
+
+-- ---- one call
+abbrev unsignedMachine : Machine → Machine
+unsignedMachine m = record { mesh = m .mesh; slots = map unsignedSlot (m .slots); charged = m .charged; dropped = m .dropped; freed = m .freed }
+
+abbrev unsignedTurn : Turn → Turn
+unsignedTurn t = record { next = unsignedMachine (t .next); reply = t .reply; out = t .out; page = t .page }
+
+abbrev turnSaid : Call → Turn → Heard
+turnSaid c t = unsignedHeard c (told t)
+
+record Unseen (m : Machine) (c : Call) : Type 0 where
+  same : turnSaid (unsignedCall c) (machine (unsignedMachine m) (unsignedCall c)) ≡ turnSaid c (machine m c)
+  next : machine (unsignedMachine m) (unsignedCall c) .next ≡ unsignedMachine (machine m c .next)
+
+by-turn : (m : Machine) (c : Call) → ((o : Heard) → unsignedHeard (unsignedCall c) o ≡ unsignedHeard c o)
+    → machine (unsignedMachine m) (unsignedCall c) ≡ unsignedTurn (machine m c) → Unseen m c
+by-turn m c p e =
+    record {
+      same = ap (turnSaid (unsignedCall c)) e ∙ p (told (machine m c));
+      next = ap (λ (t : Turn). t .next) e;
+    }
+
+refused-same : (r : Reading) (b : Bool) (x y z : Outcome) → readSaid r y ≡ readSaid r z
+    → readSaid r (cond b x y) ≡ readSaid r (cond b x z)
+refused-same r true x y z h = refl
+refused-same r false x y z h = h
+
+unseen : (m : Machine) (c : Call) → Unseen m c
+unfolding machine
+unseen m (put i k) = by-turn m (put i k) (λ o. refl) (lift (ltb i slotLimit))
+  where
+    r : Float
+    r = m .mesh .radius
+
+    lift : (b : Bool)
+        → cond b (putTurn (unsignedMachine m) i (unsigned k) (decomposed (unsigned k) r)) (turn (unsignedMachine m) (refused NoPlace))
+        ≡ unsignedTurn (cond b (putTurn m i k (decomposed k r)) (turn m (refused NoPlace)))
+    lift true =
+        rw (
+          fit-even k r,
+          slot-at (m .slots) i,
+          left-same (m .mesh) (getD (m .slots) i empty),
+          map-set unsignedSlot (m .slots) i (full k (decomposed k r) 0),
+        ) refl
+    lift false = refl
+unseen m (clear i) =
+    by-turn m (clear i) (λ o. refl) (rw (slot-at (m .slots) i) (lift (ltb i slotLimit) (getD (m .slots) i empty)))
+  where
+    lift : (b : Bool) (s : Slot)
+        → cond b (clearTurn (unsignedMachine m) i (unsignedSlot s)) (turn (unsignedMachine m) (refused NoPlace))
+        ≡ unsignedTurn (cond b (clearTurn m i s) (turn m (refused NoPlace)))
+    lift true empty = refl
+    lift true (full k fit p) = rw (map-set unsignedSlot (m .slots) i empty) refl
+    lift false s = refl
+unseen m (reweigh i x) =
+    by-turn m (reweigh i x) (λ o. refl) (rw (slot-at (m .slots) i) (lift (ltb i slotLimit) (getD (m .slots) i empty)))
+  where
+    lift : (b : Bool) (s : Slot)
+        → cond b (reweighTurn (unsignedMachine m) i x (unsignedSlot s)) (turn (unsignedMachine m) (refused NoPlace))
+        ≡ unsignedTurn (cond b (reweighTurn m i x s) (turn m (refused NoPlace)))
+    lift true empty = refl
+    lift true (full k fit p) = rw (map-set unsignedSlot (m .slots) i (full (weighed k x) fit p)) refl
+    lift false s = refl
+unseen m (advance n) =
+    let ss = iterate (bump (m .mesh)) (stepsOf m n) (m .slots) in
+    by-turn m (advance n) (λ o. refl)
+    (rw (
+      left-sum-same (m .mesh) (m .slots),
+      bumps-same (m .mesh) (stepsOf m n) (m .slots),
+      left-sum-same (m .mesh) ss,
+    ) refl)
+unseen m squeeze = by-turn m squeeze (λ o. refl) refl
+unseen m (read r) =
+    let ss = m .slots in
+    record {
+      same = rw (left-sum-same (m .mesh) ss)
+          (refused-same r (needs r && ltb 0 (leftSum (m .mesh) ss)) (refusing r Unfinished)
+          (workedAfresh (m .mesh) (map unsignedSlot ss) r) (workedAfresh (m .mesh) ss r) (afresh-same (m .mesh) ss r));
+      next = refl;
+    }
+unseen m (page bs) =
+    by-turn m (page bs) (λ o. refl) (rw (left-sum-same (m .mesh) (m .slots), page-same (m .mesh) (m .slots) bs) refl)
+
+-- ---- a list of calls
+abbrev saidBy : Machine → List Call → List Heard
+saidBy m [] = []
+saidBy m (c ∷ cs) = turnSaid c (machine m c) ∷ saidBy (machine m c .next) cs
+
+said-same : (cs : List Call) (m : Machine) → saidBy (unsignedMachine m) (map unsignedCall cs) ≡ saidBy m cs
+said-same [] m = refl
+said-same (c ∷ cs) m =
+    let e = unseen m c in
+    ap (λ (o : Heard). o ∷ saidBy (machine (unsignedMachine m) (unsignedCall c) .next) (map unsignedCall cs)) (e .same)
+    ∙ ap (λ (l : List Heard). turnSaid c (machine m c) ∷ l)
+    (ap (λ (t : Machine). saidBy t (map unsignedCall cs)) (e .next) ∙ said-same cs (machine m c .next))
+
+after-same : (cs : List Call) (m : Machine) → after-all (unsignedMachine m) (map unsignedCall cs) ≡ unsignedMachine (after-all m cs)
+after-same [] m = refl
+after-same (c ∷ cs) m =
+    ap (λ (t : Machine). after-all t (map unsignedCall cs)) (unseen m c .next) ∙ after-same cs (machine m c .next)
+
+-- ---- the store
+module _ (exF : List Float) (exW : List ℕ) where
+  store-said : (cs : List Call) (m : Machine) → Valid (m .mesh) (m .slots) → said width (holding m exF exW) cs ≡ saidBy m cs
+  store-said [] m v = refl
+  store-said (c ∷ cs) m v =
+      rw (one-call width width3 m v exF exW c)
+      (ap (λ (l : List Heard). turnSaid c (machine m c) ∷ l) (store-said cs (machine m c .next) (kept m v c .valid)))
+
+  abbrev volumeAt : Store → ℕ → ℕ → Float
+  volumeAt s i j = getD (s .floats) (pieceFrom i j + 2) nan
+
+  abbrev placeVolume : Machine → ℕ → ℕ → Float
+  placeVolume m i j = getD (sixteen (m .mesh) (getD (m .slots) i empty)) (3 * j + 2) nan
+
+  volume-held : (m : Machine) → Valid (m .mesh) (m .slots) → (i j : ℕ) → i < 32 → j < 16
+      → volumeAt (holding m exF exW) i j ≡ placeVolume (unsignedMachine m) i j
+  volume-held m v i j h g =
+      let e : pieceFrom i j + 2 ≡ 225 + (48 * i + (3 * j + 2)) = omega arith in
+      rw (e, laid-out (m .mesh) (m .slots) v (past m exF), slot-at (m .slots) i)
+      (get48 width width3 (m .mesh) (m .slots) (v .slots) (past m exF) i h (3 * j + 2) (omega arith)
+      ∙ sym (held-same (m .mesh) (getD (m .slots) i empty) j))
+
+  same-said : (m : Machine) → Valid (m .mesh) (m .slots) → (cs ds : List Call) → map unsignedCall cs ≡ map unsignedCall ds
+      → SameSaid width (holding m exF exW) cs ds
+  same-said m v cs ds h =
+      let a = last width width3 exF exW cs m v in
+      let b = last width width3 exF exW ds m v in
+      let s : unsignedMachine (after-all m cs) ≡ unsignedMachine (after-all m ds)
+      = sym (after-same cs m) ∙ (ap (after-all (unsignedMachine m)) h ∙ after-same ds m) in
+      record {
+        calls =
+            store-said cs m v
+            ∙ (sym (said-same cs m) ∙ (ap (saidBy (unsignedMachine m)) h ∙ (said-same ds m ∙ sym (store-said ds m v))));
+        volumes = λ i j hi hj.
+            ap (λ (t : Store). volumeAt t i j) (a .0)
+            ∙ (volume-held (after-all m cs) (a .1) i j hi hj
+            ∙ (ap (λ (t : Machine). placeVolume t i j) s
+            ∙ sym (ap (λ (t : Store). volumeAt t i j) (b .0) ∙ volume-held (after-all m ds) (b .1) i j hi hj)));
+      }
+
+-- ---- the theorem
+turned-density : (k : Kernel) (x : List Float) → densitized (six (turned k)) x ≡ densitized (six k) x
+turned-density k x =
+    sym (density-same (turned k ∷ []) x)
+    ∙ (ap (λ (s : Float). densitized (six (record { c = k .c; sigma = s; w = k .w; alpha = k .alpha })) x) (abs-neg (k .sigma))
+    ∙ density-same (k ∷ []) x)
+
+turned-volume : (xs : List Float) (ks : List ℕ) (c : V3) (sigma : Float)
+    → kernelVolumeCall xs ks c (neg sigma) ≡ kernelVolumeCall xs ks c sigma
+unfolding kernelVolumeCall
+turned-volume xs ks c sigma = rw (kernel-volume-even (triangleAt xs ks) c sigma (faceCount ks)) refl
+
+turned-put : (i : ℕ) (k : Kernel) → stays (k .alpha) ≡ true → unsignedCall (put i (turned k)) ≡ unsignedCall (put i k)
+turned-put i k h = rw (h, abs-neg (k .sigma)) refl
+
+pub signs-unseen : SignsUnseen
+signs-unseen =
+    record {
+      density = turned-density;
+      volume = turned-volume;
+      put-turned = turned-put;
+      every-list = λ r xs ks fs ws h cs ds e.
+          let v = opened-valid width width3 r xs ks (length fs) (length ws) (passed width width3 r xs ks fs ws h) in
+          subst (λ (s : Store). SameSaid width s cs ds) (sym (holds width width3 r xs ks fs ws h))
+          (same-said (excessF xs fs) (excessW width ks ws) (opened r xs ks) v cs ds e);
+    }
