@@ -4,7 +4,6 @@ use mathlib.Core.Path.{_≡_, refl, sym, ap, subst, _∙_}
 use mathlib.Core.Bool.{Bool, true, false, _||_, cond}
 use mathlib.Core.List.{List, [], _∷_, map}
 use Prim.Native.Nat.{ℕ, zero, suc, _+_, _*_, _/_, _<_}
-use native.Mathlib.Nat.{add-zero}
 use native.Mathlib.Decide.{decLt}
 use native.Mathlib.Omega.{arith}
 use borrow.Author.Tests.{eqb-true, eqb-false, ne-eqb, eq-eqb, lt-ltb, le-ltb, ltb-true, ltb-false}
@@ -13,7 +12,7 @@ use lib.ListN.{length, getD, length-map}
 use lib.Ieee.{Float, nan}
 use Rattle.base.specs.Answers.{counted}
 use Rattle.mesh.specs.Triangles.{vertex, triangleAt}
-use Rattle.mesh.specs.TriangleLaws.{same-named}
+use Rattle.mesh.specs.TriangleLaws.{same-vertex, same-named}
 use Rattle.layout.specs.Layout.{width}
 use Rattle.store.specs.Calls.{After, openStep}
 use Rattle.squeeze.specs.Squeeze.{used, rank, renumbered, keptTo}
@@ -103,7 +102,8 @@ module _ (p : ℕ → ℕ) where
 -- a squeeze's numbers do
 distinct-renumbered : (ks : List ℕ) → distinct (renumbered ks) ≡ distinct ks
 distinct-renumbered ks =
-    distinct-map (rank ks) ks (λ i j h g e. apart (getD ks i 0) (getD ks j 0) (corner-used ks i h) (corner-used ks j g) e)
+    distinct-map (rank ks) ks
+    (λ i j h g e. apart (getD ks i 0) (getD ks j 0) (corner-used ks i h) (corner-used ks j g) e)
   where
     apart : (a b : ℕ) → used ks a ≡ true → used ks b ≡ true → rank ks a ≡ rank ks b → a ≡ b
     apart a b u w e = go (decLt a b) (decLt b a)
@@ -134,9 +134,10 @@ module _ (m : Mesh) (xs : List Float) (ks : List ℕ) (w : ℕ) (a : Paired m xs
 
   squeezed-paired : Paired (thinned m) (keptTo ks xs w) (renumbered ks) (rank ks w)
   squeezed-paired =
-      let o : Alike m (m .coords) (m .corners) (m .verts) = record { shape = a .alike .was; was = a .alike .was; same = λ f h. refl } in
+      let g = a .alike .was in
+      let own : Alike m (m .coords) (m .corners) (m .verts) = record { shape = g; was = g; same = λ f h. refl } in
       let s = squeezed-alike m xs ks w (a .alike) in
-      let t = squeezed-alike m (m .coords) (m .corners) (m .verts) o in
+      let t = squeezed-alike m (m .coords) (m .corners) (m .verts) own in
       record {
         alike = record { shape = s .shape; was = t .shape; same = λ f h. s .same f h ∙ sym (t .same f h) };
         verts = rank-same;
@@ -150,7 +151,8 @@ toldBy m (c ∷ cs) = told (machine m c) ∷ toldBy (machine m c .next) cs
 
 module _ (m : Machine) (c : Call) (cs : List Call) (xs : List Float) (ks : List ℕ) (w g : ℕ) where
   one-told : Goes m c xs ks w g → Paired (m .mesh) xs ks w
-      → (Paired (machine m c .next .mesh) xs ks w → toldBy (remade (machine m c .next) xs ks w g) cs ≡ toldBy (machine m c .next) cs)
+      → (Paired (machine m c .next .mesh) xs ks w
+      → toldBy (remade (machine m c .next) xs ks w g) cs ≡ toldBy (machine m c .next) cs)
       → toldBy (remade m xs ks w g) (c ∷ cs) ≡ toldBy m (c ∷ cs)
   one-told s a ih =
       rw (s .lift)
@@ -160,7 +162,13 @@ module _ (m : Machine) (c : Call) (cs : List Call) (xs : List Float) (ks : List 
 -- the machine that a squeeze leaves, by the store's own definitions
 abbrev thinner : Machine → Machine
 thinner m =
-    record { mesh = thinned (m .mesh); slots = m .slots; charged = m .charged; dropped = m .dropped; freed = freedBy (m .mesh) + m .freed }
+    record {
+      mesh = thinned (m .mesh);
+      slots = m .slots;
+      charged = m .charged;
+      dropped = m .dropped;
+      freed = freedBy (m .mesh) + m .freed;
+    }
 
 squeezes : (m : Machine) → Below (m .mesh .verts) (m .mesh .corners)
     → machine m squeeze ≡ turn (thinner m) (counted (freedBy (m .mesh) ∷ []))
@@ -175,40 +183,44 @@ same-told (put i k ∷ cs) m xs ks w g a =
 same-told (clear i ∷ cs) m xs ks w g a =
     one-told m (clear i) cs xs ks w g (clear-goes m xs ks w g i) a (same-told cs (machine m (clear i) .next) xs ks w g)
 same-told (reweigh i x ∷ cs) m xs ks w g a =
-    one-told m (reweigh i x) cs xs ks w g (reweigh-goes m xs ks w g i x) a (same-told cs (machine m (reweigh i x) .next) xs ks w g)
+    one-told m (reweigh i x) cs xs ks w g (reweigh-goes m xs ks w g i x) a
+    (same-told cs (machine m (reweigh i x) .next) xs ks w g)
 same-told (advance k ∷ cs) m xs ks w g a =
-    one-told m (advance k) cs xs ks w g (advance-goes m xs ks w g k) a (same-told cs (machine m (advance k) .next) xs ks w g)
+    one-told m (advance k) cs xs ks w g (advance-goes m xs ks w g k) a
+    (same-told cs (machine m (advance k) .next) xs ks w g)
 same-told (squeeze ∷ cs) m xs ks w g a =
     let f = freedBy (m .mesh) in
-    rw (squeezes (remade m xs ks w g) (below (m .mesh) xs ks w a), squeezes m (own-below (m .mesh) xs ks w a), freed-same (m .mesh) xs ks w a)
-    (ap (λ (os : List Heard). record { reply = counted (f ∷ []); out = []; page = [] } ∷ os)
+    rw (
+      squeezes (remade m xs ks w g) (below (m .mesh) xs ks w a),
+      squeezes m (own-below (m .mesh) xs ks w a),
+      freed-same (m .mesh) xs ks w a,
+    )
+    (ap (λ (os : List Heard). told (turn m (counted (f ∷ []))) ∷ os)
     (same-told cs (thinner m) (keptTo ks xs w) (renumbered ks) (rank ks w) (f + g) (squeezed-paired (m .mesh) xs ks w a)))
 same-told (read r ∷ cs) m xs ks w g a =
-    one-told m (read r) cs xs ks w g (read-goes m xs ks w g (a .alike) r) a (same-told cs (machine m (read r) .next) xs ks w g)
+    one-told m (read r) cs xs ks w g (read-goes m xs ks w g (a .alike) r) a
+    (same-told cs (machine m (read r) .next) xs ks w g)
 same-told (page bs ∷ cs) m xs ks w g a =
-    one-told m (page bs) cs xs ks w g (page-goes m xs ks w g (a .alike) bs) a (same-told cs (machine m (page bs) .next) xs ks w g)
+    one-told m (page bs) cs xs ks w g (page-goes m xs ks w g (a .alike) bs) a
+    (same-told cs (machine m (page bs) .next) xs ks w g)
 
--- ---- the triangles
-module _ (p q : ℕ → ℕ) (xs : List Float) (ks : List ℕ) (ys : List Float) (ls : List ℕ) (e : Renumbered p q xs ks ys ls) where
-  moved-vertex : (i : ℕ) → i < length xs / 3 → vertex ys (p i) ≡ vertex xs i
-  unfolding vertex
-  moved-vertex i h =
-      let a : getD ys (3 * p i) nan ≡ getD xs (3 * i) nan = rw (add-zero (3 * p i), add-zero (3 * i)) at (e .coords i 0 h (omega arith)) in
-      rw (a, e .coords i 1 h (omega arith), e .coords i 2 h (omega arith)) refl
+-- ---- a mesh and the one with its vertices numbered anew
+module _ (p q : ℕ → ℕ) (xs : List Float) (ks : List ℕ) (ys : List Float) (ls : List ℕ) (e : Renumbered p q xs ks ys ls)
+    (b : Below (length xs / 3) ks) where
+  moved-corner : (j : ℕ) → j < length ks → vertex ys (getD ls j 0) ≡ vertex xs (getD ks j 0)
+  moved-corner j h =
+      let i = getD ks j 0 in
+      rw (e .corners, map-getD p ks j 0 0 h) (same-vertex xs ys i (p i) (λ n l. e .coords i n (b .corner j h) l))
 
-  module _ (b : Below (length xs / 3) ks) where
-    moved-corner : (j : ℕ) → j < length ks → vertex ys (getD ls j 0) ≡ vertex xs (getD ks j 0)
-    moved-corner j h = rw (e .corners, map-getD p ks j 0 0 h) (moved-vertex (getD ks j 0) (b .corner j h))
+  pub same-triangles : (f : ℕ) → 3 * f + 2 < length ks → triangleAt ys ls f ≡ triangleAt xs ks f
+  same-triangles f h = same-named xs ys ks ls moved-corner f h
 
-    pub same-triangles : (f : ℕ) → 3 * f + 2 < length ks → triangleAt ys ls f ≡ triangleAt xs ks f
-    same-triangles f h = same-named xs ks ys ls moved-corner f h
+  taken-back : (j : ℕ) → j < length ks → q (p (getD ks j 0)) ≡ getD ks j 0
+  taken-back j h = e .numbers .back (getD ks j 0) (b .corner j h)
 
-    taken-back : (j : ℕ) → j < length ks → q (p (getD ks j 0)) ≡ getD ks j 0
-    taken-back j h = e .numbers .back (getD ks j 0) (b .corner j h)
-
-    same-used : distinct ls ≡ distinct ks
-    same-used =
-        ap distinct (e .corners) ∙ distinct-map p ks (λ i j h g z. sym (taken-back i h) ∙ (ap q z ∙ taken-back j g))
+  same-used : distinct ls ≡ distinct ks
+  same-used =
+      ap distinct (e .corners) ∙ distinct-map p ks (λ i j h g z. sym (taken-back i h) ∙ (ap q z ∙ taken-back j g))
 
 -- ---- the store
 store-told : (exF : List Float) (exW : List ℕ) (cs : List Call) (m : Machine) → Valid (m .mesh) (m .slots)
@@ -227,7 +239,8 @@ module _ (r : Float) (xs : List Float) (ks : List ℕ) (fs : List Float) (ws : L
   opened-reply : openStep width fs ws r xs ks .reply ≡ counted (length xs / 3 ∷ length ks / 3 ∷ [])
   opened-reply = ap (λ (a : After). a .reply) (opens width width3 r xs ks fs ws (passed width width3 r xs ks fs ws h))
 
-  opened-told : (cs : List Call) → answers width (leaving (openStep width fs ws r xs ks)) cs ≡ toldBy (opened r xs ks) cs
+  opened-told : (cs : List Call)
+      → answers width (leaving (openStep width fs ws r xs ks)) cs ≡ toldBy (opened r xs ks) cs
   opened-told cs =
       ap (λ (s : Store). answers width s cs) (holds width width3 r xs ks fs ws h)
       ∙ store-told (excessF xs fs) (excessW width ks ws) cs (opened r xs ks) valid
@@ -242,7 +255,11 @@ renumbering p q xs ks ys ls e r fs ws gs us h k =
     let is : opened r ys ls ≡ remade m ys ls (length ys / 3) 0 = rw l refl in
     let a : Paired (m .mesh) ys ls (length ys / 3)
     = record {
-      alike = record { shape = rw l at w; was = v; same = λ f t. same-triangles p q xs ks ys ls e b f (omega (arith, v .corners)) };
+      alike = record {
+        shape = rw l at w;
+        was = v;
+        same = λ f t. same-triangles p q xs ks ys ls e b f (omega (arith, v .corners));
+      };
       verts = ap (λ (n : ℕ). n / 3) (e .long);
       used-same = same-used p q xs ks ys ls e b;
     } in
@@ -271,8 +288,13 @@ swap-back (suc zero) = refl
 swap-back (suc (suc n)) = refl
 
 module _ (a b c d e f g h i : Float) where
-  swap-coords : (n j : ℕ) → n < 3 → j < 3
-      → getD (d ∷ e ∷ f ∷ a ∷ b ∷ c ∷ g ∷ h ∷ i ∷ []) (3 * swap n + j) nan ≡ getD (a ∷ b ∷ c ∷ d ∷ e ∷ f ∷ g ∷ h ∷ i ∷ []) (3 * n + j) nan
+  abbrev three : List Float
+  three = a ∷ b ∷ c ∷ d ∷ e ∷ f ∷ g ∷ h ∷ i ∷ []
+
+  abbrev other : List Float
+  other = d ∷ e ∷ f ∷ a ∷ b ∷ c ∷ g ∷ h ∷ i ∷ []
+
+  swap-coords : (n j : ℕ) → n < 3 → j < 3 → getD other (3 * swap n + j) nan ≡ getD three (3 * n + j) nan
   swap-coords zero zero l k = refl
   swap-coords zero (suc zero) l k = refl
   swap-coords zero (suc (suc zero)) l k = refl
@@ -287,10 +309,11 @@ module _ (a b c d e f g h i : Float) where
   swap-coords (suc (suc zero)) (suc (suc (suc j))) l k = absurd (omega arith)
   swap-coords (suc (suc (suc i))) j l k = absurd (omega arith)
 
-  pub swapped : Renumbered swap swap (a ∷ b ∷ c ∷ d ∷ e ∷ f ∷ g ∷ h ∷ i ∷ []) (0 ∷ 1 ∷ 2 ∷ []) (d ∷ e ∷ f ∷ a ∷ b ∷ c ∷ g ∷ h ∷ i ∷ []) (1 ∷ 0 ∷ 2 ∷ [])
+  pub swapped : Renumbered swap swap three (0 ∷ 1 ∷ 2 ∷ []) other (1 ∷ 0 ∷ 2 ∷ [])
   swapped =
+      let back : (n : ℕ) → n < 3 → swap (swap n) ≡ n = λ n l. swap-back n in
       record {
-        numbers = record { within = swap-within; within-back = swap-within; back = λ n l. swap-back n; forth = λ n l. swap-back n };
+        numbers = record { within = swap-within; within-back = swap-within; back = back; forth = back };
         long = refl;
         coords = swap-coords;
         corners = refl;

@@ -73,7 +73,8 @@ density-same : (ks : List Kernel) (x : List Float) → densitized (sixes (map ev
 unfolding densitized densitizeOf
 density-same ks x =
     rw (list-sound (map even ks), list-sound ks, count-of (map even ks), count-of ks, length-map ks even)
-    (ap (λ (r : Float). accepted (r ∷ [])) (times-same {n = length ks} (λ i s h. ap (λ (d : Float). s ⊕ d) (one i h)) +0))
+    (ap (λ (r : Float). accepted (r ∷ []))
+    (times-same {n = length ks} (λ i s h. ap (λ (d : Float). s ⊕ d) (one i h)) +0))
   where
     one : (i : ℕ) → i < length ks → densityOf (kernelAt (sixes (map even ks)) i) x ≡ densityOf (kernelAt (sixes ks) i) x
     one i h = ap (λ (k : Kernel). densityOf k x) (six-at ks i h) ∙ density-abs (kernelAt (sixes ks) i) x
@@ -122,8 +123,7 @@ module _ (m : Mesh) (ks : List Kernel) where
 run-same : (ks : List Kernel) (rest : List Float)
     → unsignedRun (length ks) (sixes (map even ks) ++ rest) ≡ unsignedRun (length ks) (sixes ks ++ rest)
 run-same [] rest = refl
-run-same (k ∷ ks) rest =
-    rw (abs-abs (k .sigma), run-same ks rest) refl
+run-same (k ∷ ks) rest = rw (abs-abs (k .sigma), run-same ks rest) refl
 
 written-same : (ks : List Kernel) (out : List Float)
     → unsignedRun (length ks) (write out 0 (sixes (map even ks))) ≡ unsignedRun (length ks) (write out 0 (sixes ks))
@@ -145,7 +145,8 @@ module _ (m : Mesh) (ks : List Kernel) (filled : ℕ) (worst : Float) where
   reading-same : (r : Reading)
       → readSaid r (readingOn m (map even ks) filled worst r) ≡ readSaid r (readingOn m ks filled worst r)
   reading-same (density v x) =
-      rw (scaled-same m ks v) (ap (λ (a : Answer). record { reply = a; out = []; page = [] }) (density-same (scaled m ks v) x))
+      rw (scaled-same m ks v)
+      (ap (λ (a : Answer). record { reply = a; out = []; page = [] }) (density-same (scaled m ks v) x))
   reading-same (report v) = rw (mass-same m ks, origin-same m ks, length-map ks even) refl
   reading-same (list v out) =
       let js = scaled m ks v in
@@ -155,10 +156,12 @@ module _ (m : Mesh) (ks : List Kernel) (filled : ℕ) (worst : Float) where
       (roomCheck (6 * length js) (length out)))
   reading-same (track v points out) =
       let n = length points / 3 in
+      let js = scaled m ks v in
+      let check = trackCheck (length points) (length out) in
       rw (scaled-same m ks v)
-      (ap (λ (ds : List Float). readSaid (track v points out) (guardedRun (trackCheck (length points) (length out)) out (outcome (counted (n ∷ [])) (write out 0 ds))))
-      (stretch-same (λ x. valueOf (densitized (sixes (map even (scaled m ks v))) x)) (λ x. valueOf (densitized (scaledList v m ks) x))
-      (λ x. ap valueOf (density-same (scaled m ks v) x)) points 0 n))
+      (ap (λ (ds : List Float). readSaid (track v points out) (guardedRun check out (outcome (counted (n ∷ [])) (write out 0 ds))))
+      (stretch-same (λ x. valueOf (densitized (sixes (map even js)) x)) (λ x. valueOf (densitized (sixes js) x))
+      (λ x. ap valueOf (density-same js x)) points 0 n))
 
 -- ---- a kernel's pieces
 pieces-same : (r : Float) (k : Kernel) → map even (piecesOf r (unsigned k)) ≡ map even (piecesOf r k)
@@ -181,7 +184,13 @@ all-same r (k ∷ ks) =
 
 -- ---- a place
 abbrev fitBy : Bool → Pieces → Pieces
-fitBy b fit = record { count = fit .count; sigma = cond b (map abs (fit .sigma)) (fit .sigma); coefficient = fit .coefficient; error = fit .error }
+fitBy b fit =
+    record {
+      count = fit .count;
+      sigma = cond b (map abs (fit .sigma)) (fit .sigma);
+      coefficient = fit .coefficient;
+      error = fit .error;
+    }
 
 abbrev kernelBy : Bool → Kernel → Kernel
 kernelBy b k = record { c = k .c; sigma = cond b (abs (k .sigma)) (k .sigma); w = k .w; alpha = k .alpha }
@@ -267,12 +276,14 @@ module _ (m : Mesh) where
   bump-same [] = refl
   bump-same (s ∷ ss) = rw (left-same s, bump-same ss, adv-same 1 s) (go (eqb (leftSlot m s) 0))
     where
-      go : (b : Bool) → cond b (unsignedSlot s ∷ map unsignedSlot (bump m ss)) (unsignedSlot (adv 1 s) ∷ map unsignedSlot ss)
+      go : (b : Bool)
+          → cond b (unsignedSlot s ∷ map unsignedSlot (bump m ss)) (unsignedSlot (adv 1 s) ∷ map unsignedSlot ss)
           ≡ map unsignedSlot (cond b (s ∷ bump m ss) (adv 1 s ∷ ss))
       go true = refl
       go false = refl
 
-  bumps-same : (n : ℕ) (ss : List Slot) → iterate (bump m) n (map unsignedSlot ss) ≡ map unsignedSlot (iterate (bump m) n ss)
+  bumps-same : (n : ℕ) (ss : List Slot)
+      → iterate (bump m) n (map unsignedSlot ss) ≡ map unsignedSlot (iterate (bump m) n ss)
   bumps-same zero ss = refl
   bumps-same (suc n) ss = ap (bump m) (bumps-same n ss) ∙ bump-same (iterate (bump m) n ss)
 
@@ -292,20 +303,29 @@ module _ (m : Mesh) (k : Kernel) (fit : Pieces) where
       go true = rw (abs-at (fit .sigma) j) (volume-abs (triangles m) (centreOf k) (getD (fit .sigma) j nan) n)
       go false = refl
 
-  cells-same : (n i j t : ℕ) → getD (cells m (unsigned k) (unsignedFit k fit) n i t) (3 * j + 2) nan ≡ getD (cells m k fit n i t) (3 * j + 2) nan
+  cells-same : (n i j t : ℕ)
+      → getD (cells m (unsigned k) (unsignedFit k fit) n i t) (3 * j + 2) nan ≡ getD (cells m k fit n i t) (3 * j + 2) nan
   cells-same zero i j t = refl
   cells-same (suc n) i zero t = volume-same i (min (m .faces) t)
   cells-same (suc n) i (suc j) t =
       let e : 3 * suc j + 2 ≡ suc (suc (suc (3 * j + 2))) = omega arith in
       rw e (cells-same n (suc i) j (t - m .faces))
 
-held-same : (m : Mesh) (s : Slot) (j : ℕ) → getD (sixteen m (unsignedSlot s)) (3 * j + 2) nan ≡ getD (sixteen m s) (3 * j + 2) nan
+held-same : (m : Mesh) (s : Slot) (j : ℕ)
+    → getD (sixteen m (unsignedSlot s)) (3 * j + 2) nan ≡ getD (sixteen m s) (3 * j + 2) nan
 held-same m empty j = refl
 held-same m (full k fit p) j = cells-same m k fit 16 0 j p
 
 -- ---- one call
 abbrev unsignedMachine : Machine → Machine
-unsignedMachine m = record { mesh = m .mesh; slots = map unsignedSlot (m .slots); charged = m .charged; dropped = m .dropped; freed = m .freed }
+unsignedMachine m =
+    record {
+      mesh = m .mesh;
+      slots = map unsignedSlot (m .slots);
+      charged = m .charged;
+      dropped = m .dropped;
+      freed = m .freed;
+    }
 
 abbrev unsignedTurn : Turn → Turn
 unsignedTurn t = record { next = unsignedMachine (t .next); reply = t .reply; out = t .out; page = t .page }
@@ -338,7 +358,8 @@ unseen m (put i k) = by-turn m (put i k) (λ o. refl) (lift (ltb i slotLimit))
     r = m .mesh .radius
 
     lift : (b : Bool)
-        → cond b (putTurn (unsignedMachine m) i (unsigned k) (decomposed (unsigned k) r)) (turn (unsignedMachine m) (refused NoPlace))
+        → cond b (putTurn (unsignedMachine m) i (unsigned k) (decomposed (unsigned k) r))
+        (turn (unsignedMachine m) (refused NoPlace))
         ≡ unsignedTurn (cond b (putTurn m i k (decomposed k r)) (turn m (refused NoPlace)))
     lift true =
         rw (
@@ -399,14 +420,16 @@ said-same (c ∷ cs) m =
     ∙ ap (λ (l : List Heard). turnSaid c (machine m c) ∷ l)
     (ap (λ (t : Machine). saidBy t (map unsignedCall cs)) (e .next) ∙ said-same cs (machine m c .next))
 
-after-same : (cs : List Call) (m : Machine) → after-all (unsignedMachine m) (map unsignedCall cs) ≡ unsignedMachine (after-all m cs)
+after-same : (cs : List Call) (m : Machine)
+    → after-all (unsignedMachine m) (map unsignedCall cs) ≡ unsignedMachine (after-all m cs)
 after-same [] m = refl
 after-same (c ∷ cs) m =
     ap (λ (t : Machine). after-all t (map unsignedCall cs)) (unseen m c .next) ∙ after-same cs (machine m c .next)
 
 -- ---- the store
 module _ (exF : List Float) (exW : List ℕ) where
-  store-said : (cs : List Call) (m : Machine) → Valid (m .mesh) (m .slots) → said width (holding m exF exW) cs ≡ saidBy m cs
+  store-said : (cs : List Call) (m : Machine) → Valid (m .mesh) (m .slots)
+      → said width (holding m exF exW) cs ≡ saidBy m cs
   store-said [] m v = refl
   store-said (c ∷ cs) m v =
       rw (one-call width width3 m v exF exW c)
@@ -426,8 +449,8 @@ module _ (exF : List Float) (exW : List ℕ) where
       (get48 width width3 (m .mesh) (m .slots) (v .slots) (past m exF) i h (3 * j + 2) (omega arith)
       ∙ sym (held-same (m .mesh) (getD (m .slots) i empty) j))
 
-  same-said : (m : Machine) → Valid (m .mesh) (m .slots) → (cs ds : List Call) → map unsignedCall cs ≡ map unsignedCall ds
-      → SameSaid width (holding m exF exW) cs ds
+  same-said : (m : Machine) → Valid (m .mesh) (m .slots) → (cs ds : List Call)
+      → map unsignedCall cs ≡ map unsignedCall ds → SameSaid width (holding m exF exW) cs ds
   same-said m v cs ds h =
       let a = last width width3 exF exW cs m v in
       let b = last width width3 exF exW ds m v in
@@ -448,7 +471,8 @@ module _ (exF : List Float) (exW : List ℕ) where
 turned-density : (k : Kernel) (x : List Float) → densitized (six (turned k)) x ≡ densitized (six k) x
 turned-density k x =
     sym (density-same (turned k ∷ []) x)
-    ∙ (ap (λ (s : Float). densitized (six (record { c = k .c; sigma = s; w = k .w; alpha = k .alpha })) x) (abs-neg (k .sigma))
+    ∙ (ap (λ (s : Float). densitized (six (record { c = k .c; sigma = s; w = k .w; alpha = k .alpha })) x)
+    (abs-neg (k .sigma))
     ∙ density-same (k ∷ []) x)
 
 turned-volume : (xs : List Float) (ks : List ℕ) (c : V3) (sigma : Float)

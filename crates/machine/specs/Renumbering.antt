@@ -1,5 +1,5 @@
--- 02, L14, one statement: `Renumbering`, at the end. "Tools number the same vertices differently, and navigators compare
--- results across them." Definitions only.
+-- 02, L14, one statement: `Renumbering`, at the end. "Tools number the same vertices differently, and navigators
+-- compare results across them." Definitions only.
 use mathlib.Core.Path.{_≡_}
 use mathlib.Core.List.{List, [], _∷_, map}
 use Prim.Native.Nat.{ℕ, _+_, _*_, _/_, _<_}
@@ -18,8 +18,8 @@ pub record Permutation (v : ℕ) (p q : ℕ → ℕ) : Type 0 where
   pub back : (i : ℕ) → i < v → q (p i) ≡ i
   pub forth : (i : ℕ) → i < v → p (q i) ≡ i
 
--- "two meshes differ only by a permutation of vertices, with corners renumbered to match": the mesh of coordinates ys and
--- corners ls is that of xs and ks with vertex i as its vertex p i
+-- "two meshes differ only by a permutation of vertices, with corners renumbered to match": the mesh of coordinates ys
+-- and corners ls is that of xs and ks with vertex i as its vertex p i
 pub record Renumbered (p q : ℕ → ℕ) (xs : List Float) (ks : List ℕ) (ys : List Float) (ls : List ℕ) : Type 0 where
   pub numbers : Permutation (length xs / 3) p q
   pub long : length ys ≡ length xs
@@ -38,9 +38,9 @@ pub record Agree (q : ℕ) (a b : After) : Type 0 where
   -- readings write agree bit for bit, NaN as one": of every list, squeezes in it and what they answer too
   pub calls : (cs : List Call) → answers q (leaving a) cs ≡ answers q (leaving b) cs
 
--- ---- "both openings are accepted with the same radius": r, in runs fs, ws and gs, us, whatever was in them. "demand 3's
--- premises hold for each store": they are in `answers`, whose first call gets what the accepted opening left, and nothing
--- beyond them is asked
+-- ---- "both openings are accepted with the same radius": r, in runs fs, ws and gs, us, whatever was in them. "demand
+-- 3's premises hold for each store": they are in `answers`, whose first call gets what the accepted opening left; nothing
+-- else is asked
 abbrev pub Renumbering : Type 0
 Renumbering =
     (p q : ℕ → ℕ) (xs : List Float) (ks : List ℕ) (ys : List Float) (ls : List ℕ) → Renumbered p q xs ks ys ls

@@ -1,5 +1,5 @@
--- 02, L14, one statement: `SignsUnseen`, at the end. "Show too that for a kernel that stays, sigma and its negative give
--- the same density at each point and the same volume." Definitions only.
+-- 02, L14, one statement: `SignsUnseen`, at the end. "Show too that for a kernel that stays, sigma and its negative
+-- give the same density at each point and the same volume." Definitions only.
 use mathlib.Core.Path.{_≡_}
 use mathlib.Core.Bool.{true, cond}
 use mathlib.Core.List.{List, [], _∷_, _++_, map}
@@ -24,7 +24,8 @@ use Rattle.machine.specs.Demands.{leaving}
 
 -- a kernel that stays without the sign of its sigma; any other as it is, since its fit looks at the sign
 abbrev pub unsigned : Kernel → Kernel
-unsigned k = record { c = k .c; sigma = cond (stays (k .alpha)) (abs (k .sigma)) (k .sigma); w = k .w; alpha = k .alpha }
+unsigned k =
+    record { c = k .c; sigma = cond (stays (k .alpha)) (abs (k .sigma)) (k .sigma); w = k .w; alpha = k .alpha }
 
 abbrev pub unsignedCall : Call → Call
 unsignedCall (put i k) = put i (unsigned k)

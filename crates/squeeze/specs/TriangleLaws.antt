@@ -67,7 +67,7 @@ module _ (ks : List ℕ) (xs : List Float) (n : ℕ) (b : Below n ks) where
   same-corner j h = rw (corner-at ks j) (same-vertex ks xs (getD ks j 0) n (corner-used ks j h) (b .corner j h))
 
   pub same-triangle : (f : ℕ) → 3 * f + 2 < length ks → triangleAt (keptTo ks xs n) (renumbered ks) f ≡ triangleAt xs ks f
-  same-triangle f h = same-named xs ks (keptTo ks xs n) (renumbered ks) same-corner f h
+  same-triangle f h = same-named xs (keptTo ks xs n) ks (renumbered ks) same-corner f h
 
   -- corners are in range again
   pub rank-below : (j : ℕ) → j < length ks → rank ks (getD ks j 0) < rank ks n
