@@ -38,6 +38,7 @@ pub fn rows(bench: &mut Bench) {
     let bodies = [Body::thousand(), Body::twenty_thousand(), Body::two_million()];
     let names = ["1,000 faces", "20,000 faces", "2,000,000 faces"];
     let places: Vec<Place> = bodies.into_iter().zip(names).map(|(body, name)| Place { store: body.store(), body, name }).collect();
+    let mut above_zero = Vec::new();
     for case in CASES {
         let volumes: Vec<Volume> = places.iter().map(|place| volume(bench, place, case.0)).collect();
         for (i, place) in places.iter().enumerate() {
@@ -45,11 +46,11 @@ pub fn rows(bench: &mut Bench) {
             let before = i.checked_sub(1).map(|b| volumes[b].ours);
             bench.row(grown(row.within(case.2), i, before));
         }
-        advances(bench, &places, case, &volumes);
+        above_zero.push([volumes[0].ours, advances(bench, &places, case, &volumes)]);
     }
     small_budget(bench, &places[2], CASES[3]);
     unordered(bench);
-    below_zero(bench, &places[0]);
+    below_zero(bench, &places, &above_zero);
 }
 
 fn row(name: String, ours: Id, volume: Volume) -> Row {
@@ -100,7 +101,8 @@ fn advance(Place { body, store, .. }: &Place, budget: usize, sigma: f64) -> Way 
 const BUDGETS: [(usize, usize, &str); 5] =
     [(0, 10_000, "10,000"), (0, 20_000, "20,000"), (1, 10_000, "10,000"), (1, 20_000, "20,000"), (2, 2_000_000, "2,000,000")];
 
-fn advances(bench: &mut Bench, places: &[Place], (sigma, path, most): Case, volumes: &[Volume]) {
+/// Answers the way of 20,000 faces on as many.
+fn advances(bench: &mut Bench, places: &[Place], (sigma, path, most): Case, volumes: &[Volume]) -> Id {
     let mut last = [None; 3];
     for (i, budget, said) in BUDGETS {
         let ours = bench.way(advance(&places[i], budget, sigma));
@@ -109,6 +111,7 @@ fn advances(bench: &mut Bench, places: &[Place], (sigma, path, most): Case, volu
         bench.row(grown(row.within(most), i, i.checked_sub(1).and_then(|b| last[b])));
         last[i] = Some(ours);
     }
+    last[1].expect("an advance on 20,000 faces")
 }
 
 /// Faces that follow each other lie anywhere, so that nearly every block has points on both sides of 0.1.
@@ -119,10 +122,19 @@ fn unordered(bench: &mut Bench) {
     bench.row(row("kernel_volume, both, sigma 0.0002, 20,000 faces in no order".into(), volume.ours, volume));
 }
 
-/// The factors of sigma's absolute value, each held to be above 0.
-fn below_zero(bench: &mut Bench, place: &Place) {
-    let volume = volume(bench, place, -1e-3);
-    bench.row(row(format!("kernel_volume, arc, sigma -0.001, {}", place.name), volume.ours, volume).within(1.1));
+/// A sigma below 0 beside its negative, of which these are a volume and an advance for each case: "the same", read as within 5 %. A
+/// volume on each path, and an advance on the arc's.
+fn below_zero(bench: &mut Bench, places: &[Place], above: &[[Id; 2]]) {
+    for ((sigma, path, most), [volume_above, _]) in CASES.into_iter().zip(above).take(3) {
+        let volume = volume(bench, &places[0], -sigma);
+        let row = row(format!("kernel_volume, {path}, sigma -{sigma}, {}", places[0].name), volume.ours, volume);
+        bench.row(row.within(most).bar(1.05, *volume_above, "sigma above 0"));
+    }
+    let ((sigma, path, most), [_, advance_above]) = (CASES[2], above[2]);
+    let volume = volume(bench, &places[1], -sigma);
+    let ours = bench.way(advance(&places[1], 20_000, -sigma));
+    let row = row(format!("advance of 20,000, {path}, sigma -{sigma}, {}", places[1].name), ours, volume);
+    bench.row(row.within(most).bar(1.05, advance_above, "sigma above 0"));
 }
 
 /// On a large mesh the check weighs more than so few faces.
