@@ -190,13 +190,14 @@ same-told (advance k ∷ cs) m xs ks w g a =
     (same-told cs (machine m (advance k) .next) xs ks w g)
 same-told (squeeze ∷ cs) m xs ks w g a =
     let f = freedBy (m .mesh) in
+    let b = squeezed-paired (m .mesh) xs ks w a in
     rw (
       squeezes (remade m xs ks w g) (below (m .mesh) xs ks w a),
       squeezes m (own-below (m .mesh) xs ks w a),
       freed-same (m .mesh) xs ks w a,
     )
     (ap (λ (os : List Heard). told (turn m (counted (f ∷ []))) ∷ os)
-    (same-told cs (thinner m) (keptTo ks xs w) (renumbered ks) (rank ks w) (f + g) (squeezed-paired (m .mesh) xs ks w a)))
+    (same-told cs (thinner m) (keptTo ks xs w) (renumbered ks) (rank ks w) (f + g) b))
 same-told (read r ∷ cs) m xs ks w g a =
     one-told m (read r) cs xs ks w g (read-goes m xs ks w g (a .alike) r) a
     (same-told cs (machine m (read r) .next) xs ks w g)

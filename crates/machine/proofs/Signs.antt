@@ -159,7 +159,8 @@ module _ (m : Mesh) (ks : List Kernel) (filled : ℕ) (worst : Float) where
       let js = scaled m ks v in
       let check = trackCheck (length points) (length out) in
       rw (scaled-same m ks v)
-      (ap (λ (ds : List Float). readSaid (track v points out) (guardedRun check out (outcome (counted (n ∷ [])) (write out 0 ds))))
+      (ap (λ (ds : List Float). readSaid (track v points out)
+      (guardedRun check out (outcome (counted (n ∷ [])) (write out 0 ds))))
       (stretch-same (λ x. valueOf (densitized (sixes (map even js)) x)) (λ x. valueOf (densitized (sixes js) x))
       (λ x. ap valueOf (density-same js x)) points 0 n))
 
@@ -304,7 +305,8 @@ module _ (m : Mesh) (k : Kernel) (fit : Pieces) where
       go false = refl
 
   cells-same : (n i j t : ℕ)
-      → getD (cells m (unsigned k) (unsignedFit k fit) n i t) (3 * j + 2) nan ≡ getD (cells m k fit n i t) (3 * j + 2) nan
+      → getD (cells m (unsigned k) (unsignedFit k fit) n i t) (3 * j + 2) nan
+      ≡ getD (cells m k fit n i t) (3 * j + 2) nan
   cells-same zero i j t = refl
   cells-same (suc n) i zero t = volume-same i (min (m .faces) t)
   cells-same (suc n) i (suc j) t =

@@ -39,8 +39,8 @@ pub record Agree (q : ℕ) (a b : After) : Type 0 where
   pub calls : (cs : List Call) → answers q (leaving a) cs ≡ answers q (leaving b) cs
 
 -- ---- "both openings are accepted with the same radius": r, in runs fs, ws and gs, us, whatever was in them. "demand
--- 3's premises hold for each store": they are in `answers`, whose first call gets what the accepted opening left; nothing
--- else is asked
+-- 3's premises hold for each store": they are in `answers`, whose first call gets what the accepted opening left;
+-- nothing else is asked
 abbrev pub Renumbering : Type 0
 Renumbering =
     (p q : ℕ → ℕ) (xs : List Float) (ks : List ℕ) (ys : List Float) (ls : List ℕ) → Renumbered p q xs ks ys ls

@@ -1,6 +1,6 @@
--- 02, L14: "sigma and its negative give .. the same volume", for every mesh, centre and sigma, after every face. A factor
--- of -t is that of t but for the sign of a zero (radial's EvenLaws); each product of a point keeps this, and the running
--- sum, which is never -0, does not see it (base's ZeroLaws). Assumes nothing.
+-- 02, L14: "sigma and its negative give .. the same volume", for every mesh, centre and sigma, after every face. A
+-- factor of -t is that of t but for the sign of a zero (radial's EvenLaws); each product of a point keeps this, and the
+-- running sum, which is never -0, does not see it (base's ZeroLaws). Assumes nothing.
 use mathlib.Core.Path.{_≡_, ap, _∙_}
 use mathlib.Core.Logic.{inl, inr}
 use Prim.Native.Nat.{ℕ, _-_}

@@ -1,5 +1,5 @@
--- `volume::faces::volume_from` meets its contract: whole blocks, then the faces that are left, by sigma's absolute value.
--- Assumes nothing.
+-- `volume::faces::volume_from` meets its contract: whole blocks, then the faces that are left, by sigma's absolute
+-- value. Assumes nothing.
 use mathlib.Core.Path.{sym, _∙_}
 use Prim.Native.Nat.{_+_, _*_, _-_, _/_}
 use native.Mathlib.Omega.{arith}
