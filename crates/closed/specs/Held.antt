@@ -1,6 +1,6 @@
 -- The numbers of the faces' edges, and the words of a batch that hold them. What the internal contracts speak of;
 -- definitions only.
-use Prim.Native.Nat.{ℕ, _+_, _*_, _/_, _≤_, _<_}
+use Prim.Native.Nat.{ℕ, zero, suc, _+_, _*_, _/_, _≤_, _<_}
 use mathlib.Core.Path.{_≡_}
 use mathlib.Core.Bool.{Bool, _&&_, false, cond}
 use mathlib.Core.List.{List, [], _∷_}
@@ -41,9 +41,23 @@ pub record Faced (low end x y z : ℕ) (xs : List ℕ) (m : ℕ) (ys : List ℕ)
   pub same : (c : ℕ) → low ≤ c → c < end → held c ys n ≡ held c xs m + (is (code x y) c + is (code y z) c + is (code z x) c)
   pub within : Within low end xs m → Within low end ys n
 
--- none of the n words from i on is one of first .. last
-pub record NoneWithin (ks : List ℕ) (i n first last : ℕ) : Type 0 where
-  pub none : (j : ℕ) → i ≤ j → j < i + n → inside first last (getD ks j 0) ≡ false
+-- none of the corners from .. to - 1 is one of first .. last
+pub record NoneWithin (ks : List ℕ) (first last from to : ℕ) : Type 0 where
+  pub none : (j : ℕ) → from ≤ j → j < to → inside first last (getD ks j 0) ≡ false
+
+-- the face after the m-th of the listed blocks of `size` faces; before the first of them, that is `from`
+unfoldable pub behind : ℕ → ℕ → List ℕ → ℕ → ℕ
+behind size from ps zero = from
+behind size from ps (suc m) = getD ps m 0 + size
+
+-- of the faces from .. to - 1, a list of m blocks of `size` faces, one after the other, leaves out none that has a
+-- corner among first .. last
+pub record Listed (ks : List ℕ) (first last size from to : ℕ) (ps : List ℕ) (m : ℕ) : Type 0 where
+  pub rising : (q : ℕ) → q < m → behind size from ps q ≤ getD ps q 0
+  pub short : (q : ℕ) → q < m → getD ps q 0 + size ≤ to
+  pub between : (q : ℕ) → q < m → NoneWithin ks first last (3 * behind size from ps q) (3 * getD ps q 0)
+  pub stops : behind size from ps m ≤ to
+  pub rest : NoneWithin ks first last (3 * behind size from ps m) (3 * to)
 
 -- every corner is below v
 pub record Below (v : ℕ) (ks : List ℕ) : Type 0 where

@@ -2,18 +2,18 @@
 use mathlib.Core.Path.{_≡_, refl, sym, ap, _∙_}
 use mathlib.Core.Bool.{Bool, true, false, _&&_, _||_, cond, true≢false, and-eq-true-iff}
 use mathlib.Core.List.{List, [], _∷_}
-use Prim.Native.Nat.{ℕ, zero, suc, _+_, _*_, _-_, _/_, _%_, _≤_, _<_}
+use Prim.Native.Nat.{ℕ, zero, suc, _+_, _*_, _-_, _/_, _%_, _^_, _≤_, _<_}
 use native.Mathlib.Nat.{add-zero, zero-add}
 use native.Mathlib.Numerals.{add-one}
 use native.Mathlib.Omega.{arith}
 use lib.Dec.{eqb, leb, ltb}
 use lib.ListN.{length, getD, set, drop, length-set, length-drop}
 use lib.Seq.{getD-set-same, getD-set-other, drop-cons}
-use borrow.Author.Tests.{le-leb, lt-ltb, leb-true, ltb-true, ltb-false, eqb-true, eqb-false}
+use borrow.Author.Tests.{le-leb, lt-ltb, leb-true, leb-false, ltb-true, ltb-false, eqb-true, eqb-false}
 use Rattle.closed.specs.declared.ranges.Batch.{Batch}
 use Rattle.closed.specs.Order.{is, held, All, Within, Rising, Ordered}
 use Rattle.closed.specs.OrderLaws.{is-yes, is-no, is-pair, held-next, held-le, held-past, held-none, held-two, held-above, all-moved, all-none}
-use Rattle.closed.specs.Held.{code, tally, inside, taken, Put, Faced, NoneWithin, Below, Cut, Sound, Gathered, Halved, Paired, Unpaired, Matched, Unmatched}
+use Rattle.closed.specs.Held.{code, tally, inside, taken, Put, Faced, NoneWithin, behind, Listed, Below, Cut, Sound, Gathered, Halved, Paired, Unpaired, Matched, Unmatched}
 
 -- ---- a word that is put
 pub put-one : (c low end x n : ℕ) (xs : List ℕ) → n < length xs → low ≤ c → c < end → held c (set xs n x) (n + taken low end x) ≡ held c xs n + is x c
@@ -327,18 +327,36 @@ pub pairs-all : {xs : List ℕ} {i n : ℕ} → Pairs xs i → i ≡ n → Paire
 pairs-all {xs} p e = rw (← e) (record { both = p .both; single = p .single })
 
 -- ---- faces without a corner in a range
-pub within-none : (ks : List ℕ) (i first last : ℕ) → NoneWithin ks i 0 first last
-within-none ks i first last = record { none = λ j h g. absurd (omega arith) }
+pub within-none : {ks : List ℕ} {first last from to : ℕ} → to ≤ from → NoneWithin ks first last from to
+within-none h = record { none = λ j a b. absurd (omega arith) }
 
-pub within-one : {ks : List ℕ} {i n first last : ℕ} → NoneWithin ks i n first last → inside first last (getD ks (i + n) 0) ≡ false → NoneWithin ks i (n + 1) first last
-within-one {ks} {i} {n} {first} {last} w e = record { none = λ j h g. go j h g (eqb j (i + n)) refl }
+pub within-one : {ks : List ℕ} {first last from to : ℕ} → NoneWithin ks first last from to → inside first last (getD ks to 0) ≡ false → NoneWithin ks first last from (to + 1)
+within-one {ks} {first} {last} {from} {to} w e = record { none = λ j h g. go j h g (eqb j to) refl }
   where
-    go : (j : ℕ) → i ≤ j → j < i + (n + 1) → (t : Bool) → eqb j (i + n) ≡ t → inside first last (getD ks j 0) ≡ false
-    go j h g true d = rw (eqb-true j (i + n) d) e
-    go j h g false d = let f = eqb-false j (i + n) d in w .none j h (omega arith)
+    go : (j : ℕ) → from ≤ j → j < to + 1 → (t : Bool) → eqb j to ≡ t → inside first last (getD ks j 0) ≡ false
+    go j h g true d = rw (eqb-true j to d) e
+    go j h g false d = let f = eqb-false j to d in w .none j h (omega arith)
 
-pub within-all : {ks : List ℕ} {i n m first last : ℕ} → NoneWithin ks i n first last → m ≤ n → NoneWithin ks i m first last
-within-all w h = record { none = λ j a b. w .none j a (omega arith) }
+pub within-part : {ks : List ℕ} {first last from to a b : ℕ} → NoneWithin ks first last from to → from ≤ a → b ≤ to → NoneWithin ks first last a b
+within-part w h g = record { none = λ j a b. w .none j (omega arith) (omega arith) }
+
+within-both : {ks : List ℕ} {first last from mid to : ℕ} → NoneWithin ks first last from mid → NoneWithin ks first last mid to → NoneWithin ks first last from to
+within-both {ks} {first} {last} {from} {mid} {to} w v = record { none = λ j a b. go j a b (ltb j mid) refl }
+  where
+    go : (j : ℕ) → from ≤ j → j < to → (t : Bool) → ltb j mid ≡ t → inside first last (getD ks j 0) ≡ false
+    go j a b true e = w .none j a (ltb-true j mid e)
+    go j a b false e = v .none j (ltb-false j mid e) b
+
+within-less : {ks : List ℕ} {first last less from to : ℕ} → NoneWithin ks first last from to → less ≤ last → NoneWithin ks first less from to
+within-less {ks} {first} {last} {less} w h = record { none = λ j a b. inside-less (getD ks j 0) (w .none j a b) }
+  where
+    inside-less : (x : ℕ) → inside first last x ≡ false → inside first less x ≡ false
+    inside-less x e = go (leb first x) refl (leb x less) refl
+      where
+        go : (s : Bool) → leb first x ≡ s → (t : Bool) → leb x less ≡ t → (s && t) ≡ false
+        go false a t b = refl
+        go true a false b = refl
+        go true a true b = let q = leb-true x less b in absurd (true≢false (sym (rw (a, le-leb x last (omega arith)) refl) ∙ e))
 
 pub neither : (a b : Bool) → (a || b) ≡ false → (a ≡ false) × (b ≡ false)
 neither true b h = absurd (true≢false h)
@@ -356,7 +374,7 @@ code-out low end c x y bx by hx hy h g = is-no (code x y) c (go (ltb x y))
     go false w = inside-no (low / 1048576) (end / 1048576) y hy (omega arith) (omega arith)
 
 module _ (ks : List ℕ) (low end c : ℕ) (s : Below 1048576 ks) (h : 2 * low ≤ c) (g : c < 2 * end) where
-  skip : (m i : ℕ) → i + 3 * m ≤ length ks → NoneWithin ks i (3 * m) (low / 1048576) (end / 1048576) → tally c (drop i ks) ≡ tally c (drop (i + 3 * m) ks)
+  skip : (m i : ℕ) → i + 3 * m ≤ length ks → NoneWithin ks (low / 1048576) (end / 1048576) i (i + 3 * m) → tally c (drop i ks) ≡ tally c (drop (i + 3 * m) ks)
   unfolding tally
   skip zero i l w = let e : i ≡ i + 3 * 0 = omega arith in ap (λ (z : ℕ). tally c (drop z ks)) e
   skip (suc m) i l w =
@@ -364,13 +382,132 @@ module _ (ks : List ℕ) (low end c : ℕ) (s : Below 1048576 ks) (h : 2 * low �
       let b = code-out low end c (getD ks (i + 1) 0) (getD ks (i + 2) 0) (s .corner (i + 1) (omega arith)) (s .corner (i + 2) (omega arith)) (w .none (i + 1) (omega arith) (omega arith)) (w .none (i + 2) (omega arith) (omega arith)) h g in
       let d = code-out low end c (getD ks (i + 2) 0) (getD ks i 0) (s .corner (i + 2) (omega arith)) (s .corner i (omega arith)) (w .none (i + 2) (omega arith) (omega arith)) (w .none i (omega arith) (omega arith)) h g in
       let t = ap (tally c) (peel ks i (omega arith)) in
-      let r = skip m (i + 3) (omega arith) (record { none = λ j p q. w .none j (omega arith) (omega arith) }) in
+      let r = skip m (i + 3) (omega arith) (within-part w (omega arith) (omega arith)) in
       let e : i + 3 + 3 * m ≡ i + 3 * suc m = omega arith in
       let f = ap (λ (z : ℕ). tally c (drop z ks)) e in
       omega (arith, a, b, d, t, r, f)
 
-pub skipped : {ks : List ℕ} {low i : ℕ} {b : Batch} {xs : List ℕ} → Below 1048576 ks → i + 24 ≤ length ks → NoneWithin ks i 24 (low / 1048576) (b .end / 1048576) → Gathered ks low b xs i → Gathered ks low b xs (i + 24)
-skipped {ks} {low} {i} {b} s l w g = further g (λ c h k. sym (skip ks low (b .end) c s h k 8 i l w))
+pub skipped : {ks : List ℕ} {low from to : ℕ} {b : Batch} {xs : List ℕ} → Below 1048576 ks → from ≤ to → 3 * to ≤ length ks → NoneWithin ks (low / 1048576) (b .end / 1048576) (3 * from) (3 * to) → Gathered ks low b xs (3 * from) → Gathered ks low b xs (3 * to)
+skipped {ks} {low} {from} {to} {b} s h l w g =
+    let e : 3 * from + 3 * (to - from) ≡ 3 * to = omega arith in
+    further g (λ c k m. ap (λ (z : ℕ). tally c (drop z ks)) (sym e) ∙ sym (skip ks low (b .end) c s k m (to - from) (3 * from) (omega arith) (within-part w (omega arith) (omega arith))))
+
+-- ---- a corner in a range, by the difference from its first
+pub apart : {first last x r w : ℕ} → first < 2 ^ 32 → r < 2 ^ 32 → w < 2 ^ 32 → (r + first) % 2 ^ 32 ≡ x → (w + first) % 2 ^ 32 ≡ last → leb r w ≡ false → inside first last x ≡ false
+apart {first} {last} {x} {r} {w} f rb wb ex el e = go (leb first x) refl (leb x last) refl
+  where
+    far : w < r
+    far = leb-false r w e
+
+    go : (s : Bool) → leb first x ≡ s → (t : Bool) → leb x last ≡ t → (s && t) ≡ false
+    go false a t b = refl
+    go true a false b = refl
+    go true a true b = let p = leb-true first x a in let q = leb-true x last b in absurd (omega (arith, far))
+
+-- ---- faces that are listed
+pub listed-none : {ks ps : List ℕ} {first last size from : ℕ} → Listed ks first last size from from ps 0
+unfolding behind
+listed-none = record { rising = λ q h. absurd (omega arith); short = λ q h. absurd (omega arith); between = λ q h. absurd (omega arith); stops = omega arith; rest = within-none (omega arith) }
+
+-- so many faces farther, of which none is near
+pub listed-on : {ks ps : List ℕ} {first last size from to next m : ℕ} → Listed ks first last size from to ps m → to ≤ next → NoneWithin ks first last (3 * to) (3 * next) → Listed ks first last size from next ps m
+listed-on l h w =
+    record {
+      rising = l .rising;
+      short = λ q g. let s = l .short q g in omega arith;
+      between = l .between;
+      stops = let s = l .stops in omega arith;
+      rest = within-both (l .rest) w;
+    }
+
+-- where the list begins, and the face after a block
+pub behind-none : (size from : ℕ) (ps : List ℕ) → behind size from ps 0 ≡ from
+unfolding behind
+behind-none size from ps = refl
+
+pub behind-one : (size from : ℕ) (ps : List ℕ) (m : ℕ) → behind size from ps (m + 1) ≡ getD ps m 0 + size
+unfolding behind
+behind-one size from ps m = rw (add-one m) refl
+
+behind-set : (size from v m : ℕ) (ps : List ℕ) (q : ℕ) → q ≤ m → behind size from (set ps m v) q ≡ behind size from ps q
+unfolding behind
+behind-set size from v m ps zero h = refl
+behind-set size from v m ps (suc q) h = ap (λ (z : ℕ). z + size) (getD-set-other ps m q v 0 (λ e. omega arith))
+
+-- a block that is put on the list, and counts where it is near
+pub listed-one : {ks ps : List ℕ} {first last size from to m : ℕ} → Listed ks first last size from to ps m → m < length ps → (t : Bool) → (t ≡ false → NoneWithin ks first last (3 * to) (3 * (to + size))) → Listed ks first last size from (to + size) (set ps m to) (m + cond t 1 0)
+unfolding behind
+listed-one {ks} {ps} {first} {last} {size} {from} {to} {m} l h = go
+  where
+    b : (q : ℕ) → q ≤ m → behind size from (set ps m to) q ≡ behind size from ps q
+    b = behind-set size from to m ps
+
+    p : (q : ℕ) → q < m → getD (set ps m to) q 0 ≡ getD ps q 0
+    p q g = getD-set-other ps m q to 0 (λ e. omega arith)
+
+    go : (t : Bool) → (t ≡ false → NoneWithin ks first last (3 * to) (3 * (to + size))) → Listed ks first last size from (to + size) (set ps m to) (m + cond t 1 0)
+    go false w =
+        rw (add-zero m)
+        (record {
+          rising = λ q g. rw (b q (omega arith), p q g) (l .rising q g);
+          short = λ q g. rw (p q g) (let s = l .short q g in omega arith);
+          between = λ q g. rw (b q (omega arith), p q g) (l .between q g);
+          stops = rw (b m (omega arith)) (let s = l .stops in omega arith);
+          rest = rw (b m (omega arith)) (within-both (l .rest) (w refl));
+        })
+    go true w =
+        rw (add-one m)
+        (record {
+          rising = λ q g. at q g (eqb q m) refl .0;
+          short = λ q g. at q g (eqb q m) refl .1;
+          between = λ q g. at q g (eqb q m) refl .2;
+          stops = rw here (omega arith);
+          rest = rw here (within-none (omega arith));
+        })
+      where
+        here : getD (set ps m to) m 0 ≡ to
+        here = getD-set-same ps m to 0 h
+
+        at : (q : ℕ) → q < suc m → (u : Bool) → eqb q m ≡ u → (behind size from (set ps m to) q ≤ getD (set ps m to) q 0) × (getD (set ps m to) q 0 + size ≤ to + size) × NoneWithin ks first last (3 * behind size from (set ps m to) q) (3 * getD (set ps m to) q 0)
+        at q g true e = rw (eqb-true q m e, b m (omega arith), here) (l .stops, omega arith, l .rest)
+        at q g false e =
+            let d = eqb-false q m e in
+            let k : q < m = omega arith in
+            let s = l .short q k in
+            rw (b q (omega arith), p q k) (l .rising q k, omega arith, l .between q k)
+
+-- a list that follows another, of wider blocks: to the next of these, and past the last
+module _ {ks bs ps : List ℕ} {first last wide size from to m n : ℕ} (i : ℕ) (l : Listed ks first last wide from to bs m) (p : Listed ks first last size from (behind wide from bs i) ps n) where
+  pub listed-next : i < m → Listed ks first last size from (getD bs i 0) ps n
+  listed-next h = listed-on p (l .rising i h) (l .between i h)
+
+  pub listed-past : i ≡ m → Listed ks first last size from to ps n
+  listed-past e =
+      let d = ap (behind wide from bs) e in
+      let s = l .stops in
+      listed-on p (omega arith) (within-part (l .rest) (omega arith) (omega arith))
+
+-- what is out of a range is out of a lesser one
+pub listed-less : {ks ps : List ℕ} {first last less size from to m : ℕ} → Listed ks first last size from to ps m → less ≤ last → Listed ks first less size from to ps m
+listed-less l h =
+    record {
+      rising = l .rising;
+      short = l .short;
+      between = λ q g. within-less (l .between q g) h;
+      stops = l .stops;
+      rest = within-less (l .rest) h;
+    }
+
+-- ---- a batch that takes the faces of a list: to the next of these, and past the last
+module _ {ks ps : List ℕ} {low from to m : ℕ} {b : Batch} {xs : List ℕ} (k : ℕ) (s : Below 1048576 ks) (r : 3 * to ≤ length ks) (l : Listed ks (low / 1048576) (b .end / 1048576) 1 from to ps m) (g : Gathered ks low b xs (3 * behind 1 from ps k)) where
+  pub gathered-next : k < m → Gathered ks low b xs (3 * getD ps k 0)
+  gathered-next h = let e = l .short k h in skipped s (l .rising k h) (omega arith) (l .between k h) g
+
+  pub gathered-past : k ≡ m → Gathered ks low b xs (3 * to)
+  gathered-past e =
+      let d = ap (behind 1 from ps) e in
+      let z = l .stops in
+      skipped s (omega arith) r (within-part (l .rest) (omega arith) (omega arith)) g
 
 -- ---- ranges that are clear
 pub matched-none : {ks : List ℕ} → Matched ks 0

@@ -1,11 +1,13 @@
 // The numbers of a range, gathered from the faces into a batch of words.
 // Internal: a function with a `requires` is called by proved code alone.
 ghost use mathlib.Core.Path.{_≡_};
-ghost use mathlib.Core.Bool.{false, cond};
-ghost use Prim.Native.Nat.{_+_, _*_, _≤_, _<_};
-ghost use lib.ListN.{length};
-ghost use Rattle.closed.specs.Held.{code, Put, Faced, NoneWithin, Below, Cut, Sound, Gathered, Halved};
+ghost use mathlib.Core.Bool.{cond};
+ghost use mathlib.Core.List.{List};
+ghost use Prim.Native.Nat.{ℕ, _+_, _*_, _≤_, _<_};
+ghost use lib.ListN.{length, getD};
+ghost use Rattle.closed.specs.Held.{code, Put, Faced, Below, Cut, Sound, Gathered, Halved};
 use crate::arrange::order;
+use crate::near::list_near;
 use crate::ranges::Batch;
 use crate::ranges::push;
 
@@ -44,21 +46,6 @@ pub fn put_face(words: &mut [u64], n: usize, x: u32, y: u32, z: u32, low: u64, e
     put(words, b, code(z, x), low, end)
 }
 
-// Whether one of the 24 corners from i on is one of first .. last.
-fn any_within(corners: &[u32], i: usize, first: u32, last: u32) -> bool
-    requires { ⌜ i + 24 ≤ length (now corners) ⌝ }
-    ensures { λ r. ⌜ (r ≡ false → NoneWithin (now (corners .entry)) i 24 first last) ⌝ }
-{
-    let mut any = false;
-    let mut j: usize = 0;
-    while j < 24 {
-        let x = corners[i + j];
-        any = any | ((first <= x) & (x <= last));
-        j += 1;
-    }
-    any
-}
-
 // How many of the first n words, which are in order, are below `end`.
 fn below(words: &[u64], n: usize, end: u64) -> usize
     requires { ⌜ n ≤ length (now words) ⌝ }
@@ -87,40 +74,38 @@ fn halve(low: u64, batch: Batch, words: &mut [u64], ends: &mut [u64; 384]) -> Ba
     Batch { count, end, depth }
 }
 
-// The numbers of so many faces, added to a batch that has room for all of them.
-fn take_faces(
-    corners: &[u32],
-    from: usize,
+// A batch with room for the numbers of so many faces more: the batch, or where that has no room its lesser half.
+fn make_room(
     faces: usize,
     low: u64,
     batch: Batch,
     words: &mut [u64],
+    ends: &mut [u64; 384],
 ) -> Batch
-    requires { ⌜ (from + 3 * faces ≤ length (now corners)) × (batch .count + 3 * faces ≤ 61440) ⌝ ∗ ⌜ Gathered (now corners) low batch (now words) from ⌝ }
-    ensures { λ r. ⌜ (r .end ≡ batch .end) × Gathered (now (corners .entry)) low r (now (words .exit)) (from + 3 * faces) ⌝ }
+    requires { ⌜ faces ≤ 256 ⌝ ∗ ⌜ Sound low batch (now words) ⌝ }
+    ensures { λ r. ⌜ (r .count + 3 * faces ≤ 61440) × (r .end ≤ batch .end) × ((ks : List ℕ) (i : ℕ) → Gathered ks low batch (now (words .entry)) i → Gathered ks low r (now (words .exit)) i) ⌝ }
 {
-    let first = 2 * low;
-    let stop = 2 * batch.end;
-    let mut n = batch.count;
-    let mut i = from;
-    let mut left = faces;
-    while 0 < left {
-        let x = corners[i];
-        let y = corners[i + 1];
-        let z = corners[i + 2];
-        n = put_face(words, n, x, y, z, first, stop);
-        i += 3;
-        left -= 1;
+    if batch.count + 3 * faces <= 61440 {
+        return batch;
     }
-    Batch {
-        count: n,
-        end: batch.end,
-        depth: batch.depth,
-    }
+    halve(low, batch, words, ends)
 }
 
-// The numbers of up to 8 faces, added to a batch, of which the lesser half is kept first where it has no room.
-fn take_block(
+// The numbers of a face that are those of the range low .. end - 1, put after n words.
+fn put_at(corners: &[u32], face: usize, words: &mut [u64], n: usize, low: u64, end: u64) -> usize
+    requires { ⌜ (3 * face + 3 ≤ length (now corners)) × (length (now corners) ≤ 6291456) × (n + 3 ≤ length (now words)) × (low ≤ 1099511627776) × (end ≤ 1099511627776) ⌝ }
+    ensures { λ r. ⌜ Faced (2 * low) (2 * end) (getD (now (corners .entry)) (3 * face) 0) (getD (now (corners .entry)) (3 * face + 1) 0) (getD (now (corners .entry)) (3 * face + 2) 0) (now (words .entry)) n (now (words .exit)) r ⌝ }
+{
+    let i = 3 * face;
+    let x = corners[i];
+    let y = corners[i + 1];
+    let z = corners[i + 2];
+    put_face(words, n, x, y, z, 2 * low, 2 * end)
+}
+
+// The numbers of up to 256 faces, added to a batch. Only faces that have a corner near the batch's range are looked
+// into, and they are listed first.
+fn take_stretch(
     corners: &[u32],
     from: usize,
     faces: usize,
@@ -128,35 +113,26 @@ fn take_block(
     batch: Batch,
     words: &mut [u64],
     ends: &mut [u64; 384],
+    list: &mut [usize],
 ) -> Batch
-    requires { ⌜ (from + 3 * faces ≤ length (now corners)) × (faces ≤ 8) ⌝ ∗ ⌜ Gathered (now corners) low batch (now words) from ⌝ }
-    ensures { λ r. ⌜ (r .end ≤ batch .end) × Gathered (now (corners .entry)) low r (now (words .exit)) (from + 3 * faces) ⌝ }
-{
-    if batch.count <= 61416 {
-        return take_faces(corners, from, faces, low, batch, words);
-    }
-    let half = halve(low, batch, words, ends);
-    take_faces(corners, from, faces, low, half, words)
-}
-
-// The numbers of 8 faces, added to a batch; faces of which no corner is near the batch's range are passed over.
-fn pass_block(
-    corners: &[u32],
-    from: usize,
-    low: u64,
-    batch: Batch,
-    words: &mut [u64],
-    ends: &mut [u64; 384],
-) -> Batch
-    requires { ⌜ from + 24 ≤ length (now corners) ⌝ ∗ ⌜ Below 1048576 (now corners) ⌝ ∗ ⌜ Gathered (now corners) low batch (now words) from ⌝ }
-    ensures { λ r. ⌜ (r .end ≤ batch .end) × Gathered (now (corners .entry)) low r (now (words .exit)) (from + 24) ⌝ }
+    requires { ⌜ (faces ≤ 256) × (length (now list) ≡ 256) × (3 * (from + faces) ≤ length (now corners)) × (length (now corners) ≤ 6291456) ⌝ ∗ ⌜ Below 1048576 (now corners) ⌝ ∗ ⌜ Gathered (now corners) low batch (now words) (3 * from) ⌝ }
+    ensures { λ r. ⌜ (r .end ≤ batch .end) × Gathered (now (corners .entry)) low r (now (words .exit)) (3 * (from + faces)) ⌝ }
 {
     let first = (low / 1_048_576) as u32;
     let last = (batch.end / 1_048_576) as u32;
-    if any_within(corners, from, first, last) {
-        return take_block(corners, from, 8, low, batch, words, ends);
+    let near = list_near(corners, from, faces, first, last, list);
+    let room = make_room(near, low, batch, words, ends);
+    let mut n = room.count;
+    let mut k: usize = 0;
+    while k < near {
+        n = put_at(corners, list[k], words, n, low, room.end);
+        k += 1;
     }
-    batch
+    Batch {
+        count: n,
+        end: room.end,
+        depth: room.depth,
+    }
 }
 
 // Every number 2k or 2k + 1 of the faces, with k one of low .. end - 1, added to an empty batch; where these are too
@@ -171,11 +147,22 @@ pub fn gather(
     requires { ⌜ length (now corners) ≤ 6291456 ⌝ ∗ ⌜ Below 1048576 (now corners) ⌝ ∗ ⌜ Gathered (now corners) low empty (now words) 0 ⌝ }
     ensures { λ r. ⌜ (r .end ≤ empty .end) × Gathered (now (corners .entry)) low r (now (words .exit)) (length (now (corners .entry))) ⌝ }
 {
+    let faces = corners.len() / 3;
+    let mut list = [0usize; 256];
     let mut batch = empty;
-    let mut i: usize = 0;
-    while i + 24 <= corners.len() {
-        batch = pass_block(corners, i, low, batch, words, ends);
-        i += 24;
+    let mut from: usize = 0;
+    while from + 256 <= faces {
+        batch = take_stretch(corners, from, 256, low, batch, words, ends, &mut list);
+        from += 256;
     }
-    take_block(corners, i, (corners.len() - i) / 3, low, batch, words, ends)
+    take_stretch(
+        corners,
+        from,
+        faces - from,
+        low,
+        batch,
+        words,
+        ends,
+        &mut list,
+    )
 }

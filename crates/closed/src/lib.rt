@@ -3,5 +3,6 @@ pub mod arrange;
 pub mod closed;
 pub mod divide;
 pub mod gather;
+pub mod near;
 pub mod ranges;
 pub mod sweep;
