@@ -2,8 +2,9 @@
 ghost use mathlib.Core.Path.{_≡_};
 ghost use mathlib.Core.Bool.{true};
 ghost use Prim.Native.Nat.{_≤_};
-ghost use Rattle.lines.specs.Session.{Small, session};
+ghost use Rattle.lines.specs.Session.{Small, session, idle};
 ghost use Rattle.program.specs.Bytes.{held, heldAfter};
+ghost use Rattle.program.specs.Bench.{heldAtFirst, Reached};
 use libc::EINTR;
 use libc::STDIN_FILENO;
 use libc::STDOUT_FILENO;
@@ -31,7 +32,8 @@ struct Fed {
     said: bool,
 }
 
-// The first `n` bytes of a chunk, each answer written where its line ends. After an answer that was not written none is.
+// The first `n` bytes of a chunk, each answer written where its line ends. After an answer that was not written none is. What is held is
+// what some bytes left of the store of zeros, and stays so.
 fn feed_chunk(
     st: State,
     chunk: &[u8; 4096],
@@ -44,6 +46,7 @@ fn feed_chunk(
     out: &mut [u8; 512],
 ) -> Fed
     requires { ⌜ Small (st .opening) ⌝ ∗ ⌜ n ≤ 4096 ⌝ }
+    requires { ⌜ Reached (held (session (st .opening) (now f) (now w) (now coords) (now corners)) (now line) (st .count)) ⌝ }
     ensures { λ r. ⌜ Small (r .state .opening) ⌝ }
     ensures { λ r. ⌜ (r .said ≡ true → held (session (r .state .opening) (now (f .exit)) (now (w .exit)) (now (coords .exit)) (now (corners .exit))) (now (line .exit)) (r .state .count) ≡ heldAfter (now (chunk .entry)) n (held (session (st .opening) (now (f .entry)) (now (w .entry)) (now (coords .entry)) (now (corners .entry))) (now (line .entry)) (st .count))) ⌝ }
 {
@@ -70,12 +73,13 @@ fn finish(
     out: &mut [u8; 512],
 )
     requires { ⌜ Small (st .opening) ⌝ }
+    requires { ⌜ Reached (held (session (st .opening) (now f) (now w) (now coords) (now corners)) (now line) (st .count)) ⌝ }
 {
     let last = program::end(st, line, f, w, coords, corners, out);
     say(out, last.wrote);
 }
 
-// Reads the input to its end and answers its lines. After an answer that was not written nothing is read.
+// Reads the input to its end and answers its lines, from the store of zeros on. After an answer that was not written nothing is read.
 fn serve(
     line: &mut [u8; 256],
     f: &mut [f64; 3261],
@@ -83,7 +87,9 @@ fn serve(
     coords: &mut [f64; 1500],
     corners: &mut [u32; 3000],
     out: &mut [u8; 512],
-) {
+)
+    requires { ⌜ held (session idle (now f) (now w) (now coords) (now corners)) (now line) 0 ≡ heldAtFirst ⌝ }
+{
     let mut chunk = io::buffer();
     let mut st = program::start();
     let mut turns = u64::MAX;

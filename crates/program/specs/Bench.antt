@@ -1,12 +1,14 @@
 -- 01, "Remainder", program `bench`: what it prints for its whole input, by lines. Definitions only; `whole` (proofs/Whole.antt) says that the bytes, fed one by one, give this.
 use Prim.Native.Nat.{ℕ}
 use mathlib.Core.Bool.{cond}
+use mathlib.Core.Path.{_≡_}
 use mathlib.Core.List.{List, [], _∷_, _++_}
 use lib.Dec.{eqb}
 use lib.ListN.{replicate}
 use Rattle.base.specs.Floats.{+0}
 use Rattle.forms.specs.Forms.{parseLine}
 use Rattle.lines.specs.Session.{Session, session, idle, respond}
+use Rattle.program.specs.Bytes.{lineRoom, Held, held, feedByte}
 
 -- a line ends with a newline or with the input, where it has a byte
 abbrev pub lastLine : List ℕ → List (List ℕ)
@@ -29,6 +31,20 @@ answersTo s (l ∷ ls) = respond s (parseLine l) .text ++ answersTo (respond s (
 -- "Before an opening the store is all zeros, which is sound" (proofs/Zeros.antt)
 abbrev pub atFirst : Session
 atFirst = session idle (replicate 3261 +0) (replicate 3098 0) (replicate 1500 +0) (replicate 3000 0)
+
+-- what is held before the first byte
+abbrev pub heldAtFirst : Held
+heldAtFirst = held atFirst (replicate lineRoom 0) 0
+
+-- what is held once these bytes more were fed
+unfoldable pub fedAll : Held → List ℕ → Held
+fedAll h [] = h
+fedAll h (b ∷ bs) = fedAll (feedByte h b .next) bs
+
+-- some bytes leave this of the store of zeros
+pub record Reached (h : Held) : Type 0 where
+  pub bytes : List ℕ
+  pub same : h ≡ fedAll heldAtFirst bytes
 
 -- what the program prints
 abbrev pub bench : List ℕ → List ℕ

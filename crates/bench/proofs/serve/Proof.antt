@@ -1,17 +1,39 @@
--- `bench::serve` is safe and ends: the chunk keeps its length, an opening its counts. Assumes nothing.
+-- `bench::serve` is safe and ends: the chunk keeps its length, an opening its counts, and what is held is what some bytes leave of the
+-- store of zeros. Assumes nothing.
 use mathlib.Core.Path.{_≡_, sym}
 use native.Mathlib.Omega.{arith}
 use lib.ListN.{length}
 use borrow.Author.Needs.{needs}
-use Rattle.lines.specs.Session.{Small}
+use borrow.Author.Tests.{not-false}
+use Rattle.lines.specs.Session.{Small, session}
+use Rattle.program.specs.Bytes.{held}
+use Rattle.program.specs.Bench.{Reached}
+use Rattle.program.proofs.Reached.{at-start, many-more}
 use Rattle.bench.proofs.serve.Statement.{statement}
 use Rattle.bench.proofs.serve.Tie as tie
 
 abbrev Inv-loop : tie.InvT-loop
-Inv-loop line₀ f₀ w₀ coords₀ corners₀ out₀ chunk₀ st₀ turns₀ line f w coords corners out chunk st turns = (length chunk ≡ 4096) × Small (st .opening)
+Inv-loop line₀ f₀ w₀ coords₀ corners₀ out₀ chunk₀ st₀ turns₀ line f w coords corners out chunk st turns =
+    (length chunk ≡ 4096) × Small (st .opening) × Reached (held (session (st .opening) f w coords corners) line (st .count))
 
 abbrev μ-loop : tie.MeasureT-loop
 μ-loop line₀ f₀ w₀ coords₀ corners₀ out₀ chunk₀ st₀ turns₀ line f w coords corners out chunk st turns = turns
+
+loop-holds : tie.Need-loop-holds Inv-loop μ-loop
+loop-holds c = (
+  sym (c .before .buffer .ensures),
+  rw (c .start .ensures .0) (omega arith, omega arith),
+  rw (c .start .ensures .0, c .start .ensures .1) (at-start _ (c .before .before .pre)),
+)
+
+loop-again : tie.Need-loop-again Inv-loop μ-loop
+loop-again c = (
+  search needs,
+  search needs,
+  many-more (c .before .before .before .before .before .before .before .before .before .before .before .before .before .before .before .before .read .last .1 .0) (c .before .before .before .before .before .before .before .before .before .before .before .count .result)
+      (c .before .before .before .feed-chunk .ensures .1 (not-false _ (c .before .if2 .left)))
+      (c .before .before .before .before .before .before .before .before .before .before .before .before .before .before .before .before .before .before .before .loop .inv .2),
+)
 
 pub serve-spec : {M : Type 1} → statement M
 serve-spec =
@@ -21,16 +43,16 @@ serve-spec =
     μ-loop
     (λ c κs. search needs)
     (λ c κs. search needs)
-    (λ c. (sym (c .before .buffer .ensures), rw (c .start .ensures .0) (omega arith, omega arith)))
+    loop-holds
     (λ c. search needs)
     (λ c. search needs)
     (λ c κs. search needs)
     (λ c κs. search needs)
     (λ c. search needs)
     (λ c κs. search needs)
-    (λ c κs. search needs)
+    (λ c κs. (search needs, (search needs, c .before .before .before .before .before .before .before .before .before .before .before .before .before .before .before .loop .inv .2)))
     (λ c. search needs)
     (λ c. omega (arith, c .before .before .before .before .before .before .before .before .before .before .before .before .before .before .before .before .before .before .loop-test .taken))
-    (λ c. search needs)
-    (λ c κs. search needs)
+    loop-again
+    (λ c κs. (search needs, c .before .before .before .before .before .before .before .loop .inv .2))
     (λ c. search needs))

@@ -55,13 +55,15 @@ fn brace(word: &str) -> Vec<u8> {
     }
 }
 
-/// The cases as one input, each after an opening that empties the store; one that ends within a line gets its newline, and one that
-/// ends within an opening is the last.
+/// The cases as one input, each but the first after an opening that empties the store: the first is of the store before any opening. One
+/// that ends within a line gets its newline, and one that ends within an opening is the last.
 pub fn as_one() -> Vec<u8> {
     let (whole, open): (Vec<Case>, Vec<Case>) = all().into_iter().partition(|case| !ends_in_opening(case));
     let mut input = Vec::new();
-    for case in whole.into_iter().chain(open.into_iter().next_back()) {
-        input.extend(spelt("(open (radius {0}) (verts 0) (faces 0))\n"));
+    for (i, case) in whole.into_iter().chain(open.into_iter().next_back()).enumerate() {
+        if i > 0 {
+            input.extend(spelt("(open (radius {0}) (verts 0) (faces 0))\n"));
+        }
         input.extend(&case.input);
         if input.last() != Some(&b'\n') {
             input.push(b'\n');
