@@ -1,14 +1,20 @@
 //! Answers of the original's text, stored for Rattle programs that replay them without Rust. The text works with 01's roots and powers by
 //! the second transcription, so nothing of the proved code is asked.
 //!   stored pieces               the expected output of the program `pieces_rows` (crates/pieces_rows)
-//!   stored pieces --table       its table of arguments
+//!   stored pieces --table       its tables of arguments
 //!   stored pieces --held FILE   whether FILE is that output: the exit status is 1 if it is not
 //!   stored volumes ..           the same for `volume_rows` (crates/volume_rows)
 //!   stored history [--held FILE]   the same for the program `history` (crates/history), by 01's machine
 #[cfg(original)]
 mod history;
 #[cfg(original)]
+mod kernels;
+#[cfg(original)]
 mod pieces;
+#[cfg(original)]
+mod systems;
+#[cfg(original)]
+mod tables;
 #[cfg(original)]
 mod topics;
 #[cfg(original)]
@@ -18,9 +24,9 @@ mod volumes;
 fn main() {
     let words: Vec<String> = std::env::args().skip(1).collect();
     match words.iter().map(String::as_str).collect::<Vec<_>>()[..] {
-        ["pieces"] => print!("{}", pieces::answers()),
-        ["pieces", "--table"] => print!("{}", pieces::table()),
-        ["pieces", "--held", file] => held(file, &pieces::answers()),
+        ["pieces"] => print!("{}", of_pieces()),
+        ["pieces", "--table"] => print!("{}", pieces_tables()),
+        ["pieces", "--held", file] => held(file, &of_pieces()),
         ["volumes"] => print!("{}", volumes::answers()),
         ["volumes", "--table"] => print!("{}", volumes::tables()),
         ["volumes", "--held", file] => held(file, &volumes::answers()),
@@ -31,6 +37,20 @@ fn main() {
             std::process::exit(2);
         }
     }
+}
+
+/// The lines of the program `pieces_rows`.
+#[cfg(original)]
+fn of_pieces() -> String {
+    pieces::answers() + &systems::answers() + &kernels::answers()
+}
+
+/// The tables of its arguments.
+#[cfg(original)]
+fn pieces_tables() -> String {
+    let head = "// The arguments of the stored calls, as oracle/ writes them.\n\n";
+    let text = head.to_string() + &pieces::table() + &systems::tables() + &kernels::tables();
+    text.trim_end().to_string() + "\n"
 }
 
 #[cfg(original)]

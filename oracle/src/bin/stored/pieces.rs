@@ -1,4 +1,5 @@
 //! Whole fits: a line for each with its arguments, how many pieces there are and the peak error, then a line for each piece.
+use crate::tables::{self, INF, NAN, filled};
 use oracle::original::native_steps::{KernelSi, decompose};
 use oracle::{pattern, step};
 
@@ -17,23 +18,13 @@ fn fit(sigma: f64, alpha: f64, radius: f64) -> String {
 
 /// The program's table, three words for each fit.
 pub fn table() -> String {
-    let fits = fits();
-    let head = format!("const FITS: [u64; {}] = [\n", 3 * fits.len());
-    let lines = fits.into_iter().map(|(sigma, alpha, radius, what)| {
+    let row = |(sigma, alpha, radius, what): (f64, f64, f64, &str)| {
         let what = if what.is_empty() { String::new() } else { format!(": {what}") };
-        format!("    {},\n    {},\n    {}, // {sigma:?}, {alpha:?}, {radius:?}{what}\n", literal(sigma), literal(alpha), literal(radius))
-    });
-    head + &lines.collect::<String>() + "];\n"
+        (filled(&[sigma, alpha, radius], 3), format!("{sigma:?}, {alpha:?}, {radius:?}{what}"))
+    };
+    let head = "// The bits of the fits' sigma, alpha and radius.\n";
+    head.to_string() + &tables::table("FITS", "u64", fits().into_iter().map(row))
 }
-
-/// A float's bits as a Rattle literal.
-fn literal(x: f64) -> String {
-    let digits = format!("{:016x}", x.to_bits());
-    format!("0x{}_{}_{}_{}", &digits[..4], &digits[4..8], &digits[8..12], &digits[12..])
-}
-
-const NAN: f64 = f64::from_bits(0x7ff8_0000_0000_0000);
-const INF: f64 = f64::INFINITY;
 
 /// sigma, alpha, radius, and what a fit is there for.
 fn fits() -> Vec<(f64, f64, f64, &'static str)> {

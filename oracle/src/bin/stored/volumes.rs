@@ -1,9 +1,10 @@
 //! Every function over a mesh or a list of kernels: each mesh with each kernel's place and width, bulk density and list, each list at each
-//! point. Then Dunavant's rule: its figures beside the printed decimals, and its moments beside the exact ones.
+//! point. Then the radial factor, and Dunavant's rule: its figures beside the printed decimals, and its moments beside the exact ones.
+use crate::tables::{INF, NAN, filled, hex, run, table};
 use oracle::meshes::{self, Mesh};
 use oracle::original::native_steps as native;
 use oracle::original::source_steps as source;
-use oracle::pattern;
+use oracle::step;
 
 /// The words of a run that the program lends to be written.
 const ROOM: usize = 12;
@@ -43,6 +44,7 @@ pub fn answers() -> String {
             out += &line(&format!("source-density {k} {p}"), no, || vec![source::density(list, x)]);
         }
     }
+    out += &radii().into_iter().map(|(t, _)| format!("radial{}\n", hex(&[t, native::radial_g(t)]))).collect::<String>();
     out + &dunavant()
 }
 
@@ -56,15 +58,10 @@ fn written(head: &str, no: u32, text: impl FnOnce() -> Option<Vec<f64>>) -> Stri
     match (no, if no == 0 { text() } else { None }) {
         (0, None) => format!("{head} 12\n"),
         (0, Some(list)) => {
-            let words: Vec<f64> = (0..ROOM).map(|i| list.get(i).copied().unwrap_or(7.0)).collect();
-            format!("{head} 0{}\n", hex(&words))
+            format!("{head} 0{}\n", run(&list, ROOM))
         }
         _ => format!("{head} {no}\n"),
     }
-}
-
-fn hex(values: &[f64]) -> String {
-    values.iter().map(|x| format!(" {:016x}", pattern(*x))).collect()
 }
 
 fn kernels(list: &[f64]) -> Vec<native::KernelSi> {
@@ -138,31 +135,10 @@ pub fn tables() -> String {
     out += &table("POINTS", "u64", points.iter().map(|&([x, y, z], s)| (filled(&[x, y, z, s], 4), "")));
     out += "// The bits of bulk densities, targets and means.\n";
     out += &table("VALUES", "u64", values.iter().map(|&v| (filled(&[v], 1), "")));
+    out += "// The bits of radii in units of a kernel's width.\n";
+    out += &table("RADII", "u64", radii().into_iter().map(|(t, what)| (filled(&[t], 1), format!("{t:?}{what}"))));
     out.trim_end().to_string() + "\n"
 }
-
-fn table<'a>(name: &str, of: &str, rows: impl Iterator<Item = (Vec<String>, &'a str)>) -> String {
-    let rows: Vec<_> = rows.collect();
-    let count: usize = rows.iter().map(|(row, _)| row.len()).sum();
-    let lines = rows.iter().map(|(row, what)| {
-        let what = if what.is_empty() { String::new() } else { format!(" // {what}") };
-        let head: String = row[..row.len() - 1].iter().map(|w| format!("    {w},\n")).collect();
-        format!("{head}    {},{what}\n", row[row.len() - 1])
-    });
-    format!("pub const {name}: [{of}; {count}] = [\n{}];\n\n", lines.collect::<String>())
-}
-
-/// Floats' bits as Rattle literals, and zeros behind them.
-fn filled(xs: &[f64], len: usize) -> Vec<String> {
-    let literal = |x: f64| {
-        let digits = format!("{:016x}", x.to_bits());
-        format!("0x{}_{}_{}_{}", &digits[..4], &digits[4..8], &digits[8..12], &digits[12..])
-    };
-    (0..len).map(|i| literal(xs.get(i).copied().unwrap_or(0.0))).collect()
-}
-
-const NAN: f64 = f64::from_bits(0x7ff8_0000_0000_0000);
-const INF: f64 = f64::INFINITY;
 
 const TETRAHEDRON: [u32; 12] = [0, 2, 1, 0, 1, 3, 1, 2, 3, 2, 0, 3];
 const BOX: [u32; 36] = [0, 2, 3, 0, 3, 1, 4, 5, 7, 4, 7, 6, 0, 1, 5, 0, 5, 4, 2, 6, 7, 2, 7, 3, 0, 4, 6, 0, 6, 2, 1, 3, 7, 1, 7, 5];
@@ -245,4 +221,31 @@ fn points() -> Vec<([f64; 3], f64)> {
 /// Bulk densities, targets and means.
 fn values() -> Vec<f64> {
     vec![1190.0, 4.5e11, 0.0, -1.0, NAN, INF, 5e-324, -0.0, 1e300]
+}
+
+/// Radii of the radial factor, each of both signs, with what one is there for.
+fn radii() -> Vec<(f64, &'static str)> {
+    let list = [
+        (0.0, ""),
+        (f64::from_bits(1), ": the smallest"),
+        (1e-200, ": its square vanishes"),
+        (1e-160, ": its square is subnormal"),
+        (1e-9, ""),
+        (0.05, ""),
+        (step(0.1, -1), ": by the series, the last"),
+        (0.1, ": by the quotient, the first"),
+        (step(0.1, 1), ""),
+        (0.25, ""),
+        (step(1.0, -1), ""),
+        (1.0, ""),
+        (step(1.0, 1), ": inverted in the arc, the first"),
+        (3.0, ""),
+        (1000.0, ""),
+        (1e8, ": the arc is far below a unit of the last place"),
+        (1e102, ""),
+        (1e103, ": its cube is infinite"),
+        (f64::MAX, ""),
+        (INF, ": an infinity over an infinity"),
+    ];
+    list.into_iter().flat_map(|(t, what)| [(t, what), (-t, "")]).chain([(NAN, "")]).collect()
 }

@@ -1,9 +1,9 @@
--- `pieces_rows::put_fits` is safe and ends: the three indices stay within the table. Assumes nothing.
+-- `pieces_rows::fits::put_fits` is safe and ends: the three indices stay within the table. Assumes nothing.
 use mathlib.Core.Path.{_≡_}
 use Prim.Native.Nat.{_≤_, _-_}
 use borrow.Author.Needs.{needs}
-use Rattle.pieces_rows.proofs.put_fits.Statement.{statement}
-use Rattle.pieces_rows.proofs.put_fits.Tie as tie
+use Rattle.pieces_rows.proofs.fits.put_fits.Statement.{statement}
+use Rattle.pieces_rows.proofs.fits.put_fits.Tie as tie
 
 abbrev Inv-loop : tie.InvT-loop
 Inv-loop i₀ i-end i = (i ≤ i-end) × (i-end ≡ 53)

@@ -1,8 +1,8 @@
--- `pieces_rows::put_pieces` is safe and ends: the index stays within both arrays. Assumes nothing.
+-- `pieces_rows::fits::put_pieces` is safe and ends: the index stays within both arrays. Assumes nothing.
 use Prim.Native.Nat.{_≤_, _-_}
 use borrow.Author.Needs.{needs}
-use Rattle.pieces_rows.proofs.put_pieces.Statement.{statement}
-use Rattle.pieces_rows.proofs.put_pieces.Tie as tie
+use Rattle.pieces_rows.proofs.fits.put_pieces.Statement.{statement}
+use Rattle.pieces_rows.proofs.fits.put_pieces.Tie as tie
 
 abbrev Inv-loop : tie.InvT-loop
 Inv-loop count sigma coefficient i₀ i = i ≤ 16
