@@ -9,8 +9,8 @@ use base::refusal::Checked;
 use base::refusal::Refusal;
 use layout::check::check_store;
 use layout::left::left;
-use runs::less;
-use runs::word;
+use layout::runs::less;
+use layout::runs::word;
 
 // The answer of an advance: the faces integrated, and the steps left.
 pub enum Advanced {

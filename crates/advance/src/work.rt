@@ -20,9 +20,9 @@ use layout::offsets::PIECES_SIZE;
 use layout::offsets::SLOTS;
 use layout::offsets::STATE;
 use layout::offsets::WIDTH;
+use layout::runs::lesser;
+use layout::runs::word;
 use mesh::vectors::V3;
-use runs::lesser;
-use runs::word;
 use volume::faces::volume_from;
 
 // Where the work on a place stands, and the steps still to spend.

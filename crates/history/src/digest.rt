@@ -1,6 +1,6 @@
 // A digest of every word of a run. Internal: the program's own.
 use base::floats::to_pattern;
-use runs::word;
+use layout::runs::word;
 
 // One more word of a digest.
 fn mixed(sum: u64, word: u64) -> u64 {

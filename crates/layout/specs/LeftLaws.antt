@@ -7,7 +7,7 @@ use native.Mathlib.Omega.{arith}
 use lib.Ieee.{Float}
 use lib.ListN.{length, getD, take, drop}
 use lib.Seq.{getD-take, getD-drop}
-use Rattle.runs.specs.RunLaws.{length-part}
+use Rattle.layout.specs.RunLaws.{length-part}
 use Rattle.mesh.specs.Triangles.{Sound}
 use Rattle.mesh.specs.Checks.{faceLimit}
 use Rattle.layout.specs.Layout.{width, coordsFrom, cornersFrom}

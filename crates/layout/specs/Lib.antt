@@ -3,3 +3,5 @@ pub mod Soundness
 pub mod SoundLaws
 pub mod Left
 pub mod LeftLaws
+pub mod Runs
+pub mod RunLaws

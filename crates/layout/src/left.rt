@@ -8,7 +8,7 @@ ghost use Rattle.layout.specs.Left.{leftAt, leftOf};
 use crate::offsets::SLOTS;
 use crate::offsets::STATE;
 use crate::offsets::WIDTH;
-use runs::word;
+use crate::runs::word;
 
 // The pieces of a place, by its status.
 pub fn pieces(status: u32) -> usize

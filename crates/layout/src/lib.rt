@@ -2,3 +2,4 @@
 pub mod check;
 pub mod left;
 pub mod offsets;
+pub mod runs;

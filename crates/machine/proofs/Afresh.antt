@@ -21,7 +21,7 @@ use Rattle.mass.specs.Calls.{bodyVolumeCall, fieldMassCall}
 use Rattle.density.specs.declared.convention.Convention.{Convention}
 use Rattle.density.specs.Densitize.{densitized}
 use Rattle.density.specs.Conventions.{bulkOf, rho0Scale, appliedScale}
-use Rattle.runs.specs.Runs.{write}
+use Rattle.layout.specs.Runs.{write}
 use Rattle.track.specs.TrackLaws.{stretch-same}
 use Rattle.readings.specs.Readings.{Reading, density, report, list, track, Part, bare, densityAt, rawMass, origin, applied, rescaled, sixes, trackCheck, seeing, answerOf}
 use Rattle.readings.specs.SixLaws.{whole, list-sound, sixes-whole, whole-rescaled, densitized-on, sized, mass-on}

@@ -19,7 +19,7 @@ use Rattle.pieces.specs.declared.pieces.Pieces.{Pieces}
 use Rattle.pieces.specs.Pieces.{mostPieces, decomposed}
 use Rattle.pieces.specs.PieceLaws as pieces
 use Rattle.density.specs.declared.convention.Convention.{Convention}
-use Rattle.runs.specs.Runs.{write}
+use Rattle.layout.specs.Runs.{write}
 use Rattle.bill.specs.Bill.{assumed, billSteps, billFloats}
 use Rattle.bill.specs.Rows.{refusals, due-is, nan-none}
 use Rattle.layout.specs.Layout.{width}

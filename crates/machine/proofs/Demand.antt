@@ -11,7 +11,7 @@ use borrow.Author.Tests.{lt-ltb, ltb-true}
 use Rattle.base.specs.Answers.{Answer, refused, counted, Outcome, outcome, guardedRun, andThen}
 use Rattle.base.specs.declared.refusal.Refusal.the-variants.{Unfinished, ShortList, BadTrack, NoFigure, ShortPage}
 use Rattle.base.specs.declared.refusal.Checked.the-variants.{Passed, Failed}
-use Rattle.runs.specs.Runs.{write}
+use Rattle.layout.specs.Runs.{write}
 use Rattle.track.specs.Track.{along}
 use Rattle.layout.specs.Layout.{width}
 use Rattle.store.specs.Calls.{After, after, openCheck, openStep}

@@ -7,7 +7,7 @@ use native.Mathlib.Omega.{arith}
 use lib.ListN.{length, take, drop, getD, set, length-append, length-map, length-set}
 use lib.Seq.{getD-append-add, drop-at, take-at, set-set, set-getD, getD-set-same}
 use lib.Ieee.{Float, nan}
-use Rattle.runs.specs.Runs.{write}
+use Rattle.layout.specs.Runs.{write}
 use Rattle.layout.specs.Layout.{cornersFrom, statusOf, finishedOf, doneOf}
 use Rattle.kernel.specs.declared.kernel.Kernel.{Kernel}
 use Rattle.pieces.specs.declared.pieces.Pieces.{Pieces}

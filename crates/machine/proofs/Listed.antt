@@ -12,8 +12,8 @@ use Rattle.base.specs.Floats.{+0, greater}
 use Rattle.base.specs.Loops.{times}
 use Rattle.base.specs.LoopLaws.{times-suc}
 use Rattle.base.specs.Answers.{outcome}
-use Rattle.runs.specs.Runs.{write}
-use Rattle.runs.specs.RunLaws.{length-write, write-more, write-none}
+use Rattle.layout.specs.Runs.{write}
+use Rattle.layout.specs.RunLaws.{length-write, write-more, write-none}
 use Rattle.kernel.specs.declared.kernel.Kernel.{Kernel}
 use Rattle.kernel.specs.Kernels.{kernelAt, kernelSet}
 use Rattle.pieces.specs.declared.pieces.Pieces.{Pieces}

@@ -9,7 +9,7 @@ use lib.Ieee.{Float}
 use Rattle.base.specs.Answers.{counted}
 use Rattle.base.specs.Floats.{+0}
 use Rattle.base.specs.declared.refusal.Checked.the-variants.{Passed}
-use Rattle.runs.specs.Runs.{write}
+use Rattle.layout.specs.Runs.{write}
 use Rattle.layout.specs.Layout.{coordsFrom, cornersFrom}
 use Rattle.store.specs.Calls.{after, openCheck, openFloats, openWords, openStep}
 use Rattle.store.specs.OpenLaws.{open-passes}

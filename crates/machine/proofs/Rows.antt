@@ -6,7 +6,7 @@ use native.Mathlib.Nat.{zero-add, suc-add, mul-zero, mul-suc}
 use native.Mathlib.Omega.{arith}
 use lib.ListN.{length, take, drop, getD, set, length-append, List·getD-append}
 use lib.Seq.{getD-append-add, set-append-left, take-append-add, drop-append-add, drop-append-seam}
-use Rattle.runs.specs.Runs.{write}
+use Rattle.layout.specs.Runs.{write}
 use Rattle.machine.specs.Holding.{flat}
 
 -- the words to a place for which the proofs stand: three, as `placeRow` has them

@@ -16,7 +16,7 @@ use Rattle.base.specs.Answers.{Answer, accepted, refused, counted, Outcome, out
 use Rattle.base.specs.declared.refusal.Refusal.the-variants.{NoPlace, Unfinished}
 use Rattle.base.specs.declared.refusal.Checked.{Checked}
 use Rattle.base.specs.declared.refusal.Checked.the-variants.{Passed, Failed}
-use Rattle.runs.specs.Runs.{write}
+use Rattle.layout.specs.Runs.{write}
 use Rattle.mesh.specs.declared.vectors.V3.{V3}
 use Rattle.mesh.specs.declared.triangles.Triangle.{Triangle}
 use Rattle.mesh.specs.Triangles.{triangleAt, faceCount}

@@ -8,7 +8,7 @@ use lib.ListN.{length, getD, set, replicate, length-append, length-map, replicat
 use lib.Seq.{drop-append-seam}
 use lib.Ieee.{Float, nan}
 use Rattle.base.specs.Floats.{+0}
-use Rattle.runs.specs.Runs.{write}
+use Rattle.layout.specs.Runs.{write}
 use Rattle.mesh.specs.Triangles.{triangleAt}
 use Rattle.mesh.specs.CheckLaws.{below-each}
 use Rattle.mesh.specs.declared.vectors.V3.{V3}

@@ -12,8 +12,8 @@ use lib.ListN.{length, replicate, length-replicate, length-append}
 use lib.Ieee.{Float}
 use Rattle.layout.specs.Layout.{statusOf}
 use lib.Seq.{length-sets}
-use Rattle.runs.specs.Runs.{write}
-use Rattle.runs.specs.RunLaws.{sets-write}
+use Rattle.layout.specs.Runs.{write}
+use Rattle.layout.specs.RunLaws.{sets-write}
 use Rattle.text.specs.Print.{Wrote, decimalLength, decimalText, digits}
 use Rattle.text.specs.WriteLaws.{then}
 use Rattle.whole.specs.Whole.{signedWhole}

@@ -10,7 +10,7 @@ use Rattle.base.specs.Answers.{Answer, counted, refused, andThen}
 use Rattle.base.specs.declared.refusal.Refusal.the-variants.{NoFigure, ShortPage}
 use Rattle.base.specs.declared.refusal.Checked.{Checked}
 use Rattle.base.specs.declared.refusal.Checked.the-variants.{Passed, Failed}
-use Rattle.runs.specs.Runs.{write}
+use Rattle.layout.specs.Runs.{write}
 use Rattle.layout.specs.Layout.{slotLimit, statusOf}
 use Rattle.readings.specs.Readings.{rawMass, heldAt}
 use Rattle.readings.specs.Checks.{readCheck}

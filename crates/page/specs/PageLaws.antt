@@ -14,7 +14,7 @@ use lib.ListN.{length, length-append, length-replicate}
 use lib.Ieee.{Float}
 use Rattle.base.specs.Answers.{counted, refused}
 use Rattle.base.specs.declared.refusal.Refusal.the-variants.{NoFigure, ShortPage}
-use Rattle.runs.specs.Runs.{write}
+use Rattle.layout.specs.Runs.{write}
 use Rattle.layout.specs.Layout.{statusOf}
 use Rattle.layout.specs.SoundLaws.{Worded}
 use Rattle.readings.specs.Readings.{rawMass, heldAt, heldFilled}

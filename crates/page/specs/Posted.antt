@@ -16,7 +16,7 @@ use Rattle.base.specs.declared.refusal.Refusal.{Refusal}
 use Rattle.base.specs.declared.refusal.Refusal.the-variants.{NoFigure, ShortPage}
 use Rattle.base.specs.declared.refusal.Checked.{Checked}
 use Rattle.base.specs.declared.refusal.Checked.the-variants.{Passed, Failed}
-use Rattle.runs.specs.Runs.{write}
+use Rattle.layout.specs.Runs.{write}
 use Rattle.layout.specs.Layout.{slotLimit, facesOf}
 use Rattle.layout.specs.SoundLaws.{fine}
 use Rattle.readings.specs.Readings.{heldFilled}

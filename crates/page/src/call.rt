@@ -3,7 +3,7 @@ ghost use mathlib.Core.Path.{_≡_};
 ghost use mathlib.Core.Bool.{true};
 ghost use Prim.Native.Nat.{_+_, _*_, _≤_};
 ghost use lib.ListN.{length};
-ghost use Rattle.runs.specs.Runs.{write};
+ghost use Rattle.layout.specs.Runs.{write};
 ghost use Rattle.layout.specs.Layout.{width, slotLimit, coordsFrom};
 ghost use Rattle.layout.specs.SoundLaws.{Worded};
 ghost use Rattle.page.specs.Page.{paged, allPrintable, heldRows, pageOf, pageAnswer, pageStep};
@@ -18,9 +18,9 @@ use base::refusal::Refusal;
 use layout::offsets::SLOTS;
 use layout::offsets::STATE;
 use layout::offsets::WIDTH;
+use layout::runs::word;
 use readings::at_point::check_read;
 use readings::counts::count_filled;
-use runs::word;
 
 // The answer of a page: how many bytes it has.
 pub enum PageRead {

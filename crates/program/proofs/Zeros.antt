@@ -11,7 +11,7 @@ use borrow.Author.Tests.{le-leb}
 use Rattle.base.specs.Floats.{+0}
 use Rattle.base.specs.Answers.{counted}
 use Rattle.base.specs.declared.refusal.Checked.the-variants.{Passed}
-use Rattle.runs.specs.Runs.{write}
+use Rattle.layout.specs.Runs.{write}
 use Rattle.mesh.specs.Checks.{meshCheck, allBelow}
 use Rattle.layout.specs.Layout.{slotLimit, width, coordsFrom, cornersFrom}
 use Rattle.layout.specs.Soundness.{every, longEnough, slotSound, slotSoundAt, sound, storeCheck}

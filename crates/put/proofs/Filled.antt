@@ -8,8 +8,8 @@ use native.Mathlib.Omega.{arith}
 use lib.Ieee.{Float, nan}
 use lib.ListN.{length, getD, set, length-set}
 use Rattle.base.specs.Floats.{+0}
-use Rattle.runs.specs.Runs.{write}
-use Rattle.runs.specs.RunLaws.{sets-write, write-more, write-none}
+use Rattle.layout.specs.Runs.{write}
+use Rattle.layout.specs.RunLaws.{sets-write, write-more, write-none}
 use Rattle.pieces.specs.declared.pieces.Pieces.{Pieces}
 use Rattle.put.specs.Puts.{fresh}
 

@@ -3,7 +3,7 @@ ghost use mathlib.Core.Path.{_≡_};
 ghost use mathlib.Core.List.{[], _∷_};
 ghost use Prim.Native.Nat.{_+_, _*_, _≤_, _<_};
 ghost use lib.ListN.{length};
-ghost use Rattle.runs.specs.Runs.{write};
+ghost use Rattle.layout.specs.Runs.{write};
 ghost use Rattle.layout.specs.Layout.{width, slotLimit, pieceLimit, coordsFrom, cornersFrom, facesOf};
 ghost use Rattle.store.specs.Calls.{after};
 ghost use Rattle.put.specs.Puts.{seven, fresh, atFirst, putFloats, putWords, putStep};

@@ -7,8 +7,8 @@ use native.Mathlib.Decide.{decLt}
 use native.Mathlib.Omega.{arith}
 use lib.ListN.{length, set, length-append}
 use lib.Ieee.{Float}
-use Rattle.runs.specs.Runs.{write}
-use Rattle.runs.specs.RunLaws.{sets-write, length-write, write-more, write-none}
+use Rattle.layout.specs.Runs.{write}
+use Rattle.layout.specs.RunLaws.{sets-write, length-write, write-more, write-none}
 use Rattle.layout.specs.Layout.{statusOf}
 use Rattle.readings.specs.Readings.{Part, bare, rescaled, six, sixes, heldPart, heldAt, heldAll}
 use Rattle.readings.specs.Counts.{pieceCount}

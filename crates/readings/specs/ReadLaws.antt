@@ -5,7 +5,7 @@ use mathlib.Core.List.{List, [], _∷_, map}
 use Prim.Native.Nat.{ℕ, _*_, _≤_, _<_}
 use lib.ListN.{length, length-map}
 use borrow.Author.Tests.{le-leb, lt-leb}
-use Rattle.runs.specs.Runs.{write}
+use Rattle.layout.specs.Runs.{write}
 use Rattle.readings.specs.Lists.{rows}
 use lib.Dec.{ltb}
 use lib.Ieee.{Float}

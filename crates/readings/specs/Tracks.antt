@@ -21,7 +21,7 @@ use Rattle.density.specs.declared.convention.Convention.{Convention}
 use Rattle.layout.specs.Layout.{slotLimit, facesOf}
 use Rattle.layout.specs.Soundness.{storeCheck}
 use Rattle.layout.specs.Left.{leftOf}
-use Rattle.runs.specs.Runs.{write}
+use Rattle.layout.specs.Runs.{write}
 use Rattle.track.specs.Track.{pointAt, along}
 use Rattle.track.specs.TrackLaws.{stretch-length, stretch-at}
 use Rattle.readings.specs.Readings.{density, track, byMass, bare, rescaled, applied, densityAt, trackCheck, heldSeen, refusing, guardedRead, readStep}

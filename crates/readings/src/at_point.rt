@@ -24,7 +24,7 @@ use density::convention::scalable;
 use density::convention::target_of;
 use layout::check::check_store;
 use layout::left::left;
-use runs::word;
+use layout::runs::word;
 
 // Whether a convention is by mass with a target above 0.
 pub fn by_mass(v: Convention) -> bool

@@ -17,7 +17,7 @@ use crate::lists::write_list;
 use base::refusal::Checked;
 use base::refusal::Refusal;
 use density::convention::Convention;
-use runs::word;
+use layout::runs::word;
 
 // The answer of a list: how many pieces were written.
 pub enum ListRead {

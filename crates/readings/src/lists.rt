@@ -3,7 +3,7 @@
 ghost use mathlib.Core.Path.{_≡_};
 ghost use Prim.Native.Nat.{_+_, _*_, _≤_, _<_};
 ghost use lib.ListN.{length};
-ghost use Rattle.runs.specs.Runs.{write};
+ghost use Rattle.layout.specs.Runs.{write};
 ghost use Rattle.layout.specs.Layout.{width, slotLimit, pieceLimit, coordsFrom};
 ghost use Rattle.layout.specs.SoundLaws.{Worded};
 ghost use Rattle.readings.specs.Readings.{six, heldAt, heldAll};

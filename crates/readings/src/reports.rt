@@ -23,8 +23,8 @@ use density::report::MassReport;
 use density::report::report_of;
 use layout::offsets::COORDS;
 use layout::offsets::CORNERS;
+use layout::runs::word;
 use mesh::vectors::V3;
-use runs::word;
 use volume::faces::volume_from;
 
 // The answer of a report: the masses, the filled places, the pieces, and the greatest error.

@@ -6,7 +6,7 @@ ghost use lib.ListN.{length};
 ghost use Rattle.base.specs.Answers.{outcome};
 ghost use Rattle.layout.specs.Layout.{width, slotLimit, coordsFrom};
 ghost use Rattle.layout.specs.SoundLaws.{Worded};
-ghost use Rattle.runs.specs.Runs.{write};
+ghost use Rattle.layout.specs.Runs.{write};
 ghost use Rattle.track.specs.Track.{along};
 ghost use Rattle.readings.specs.Readings.{bare, rescaled, densityAt, heldAll, trackCheck, readStep};
 ghost use Rattle.readings.specs.Readings;
@@ -20,7 +20,7 @@ use crate::sums::density_sum;
 use base::refusal::Checked;
 use base::refusal::Refusal;
 use density::convention::Convention;
-use runs::word;
+use layout::runs::word;
 use track::densities;
 
 // The answer of a track: how many points were written.

@@ -8,8 +8,8 @@ use lib.Seq.{getD-take, getD-drop, length-take-le}
 use lib.Ieee.{Float}
 use Rattle.base.specs.Answers.{counted}
 use Rattle.base.specs.declared.refusal.Checked.the-variants.{Passed}
-use Rattle.runs.specs.Runs.{write}
-use Rattle.runs.specs.RunLaws.{length-part}
+use Rattle.layout.specs.Runs.{write}
+use Rattle.layout.specs.RunLaws.{length-part}
 use Rattle.layout.specs.Layout.{width, coordsFrom, cornersFrom, vertsOf, facesOf}
 use Rattle.layout.specs.Soundness.{storeCheck}
 use Rattle.layout.specs.SoundLaws.{fine}

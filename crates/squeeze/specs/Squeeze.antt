@@ -8,7 +8,7 @@ use lib.ListN.{getD, take, drop, set, replicate}
 use lib.Ieee.{Float, nan}
 use Rattle.base.specs.Floats.{+0}
 use Rattle.base.specs.Answers.{counted}
-use Rattle.runs.specs.Runs.{write}
+use Rattle.layout.specs.Runs.{write}
 use Rattle.layout.specs.Layout.{coordsFrom, cornersFrom, cornersOf, vertsOf}
 use Rattle.layout.specs.Soundness.{storeCheck}
 use Rattle.store.specs.Calls.{After, after, guarded}

@@ -10,7 +10,7 @@ use crate::marks::mark;
 use crate::marks::marked;
 use crate::marks::number;
 use crate::marks::sum;
-use runs::zero_floats;
+use layout::runs::zero_floats;
 
 // Every corner by its new number.
 fn renumber(corners: &mut [u32], marks: &[u32; 32768], ranks: &[u32; 32768], n: usize)

@@ -10,7 +10,7 @@ use Rattle.base.specs.Answers.{Answer, counted, done, refused, andThen}
 use Rattle.base.specs.declared.refusal.Refusal.the-variants.{ShortStore}
 use Rattle.base.specs.declared.refusal.Checked.{Checked}
 use Rattle.base.specs.declared.refusal.Checked.the-variants.{Passed, Failed}
-use Rattle.runs.specs.Runs.{write}
+use Rattle.layout.specs.Runs.{write}
 use Rattle.mesh.specs.Checks.{meshCheck}
 use Rattle.layout.specs.Layout.{slotLimit, kernelFrom, weightAt, piecesFrom, coordsFrom, stateFrom, cornersFrom}
 use Rattle.layout.specs.Soundness.{filledCheck}

@@ -12,8 +12,8 @@ use layout::offsets::PIECE;
 use layout::offsets::PIECES_SIZE;
 use layout::offsets::STATE;
 use layout::offsets::WIDTH;
-use runs::zero_floats;
-use runs::zero_words;
+use layout::runs::zero_floats;
+use layout::runs::zero_words;
 
 // The answer of an edit.
 pub enum Edited {

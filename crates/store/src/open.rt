@@ -2,7 +2,7 @@
 ghost use mathlib.Core.Path.{_≡_};
 ghost use Prim.Native.Nat.{_+_, _≤_, _<_};
 ghost use lib.ListN.{length};
-ghost use Rattle.runs.specs.Runs.{write};
+ghost use Rattle.layout.specs.Runs.{write};
 ghost use Rattle.layout.specs.Layout.{width, coordsFrom, cornersFrom};
 ghost use Rattle.store.specs.Calls.{after, openCheck, openFloats, openWords, openStep};
 ghost use Rattle.store.specs.OpenAnswer.{opened};
@@ -10,11 +10,11 @@ use base::refusal::Checked;
 use base::refusal::Refusal;
 use layout::offsets::COORDS;
 use layout::offsets::CORNERS;
+use layout::runs::copy_floats;
+use layout::runs::copy_words;
+use layout::runs::zero_floats;
+use layout::runs::zero_words;
 use mesh::check::check_mesh;
-use runs::copy_floats;
-use runs::copy_words;
-use runs::zero_floats;
-use runs::zero_words;
 
 // The answer of an opening: vertices and faces.
 pub enum Opened {

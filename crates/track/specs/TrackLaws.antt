@@ -15,8 +15,8 @@ use Rattle.base.specs.FillLaws.{Filled}
 use Rattle.base.specs.LoopLaws.{Left, from-zero, goes, ended, times-suc}
 use Rattle.kernel.specs.declared.kernel.Kernel.{Kernel}
 use Rattle.density.specs.Densitize.{baseAt, densityOf, densityTo, densitizeOf}
-use Rattle.runs.specs.Runs.{write}
-use Rattle.runs.specs.RunLaws.{length-write, write-more, write-snoc, write-none}
+use Rattle.layout.specs.Runs.{write}
+use Rattle.layout.specs.RunLaws.{length-write, write-more, write-snoc, write-none}
 use Rattle.track.specs.Track.{pointAt, stretch, along}
 use Rattle.track.specs.Lanes.{unitTerm, Lanes, lane, Thirds, Zeros, Added, BothAdded, Summed}
 

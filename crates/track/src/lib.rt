@@ -11,15 +11,15 @@ ghost use Rattle.base.specs.Floats.{_⊖_, abs};
 ghost use Rattle.base.specs.Constants.{one, stayLimit};
 ghost use Rattle.kernel.specs.Kernels.{kernelAt};
 ghost use Rattle.density.specs.Densitize.{densitizeOf};
-ghost use Rattle.runs.specs.Runs.{write};
+ghost use Rattle.layout.specs.Runs.{write};
 ghost use Rattle.track.specs.Track.{along, stretch};
 ghost use Rattle.track.specs.Lanes.{unitTerm, Thirds, Zeros, Added, BothAdded, Summed};
 use base::floats::abs;
 use density::densitize::density_of;
 use kernel::kernel::Kernel;
 use kernel::kernel::kernel_at;
-use runs::copy_floats;
-use runs::lesser;
+use layout::runs::copy_floats;
+use layout::runs::lesser;
 
 // Every third float from `from` on: one coordinate of m points.
 fn load(points: &[f64], from: usize, m: usize, x: &mut [f64; 64])

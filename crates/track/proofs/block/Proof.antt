@@ -4,7 +4,7 @@ use native.Mathlib.Omega.{arith}
 use lib.Seq.{length-take-le}
 use Rattle.kernel.specs.Kernels.{kernelAt}
 use Rattle.density.specs.Densitize.{densitizeOf}
-use Rattle.runs.specs.Runs.{write}
+use Rattle.layout.specs.Runs.{write}
 use Rattle.track.specs.TrackLaws.{zeros, lanes-are}
 use borrow.Author.Needs.{needs}
 use Rattle.track.proofs.block.Statement.{statement}

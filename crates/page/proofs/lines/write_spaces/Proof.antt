@@ -3,7 +3,7 @@ use mathlib.Core.Path.{refl}
 use native.Mathlib.Omega.{arith}
 use Prim.Native.Nat.{_-_}
 use lib.ListN.{replicate}
-use Rattle.runs.specs.RunLaws.{Copied, none-copied, one-filled, all-filled}
+use Rattle.layout.specs.RunLaws.{Copied, none-copied, one-filled, all-filled}
 use Rattle.page.proofs.Writes.{spaces-written}
 use borrow.Author.Needs.{needs}
 use Rattle.page.proofs.lines.write_spaces.Statement.{statement}

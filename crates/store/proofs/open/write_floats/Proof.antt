@@ -4,7 +4,7 @@ use mathlib.Core.List.{[], _∷_}
 use native.Mathlib.Omega.{arith}
 use lib.ListN.{length-set}
 use Rattle.base.specs.Floats.{+0}
-use Rattle.runs.specs.RunLaws.{laid, sets-write}
+use Rattle.layout.specs.RunLaws.{laid, sets-write}
 use borrow.Author.Needs.{needs}
 use Rattle.store.proofs.open.write_floats.Statement.{statement}
 use Rattle.store.proofs.open.write_floats.Tie as tie

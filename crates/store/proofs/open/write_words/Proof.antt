@@ -3,7 +3,7 @@ use mathlib.Core.Path.{refl}
 use mathlib.Core.List.{[], _∷_}
 use native.Mathlib.Omega.{arith}
 use lib.ListN.{length-set}
-use Rattle.runs.specs.RunLaws.{laid, sets-write}
+use Rattle.layout.specs.RunLaws.{laid, sets-write}
 use borrow.Author.Needs.{needs}
 use Rattle.store.proofs.open.write_words.Statement.{statement}
 use Rattle.store.proofs.open.write_words.Tie as tie

@@ -4,7 +4,7 @@ ghost use mathlib.Core.Path.{_≡_};
 ghost use Prim.Native.Nat.{_+_, _-_, _≤_, _<_, min};
 ghost use lib.ListN.{length, getD, replicate};
 ghost use Rattle.base.specs.Floats.{+0};
-ghost use Rattle.runs.specs.Runs.{write};
+ghost use Rattle.layout.specs.Runs.{write};
 
 // +0 in the n floats from `at`.
 pub fn zero_floats(f: &mut [f64], at: usize, n: usize)

@@ -7,7 +7,7 @@ use native.Mathlib.Numerals.{add-one}
 use native.Mathlib.Omega.{arith}
 use lib.ListN.{length, take, drop, getD, set, replicate, length-append, length-take, length-drop, length-replicate, getD-replicate, length-set, take-append-drop}
 use lib.Seq.{sets, sets-eq, drop-drop, take-suc, length-take-le, take-append-seam, drop-append-seam, take-all}
-use Rattle.runs.specs.Runs.{write}
+use Rattle.layout.specs.Runs.{write}
 
 module _ {ℓ} {A : Type ℓ} where
   -- words stored one after another, and a part lent and given back, are writes

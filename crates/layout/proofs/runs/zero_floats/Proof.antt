@@ -3,10 +3,10 @@ use native.Mathlib.Omega.{arith}
 use Prim.Native.Nat.{_-_}
 use lib.ListN.{replicate}
 use Rattle.base.specs.Floats.{+0}
-use Rattle.runs.specs.RunLaws.{Copied, none-copied, one-filled, all-filled}
+use Rattle.layout.specs.RunLaws.{Copied, none-copied, one-filled, all-filled}
 use borrow.Author.Needs.{needs}
-use Rattle.runs.proofs.zero_floats.Statement.{statement}
-use Rattle.runs.proofs.zero_floats.Tie as tie
+use Rattle.layout.proofs.runs.zero_floats.Statement.{statement}
+use Rattle.layout.proofs.runs.zero_floats.Tie as tie
 
 abbrev Inv-loop : tie.InvT-loop
 Inv-loop f₀ at n i₀ f i = Copied f₀ at (replicate n +0) i f

@@ -2,10 +2,10 @@
 use native.Mathlib.Omega.{arith}
 use Prim.Native.Nat.{_-_}
 use lib.ListN.{replicate}
-use Rattle.runs.specs.RunLaws.{Copied, none-copied, one-filled, all-filled}
+use Rattle.layout.specs.RunLaws.{Copied, none-copied, one-filled, all-filled}
 use borrow.Author.Needs.{needs}
-use Rattle.runs.proofs.zero_words.Statement.{statement}
-use Rattle.runs.proofs.zero_words.Tie as tie
+use Rattle.layout.proofs.runs.zero_words.Statement.{statement}
+use Rattle.layout.proofs.runs.zero_words.Tie as tie
 
 abbrev Inv-loop : tie.InvT-loop
 Inv-loop w₀ at n i₀ w i = Copied w₀ at (replicate n 0) i w

@@ -3,10 +3,10 @@ use mathlib.Core.Path.{refl}
 use native.Mathlib.Omega.{arith}
 use Prim.Native.Nat.{_-_}
 use lib.ListN.{length}
-use Rattle.runs.specs.RunLaws.{Copied, none-copied, one-copied, all-copied}
+use Rattle.layout.specs.RunLaws.{Copied, none-copied, one-copied, all-copied}
 use borrow.Author.Needs.{needs}
-use Rattle.runs.proofs.copy_words.Statement.{statement}
-use Rattle.runs.proofs.copy_words.Tie as tie
+use Rattle.layout.proofs.runs.copy_words.Statement.{statement}
+use Rattle.layout.proofs.runs.copy_words.Tie as tie
 
 abbrev Inv-loop : tie.InvT-loop
 Inv-loop w₀ at from i₀ w i = Copied w₀ at from i w

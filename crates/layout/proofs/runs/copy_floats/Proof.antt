@@ -4,10 +4,10 @@ use native.Mathlib.Omega.{arith}
 use lib.Ieee.{nan}
 use Prim.Native.Nat.{_-_}
 use lib.ListN.{length}
-use Rattle.runs.specs.RunLaws.{Copied, none-copied, one-copied, all-copied}
+use Rattle.layout.specs.RunLaws.{Copied, none-copied, one-copied, all-copied}
 use borrow.Author.Needs.{needs}
-use Rattle.runs.proofs.copy_floats.Statement.{statement}
-use Rattle.runs.proofs.copy_floats.Tie as tie
+use Rattle.layout.proofs.runs.copy_floats.Statement.{statement}
+use Rattle.layout.proofs.runs.copy_floats.Tie as tie
 
 abbrev Inv-loop : tie.InvT-loop
 Inv-loop f₀ at from i₀ f i = Copied f₀ at from i f
