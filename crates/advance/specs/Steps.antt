@@ -13,7 +13,7 @@ use Rattle.volume.specs.Volume.{faceSum}
 use Rattle.layout.specs.Layout.{slotLimit, centreAt, piecesFrom, vertsOf, facesOf, statusOf, finishedAt, finishedOf, doneAt, doneOf}
 use Rattle.layout.specs.Soundness.{storeCheck}
 use Rattle.layout.specs.Left.{held, leftOf}
-use Rattle.store.specs.Calls.{After, after, guarded}
+use Rattle.layout.specs.After.{After, after, guarded}
 
 -- ---- "one face of one piece each"
 

@@ -1,7 +1,7 @@
 // Advance. It has no `requires`; a refused one changes nothing.
 ghost use mathlib.Core.Path.{_≡_};
 ghost use Rattle.layout.specs.Layout.{width};
-ghost use Rattle.store.specs.Calls.{after};
+ghost use Rattle.layout.specs.After.{after};
 ghost use Rattle.advance.specs.Steps.{advanceStep};
 ghost use Rattle.advance.specs.AdvanceAnswer.{advanced};
 use crate::work::run_slots;

@@ -12,7 +12,7 @@ use Rattle.base.specs.declared.refusal.Measured.the-variants.{Value, Refused as
 use Rattle.text.specs.Form.{print, _&_}
 use Rattle.text.specs.Print.{Wrote}
 use Rattle.density.specs.declared.report.MassReport.{MassReport}
-use Rattle.store.specs.Calls.{After, after}
+use Rattle.layout.specs.After.{After, after}
 use Rattle.store.specs.OpenAnswer.{opened}
 use Rattle.store.specs.EditAnswer.{edited}
 use Rattle.store.specs.declared.open.Opened.{Opened}

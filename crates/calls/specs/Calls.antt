@@ -7,7 +7,8 @@ use Rattle.base.specs.Answers.{Answer}
 use Rattle.base.specs.declared.refusal.Refusal.the-variants.{BadLine}
 use Rattle.kernel.specs.declared.kernel.Kernel.{Kernel}
 use Rattle.layout.specs.Layout.{width}
-use Rattle.store.specs.Calls.{After, clearStep, reweighStep}
+use Rattle.layout.specs.After.{After}
+use Rattle.store.specs.Calls.{clearStep, reweighStep}
 use Rattle.put.specs.Puts.{putStep}
 use Rattle.advance.specs.Steps.{advanceStep}
 use Rattle.readings.specs.Readings.{readStep, density, report}

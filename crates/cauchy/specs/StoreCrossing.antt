@@ -9,7 +9,7 @@ use Rattle.base.specs.Answers.{Answer}
 use Rattle.base.specs.Floats.{+0}
 use Rattle.density.specs.declared.convention.Convention.{Convention}
 use Rattle.density.specs.declared.convention.Convention.the-variants.{Raw, Rho0, Mass}
-use Rattle.store.specs.Calls.{After}
+use Rattle.layout.specs.After.{After}
 use Rattle.page.specs.Page.{Paged}
 use Rattle.cauchy.specs.Crossing.{Lent, lent}
 use Rattle.cauchy.specs.Volumes.{massFrom}

@@ -5,3 +5,4 @@ pub mod Left
 pub mod LeftLaws
 pub mod Runs
 pub mod RunLaws
+pub mod After

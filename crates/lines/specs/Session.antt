@@ -8,7 +8,8 @@ use lib.Seq.{sets}
 use lib.Ieee.{Float}
 use Rattle.base.specs.Floats.{+0}
 use Rattle.layout.specs.Layout.{width}
-use Rattle.store.specs.Calls.{After, openStep}
+use Rattle.layout.specs.After.{After}
+use Rattle.store.specs.Calls.{openStep}
 use Rattle.forms.specs.declared.line.Line.{Line}
 use Rattle.forms.specs.declared.line.Line.the-variants.{Bad, Open, Vert, Face, Put, Clear, Reweigh, Advance, Density, Report}
 use Rattle.calls.specs.Texts.{openText}

@@ -14,7 +14,8 @@ use Rattle.base.specs.declared.refusal.Checked.the-variants.{Passed, Failed}
 use Rattle.layout.specs.Runs.{write}
 use Rattle.track.specs.Track.{along}
 use Rattle.layout.specs.Layout.{width}
-use Rattle.store.specs.Calls.{After, after, openCheck, openStep}
+use Rattle.layout.specs.After.{After, after}
+use Rattle.store.specs.Calls.{openCheck, openStep}
 use Rattle.readings.specs.Readings.{Reading, density, report, list, track, bare, applied, rescaled, densityAt, sixes, Seen, trackLimit, trackCheck, answerOf, refusing}
 use Rattle.page.specs.Page.{Row, Paged, paged, allPrintable, pageOf, guardedPage, pageAnswer}
 use Rattle.machine.specs.Machine.{Mesh, Slot, leftSum, Machine, opened, openRow}

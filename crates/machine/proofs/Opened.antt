@@ -11,7 +11,8 @@ use Rattle.base.specs.Floats.{+0}
 use Rattle.base.specs.declared.refusal.Checked.the-variants.{Passed}
 use Rattle.layout.specs.Runs.{write}
 use Rattle.layout.specs.Layout.{coordsFrom, cornersFrom}
-use Rattle.store.specs.Calls.{after, openCheck, openFloats, openWords, openStep}
+use Rattle.layout.specs.After.{after}
+use Rattle.store.specs.Calls.{openCheck, openFloats, openWords, openStep}
 use Rattle.store.specs.OpenLaws.{open-passes}
 use Rattle.machine.specs.Machine.{Mesh, Slot, empty, meshOf}
 use Rattle.machine.specs.Holding.{flat, placeRow, floats7, floats48, floatsOf, wordsOf, excessF, excessW}

@@ -15,7 +15,8 @@ use Rattle.base.specs.declared.refusal.Checked.{Checked}
 use Rattle.base.specs.declared.refusal.Checked.the-variants.{Passed, Failed}
 use Rattle.mesh.specs.Checks.{ragged, oversize, allBelow, meshCheck}
 use Rattle.layout.specs.Layout.{coordsFrom, cornersFrom}
-use Rattle.store.specs.Calls.{After, after, guarded, openCheck}
+use Rattle.layout.specs.After.{After, after, guarded}
+use Rattle.store.specs.Calls.{openCheck}
 use Rattle.machine.specs.Machine.{looseIn, openRow}
 use Rattle.machine.specs.Demands.{refusedBy}
 

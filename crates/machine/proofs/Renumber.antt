@@ -14,7 +14,8 @@ use Rattle.base.specs.Answers.{counted}
 use Rattle.mesh.specs.Triangles.{vertex, triangleAt}
 use Rattle.mesh.specs.TriangleLaws.{same-vertex, same-named}
 use Rattle.layout.specs.Layout.{width}
-use Rattle.store.specs.Calls.{After, openStep}
+use Rattle.layout.specs.After.{After}
+use Rattle.store.specs.Calls.{openStep}
 use Rattle.squeeze.specs.Squeeze.{used, rank, renumbered, keptTo}
 use Rattle.squeeze.specs.Marks.{Below}
 use Rattle.squeeze.specs.TriangleLaws.{corner-used, rank-lt}

@@ -12,7 +12,8 @@ use Rattle.base.specs.declared.refusal.Refusal.the-variants.{NoPlace, Unfinishe
 use Rattle.kernel.specs.declared.kernel.Kernel.{Kernel}
 use Rattle.pieces.specs.Pieces.{decomposed}
 use Rattle.layout.specs.Layout.{slotLimit}
-use Rattle.store.specs.Calls.{After, clearStep, reweighStep}
+use Rattle.layout.specs.After.{After}
+use Rattle.store.specs.Calls.{clearStep, reweighStep}
 use Rattle.advance.specs.Steps.{advanceStep}
 use Rattle.put.specs.Puts.{putStep}
 use Rattle.density.specs.declared.convention.Convention.{Convention}

@@ -14,7 +14,8 @@ use Rattle.layout.specs.Runs.{write}
 use Rattle.kernel.specs.declared.kernel.Kernel.{Kernel}
 use Rattle.pieces.specs.Lists.{fittedAll, listDecomposition}
 use Rattle.layout.specs.Layout.{width}
-use Rattle.store.specs.Calls.{After, after, openStep}
+use Rattle.layout.specs.After.{After, after}
+use Rattle.store.specs.Calls.{openStep}
 use Rattle.readings.specs.Readings.{Reading, sixes}
 use Rattle.machine.specs.Machine.{Mesh, Machine, workLeft, opened, openRow}
 use Rattle.machine.specs.Holding.{excessF, excessW}

@@ -6,7 +6,8 @@ use Prim.Native.Nat.{ℕ, _+_, _*_, _/_, _<_}
 use lib.ListN.{length, getD}
 use lib.Ieee.{Float, nan}
 use Rattle.layout.specs.Layout.{width}
-use Rattle.store.specs.Calls.{After, openStep}
+use Rattle.layout.specs.After.{After}
+use Rattle.store.specs.Calls.{openStep}
 use Rattle.machine.specs.Machine.{openRow}
 use Rattle.machine.specs.Calls.{Call, Store, store, Heard, hearing}
 use Rattle.machine.specs.Demands.{leaving}

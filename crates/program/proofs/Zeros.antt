@@ -15,7 +15,8 @@ use Rattle.layout.specs.Runs.{write}
 use Rattle.mesh.specs.Checks.{meshCheck, allBelow}
 use Rattle.layout.specs.Layout.{slotLimit, width, coordsFrom, cornersFrom}
 use Rattle.layout.specs.Soundness.{every, longEnough, slotSound, slotSoundAt, sound, storeCheck}
-use Rattle.store.specs.Calls.{after, openCheck, openFloats, openWords, openStep}
+use Rattle.layout.specs.After.{after}
+use Rattle.store.specs.Calls.{openCheck, openFloats, openWords, openStep}
 use Rattle.program.specs.Bench.{atFirst}
 
 write-same : {A : Type 0} (z : A) (n a : ℕ) → n ≤ a → write (replicate a z) 0 (replicate n z) ≡ replicate a z

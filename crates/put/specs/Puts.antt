@@ -13,7 +13,7 @@ use Rattle.pieces.specs.declared.pieces.Pieces.{Pieces}
 use Rattle.pieces.specs.Pieces.{decomposed}
 use Rattle.layout.specs.Layout.{pieceLimit, radiusOf, kernelFrom, piecesFrom, stateFrom, facesOf}
 use Rattle.layout.specs.Soundness.{slotCheck}
-use Rattle.store.specs.Calls.{After, after, guarded}
+use Rattle.layout.specs.After.{After, after, guarded}
 
 -- "c, sigma, w, alpha, error"
 abbrev pub seven : Kernel → Float → List Float

@@ -13,7 +13,7 @@ use Rattle.layout.specs.RunLaws.{length-part}
 use Rattle.layout.specs.Layout.{width, coordsFrom, cornersFrom, vertsOf, facesOf}
 use Rattle.layout.specs.Soundness.{storeCheck}
 use Rattle.layout.specs.SoundLaws.{fine}
-use Rattle.store.specs.Calls.{after}
+use Rattle.layout.specs.After.{after}
 use Rattle.squeeze.specs.Squeeze.{rank, renumbered, squeezed, squeezeStep}
 use Rattle.squeeze.specs.Marks.{Whole}
 use Rattle.squeeze.specs.MarkLaws.{rank-le}

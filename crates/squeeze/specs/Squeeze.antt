@@ -11,7 +11,7 @@ use Rattle.base.specs.Answers.{counted}
 use Rattle.layout.specs.Runs.{write}
 use Rattle.layout.specs.Layout.{coordsFrom, cornersFrom, cornersOf, vertsOf}
 use Rattle.layout.specs.Soundness.{storeCheck}
-use Rattle.store.specs.Calls.{After, after, guarded}
+use Rattle.layout.specs.After.{After, after, guarded}
 
 -- a face uses vertex i: a corner names it, whatever its coordinates are
 unfoldable pub used : List ℕ → ℕ → Bool

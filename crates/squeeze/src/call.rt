@@ -1,7 +1,7 @@
 // The call.
 ghost use mathlib.Core.Path.{_≡_};
 ghost use Rattle.layout.specs.Layout.{width};
-ghost use Rattle.store.specs.Calls.{after};
+ghost use Rattle.layout.specs.After.{after};
 ghost use Rattle.squeeze.specs.Squeeze.{squeezeStep};
 ghost use Rattle.squeeze.specs.SqueezeAnswer.{squeezedAs};
 use crate::moves::squeeze_mesh;

@@ -6,28 +6,15 @@ use lib.Dec.{leb}
 use lib.ListN.{length, set, replicate}
 use lib.Ieee.{Float}
 use Rattle.base.specs.Floats.{+0}
-use Rattle.base.specs.Answers.{Answer, counted, done, refused, andThen}
+use Rattle.base.specs.Answers.{counted, done, andThen}
 use Rattle.base.specs.declared.refusal.Refusal.the-variants.{ShortStore}
 use Rattle.base.specs.declared.refusal.Checked.{Checked}
 use Rattle.base.specs.declared.refusal.Checked.the-variants.{Passed, Failed}
 use Rattle.layout.specs.Runs.{write}
 use Rattle.mesh.specs.Checks.{meshCheck}
+use Rattle.layout.specs.After.{After, after, guarded}
 use Rattle.layout.specs.Layout.{slotLimit, kernelFrom, weightAt, piecesFrom, coordsFrom, stateFrom, cornersFrom}
 use Rattle.layout.specs.Soundness.{filledCheck}
-
--- ---- what a call leaves: its reply, the float run fs and the u32 run ws
-pub record After : Type 0 where
-  pub reply : Answer
-  pub floats : List Float
-  pub words : List ℕ
-
-abbrev pub after : Answer → List Float → List ℕ → After
-after r fs ws = record { reply = r; floats = fs; words = ws }
-
--- "a refused call changes nothing"
-abbrev pub guarded : Checked → List Float → List ℕ → After → After
-guarded Passed fs ws good = good
-guarded (Failed r) fs ws good = after (refused r) fs ws
 
 -- ---- "Open copies a mesh and radius; all empty", with rows 1 to 4: n coordinates, corners ks, runs of a floats and b words
 unfoldable pub openCheck : ℕ → ℕ → List ℕ → ℕ → ℕ → Checked

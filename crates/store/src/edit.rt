@@ -1,7 +1,8 @@
 // Clear and reweigh.
 ghost use mathlib.Core.Path.{_≡_};
 ghost use Rattle.layout.specs.Layout.{width};
-ghost use Rattle.store.specs.Calls.{after, clearStep, reweighStep};
+ghost use Rattle.layout.specs.After.{after};
+ghost use Rattle.store.specs.Calls.{clearStep, reweighStep};
 ghost use Rattle.store.specs.EditAnswer.{edited};
 use base::refusal::Checked;
 use base::refusal::Refusal;

@@ -6,7 +6,7 @@ use native.Mathlib.Omega.{arith}
 use Rattle.base.specs.Answers.{counted}
 use Rattle.layout.specs.Layout.{width, slotLimit, facesOf}
 use Rattle.layout.specs.SoundLaws.{fine}
-use Rattle.store.specs.Calls.{after}
+use Rattle.layout.specs.After.{after}
 use Rattle.layout.specs.Left.{leftOf}
 use Rattle.advance.specs.Steps.{Whole, whole, spentAll, advanceStep}
 use borrow.Author.Needs.{needs}
