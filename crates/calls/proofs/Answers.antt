@@ -19,9 +19,9 @@ use Rattle.store.specs.declared.open.Opened.{Opened}
 use Rattle.store.specs.declared.open.Opened.the-variants.{Mesh, Refused as Unopened}
 use Rattle.store.specs.declared.edit.Edited.{Edited}
 use Rattle.store.specs.declared.edit.Edited.the-variants.{Done, Refused as Unedited}
-use Rattle.put.specs.PutAnswer.{placed}
-use Rattle.put.specs.declared.Placed.{Placed}
-use Rattle.put.specs.declared.Placed.the-variants.{Needs, Refused as Unplaced}
+use Rattle.store.specs.PutAnswer.{placed}
+use Rattle.store.specs.declared.put.Placed.{Placed}
+use Rattle.store.specs.declared.put.Placed.the-variants.{Needs, Refused as Unplaced}
 use Rattle.advance.specs.AdvanceAnswer.{advanced}
 use Rattle.advance.specs.declared.advance.Advanced.{Advanced}
 use Rattle.advance.specs.declared.advance.Advanced.the-variants.{Steps, Refused as Unadvanced}

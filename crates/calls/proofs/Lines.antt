@@ -9,7 +9,7 @@ use Rattle.text.specs.Print.{Wrote}
 use Rattle.density.specs.declared.convention.Convention.{Convention}
 use Rattle.layout.specs.Layout.{width}
 use Rattle.store.specs.Calls.{clearStep, reweighStep}
-use Rattle.put.specs.Puts.{putStep}
+use Rattle.store.specs.Puts.{putStep}
 use Rattle.advance.specs.Steps.{advanceStep}
 use Rattle.readings.specs.Readings.{readStep, density, report}
 use Rattle.forms.proofs.line.Line.{the-type}

@@ -9,7 +9,7 @@ use Rattle.kernel.specs.declared.kernel.Kernel.{Kernel}
 use Rattle.layout.specs.Layout.{width}
 use Rattle.layout.specs.After.{After}
 use Rattle.store.specs.Calls.{clearStep, reweighStep}
-use Rattle.put.specs.Puts.{putStep}
+use Rattle.store.specs.Puts.{putStep}
 use Rattle.advance.specs.Steps.{advanceStep}
 use Rattle.readings.specs.Readings.{readStep, density, report}
 use Rattle.forms.specs.declared.line.Line.{Line}

@@ -6,7 +6,7 @@ ghost use Rattle.base.specs.Refusals.{number};
 ghost use Rattle.text.specs.Print.{Wrote};
 ghost use Rattle.layout.specs.Layout.{width};
 ghost use Rattle.store.specs.Calls.{openStep, clearStep, reweighStep};
-ghost use Rattle.put.specs.Puts.{putStep};
+ghost use Rattle.store.specs.Puts.{putStep};
 ghost use Rattle.advance.specs.Steps.{advanceStep};
 ghost use Rattle.readings.specs.Readings.{readStep};
 ghost use Rattle.readings.specs.Readings;
@@ -26,8 +26,6 @@ use base::refusal::Refusal;
 use base::refusal::refusal_number;
 use density::convention::Convention;
 use kernel::kernel::Kernel;
-use put::Placed;
-use put::put;
 use readings::at_point::density;
 use readings::reports::Reported;
 use readings::reports::report;
@@ -36,6 +34,8 @@ use store::edit::clear;
 use store::edit::reweigh;
 use store::open::Opened;
 use store::open::open;
+use store::put::Placed;
+use store::put::put;
 use text::write::write_bytes;
 
 // The newline after a text that ends at `at`.

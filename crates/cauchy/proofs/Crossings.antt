@@ -21,9 +21,9 @@ use Rattle.pieces.specs.Lists.{listedAs}
 use Rattle.store.specs.declared.open.Opened.{Opened}
 use Rattle.store.specs.declared.open.Opened.the-variants as opening
 use Rattle.store.specs.OpenAnswer.{opened}
-use Rattle.put.specs.declared.Placed.{Placed}
-use Rattle.put.specs.declared.Placed.the-variants as placing
-use Rattle.put.specs.PutAnswer.{placed}
+use Rattle.store.specs.declared.put.Placed.{Placed}
+use Rattle.store.specs.declared.put.Placed.the-variants as placing
+use Rattle.store.specs.PutAnswer.{placed}
 use Rattle.advance.specs.declared.advance.Advanced.{Advanced}
 use Rattle.advance.specs.declared.advance.Advanced.the-variants as advancing
 use Rattle.advance.specs.AdvanceAnswer.{advanced}

@@ -15,8 +15,6 @@ use density::convention::Convention;
 use kernel::kernel::Kernel;
 use page::call::PageRead;
 use page::call::page;
-use put::Placed;
-use put::put;
 use readings::at_point::density;
 use readings::listing::ListRead;
 use readings::listing::list;
@@ -24,13 +22,15 @@ use readings::reports::Reported;
 use readings::reports::report;
 use readings::tracks::TrackRead;
 use readings::tracks::track;
-use squeeze::call::Squeezed;
-use squeeze::call::squeeze;
 use store::edit::Edited;
 use store::edit::clear;
 use store::edit::reweigh;
 use store::open::Opened;
 use store::open::open;
+use store::put::Placed;
+use store::put::put;
+use store::squeeze::Squeezed;
+use store::squeeze::squeeze;
 
 // How many values a word of 32 bits has.
 const WORD: u64 = 4_294_967_296;

@@ -28,8 +28,8 @@ use Rattle.layout.specs.Layout.{slotLimit, radiusOf, vertsOf, facesOf, statusOf
 use Rattle.layout.specs.Soundness.{storeCheck, slotCheck, filledCheck}
 use Rattle.store.specs.Calls.{clearStep, reweighStep}
 use Rattle.advance.specs.Steps.{advanceStep}
-use Rattle.squeeze.specs.Squeeze.{squeezeStep}
-use Rattle.put.specs.Puts.{fresh, atFirst, putFloats, putWords, putStep}
+use Rattle.store.specs.Squeeze.{squeezeStep}
+use Rattle.store.specs.Puts.{fresh, atFirst, putFloats, putWords, putStep}
 use Rattle.machine.specs.Machine.{Mesh, Slot, empty, full, need, leftSlot, leftSum, Machine, Turn, turn, putTurn, clearTurn, weighed, reweighTurn}
 use Rattle.machine.specs.Holding.{placeRow, cells, wordsOf}
 use Rattle.readings.specs.Readings.{Reading}

@@ -9,9 +9,9 @@ use lib.Dec.{eqb}
 use lib.ListN.{length, getD, length-append}
 use lib.Ieee.{Float}
 use borrow.Author.Tests.{eq-eqb, ne-eqb}
-use Rattle.squeeze.specs.Squeeze.{used, rank, renumbered, pointOf, keptTo, freedOf}
-use Rattle.squeeze.specs.Marks.{Below}
-use Rattle.squeeze.specs.TriangleLaws.{corner-used}
+use Rattle.store.specs.Squeeze.{used, rank, renumbered, pointOf, keptTo, freedOf}
+use Rattle.store.specs.Marks.{Below}
+use Rattle.store.specs.TriangleLaws.{corner-used}
 use Rattle.machine.specs.Machine.{Mesh, usedBelow, placeIn, pointsAt, slim, freedBy}
 
 module _ (ks : List ℕ) where

@@ -21,9 +21,9 @@ use Rattle.pieces.specs.Pieces.{decomposed}
 use Rattle.layout.specs.Layout.{slotLimit}
 use Rattle.readings.specs.Readings.{Reading, rawMass, answerOf}
 use Rattle.page.specs.Page.{Row, row, pageAnswer}
-use Rattle.squeeze.specs.Squeeze.{rank, renumbered, keptTo}
-use Rattle.squeeze.specs.Marks.{Below}
-use Rattle.squeeze.specs.TriangleLaws.{same-triangle}
+use Rattle.store.specs.Squeeze.{rank, renumbered, keptTo}
+use Rattle.store.specs.Marks.{Below}
+use Rattle.store.specs.TriangleLaws.{same-triangle}
 use Rattle.machine.specs.Machine.{Mesh, Slot, empty, full, bump, Machine, Turn, turn, freedBy, stepsOf, putTurn, clearTurn, reweighTurn}
 use Rattle.machine.specs.Holding.{triangles}
 use Rattle.machine.specs.Fresh.{freshRow, freshRows, workedAfresh, pageAfresh}

@@ -15,12 +15,12 @@ use Rattle.layout.specs.Layout.{slotLimit}
 use Rattle.layout.specs.After.{After}
 use Rattle.store.specs.Calls.{clearStep, reweighStep}
 use Rattle.advance.specs.Steps.{advanceStep}
-use Rattle.put.specs.Puts.{putStep}
+use Rattle.store.specs.Puts.{putStep}
 use Rattle.density.specs.declared.convention.Convention.{Convention}
 use Rattle.density.specs.declared.convention.Convention.the-variants.{Raw, Rho0, Mass}
 use Rattle.readings.specs.Readings.{Reading, density, report, list, track, refusing, readStep}
 use Rattle.page.specs.Page.{Paged, paged, pageStep}
-use Rattle.squeeze.specs.Squeeze.{squeezeStep}
+use Rattle.store.specs.Squeeze.{squeezeStep}
 use Rattle.machine.specs.Machine.{empty, Machine, workLeft, Turn, turn, putTurn, clearTurn, reweighTurn, advanceTurn, squeezeTurn}
 use Rattle.machine.specs.Holding.{floatsOf, wordsOf}
 use Rattle.machine.specs.Fresh.{workedAfresh, pageAfresh}

@@ -11,7 +11,7 @@ use Rattle.base.specs.declared.refusal.Refusal.the-variants.{Vacant}
 use Rattle.kernel.specs.declared.kernel.Kernel.{Kernel}
 use Rattle.pieces.specs.declared.pieces.Pieces.{Pieces}
 use Rattle.layout.specs.Layout.{slotLimit}
-use Rattle.squeeze.specs.Squeeze.{used, pointOf}
+use Rattle.store.specs.Squeeze.{used, pointOf}
 
 -- the mesh and radius that an opening gave: V and F are the counts of vertices and faces
 pub record Mesh : Type 0 where

@@ -2,3 +2,11 @@ pub mod Calls
 pub mod OpenAnswer
 pub mod EditAnswer
 pub mod OpenLaws
+pub mod Puts
+pub mod PutAnswer
+pub mod Squeeze
+pub mod SqueezeAnswer
+pub mod Marks
+pub mod MarkLaws
+pub mod SqueezeLaws
+pub mod TriangleLaws
