@@ -9,10 +9,10 @@ use Rattle.base.specs.Constants.{one, stayLimit}
 use Rattle.powers.specs.Power.{log10}
 use Rattle.solve.specs.Elimination.{Matrix, eliminated}
 use Rattle.solve.specs.Solve.{blank}
-use Rattle.fit.specs.Fit.{zeros, scalesOf, equations, ridged, coefficientsOf, peakError}
+use Rattle.pieces.specs.Fit.{zeros, scalesOf, equations, ridged, coefficientsOf, peakError}
 use Rattle.pieces.specs.Pieces.{sizeOf, none, kept, fitted, decomposed}
 use Rattle.kernel.specs.declared.kernel.Kernel.{Kernel}
-use Rattle.fit.specs.declared.points.Curve.{Curve}
+use Rattle.pieces.specs.declared.points.Curve.{Curve}
 use Rattle.pieces.specs.declared.pieces.Size.{Size}
 use Rattle.pieces.specs.declared.pieces.Pieces.{Pieces}
 

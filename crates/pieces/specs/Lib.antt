@@ -3,3 +3,7 @@ pub mod Kernels
 pub mod Lists
 pub mod PieceLaws
 pub mod Rows
+pub mod Fit
+pub mod Samples
+pub mod FitLaws
+pub mod SampleLaws

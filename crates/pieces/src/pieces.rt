@@ -1,18 +1,18 @@
 // The pieces of a kernel: itself where its exponent is near 1, else a fit by kernels of exponent 1.
 ghost use mathlib.Core.Path.{_≡_};
 ghost use Prim.Native.Nat.{_<_, _≤_};
-ghost use Rattle.fit.specs.Samples.{Samples};
+ghost use Rattle.pieces.specs.Samples.{Samples};
 ghost use Rattle.pieces.specs.Pieces.{sizeOf, keep, kept, fitted, decomposed, pieceAlpha};
+use crate::error::peak_error;
+use crate::normal::add_ridge;
+use crate::normal::add_samples;
+use crate::normal::solve_for;
+use crate::points::Curve;
+use crate::points::fill_points;
+use crate::points::fill_scales;
+use crate::points::fill_targets;
 use base::floats::abs;
 use base::floats::greater_of;
-use fit::error::peak_error;
-use fit::normal::add_ridge;
-use fit::normal::add_samples;
-use fit::normal::solve_for;
-use fit::points::Curve;
-use fit::points::fill_points;
-use fit::points::fill_scales;
-use fit::points::fill_targets;
 use kernel::kernel::Kernel;
 use powers::power::log10;
 

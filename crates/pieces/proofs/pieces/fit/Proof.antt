@@ -1,6 +1,6 @@
 -- `fit` meets its contract: the two tables hold the curve's samples. Assumes nothing.
 use borrow.Author.Needs.{needs}
-use Rattle.fit.specs.SampleLaws.{holds}
+use Rattle.pieces.specs.SampleLaws.{holds}
 use Rattle.pieces.proofs.pieces.fit.Statement.{statement}
 use Rattle.pieces.proofs.pieces.fit.Tie as tie
 

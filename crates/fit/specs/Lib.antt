@@ -1,4 +1,0 @@
-pub mod Fit
-pub mod Samples
-pub mod FitLaws
-pub mod SampleLaws
