@@ -5,7 +5,7 @@ ghost use mathlib.Core.Path.{_≡_};
 ghost use Rattle.base.specs.Answers.{measuredAs};
 ghost use Rattle.mass.specs.Calls.{locatedAs, pointValues, kernelVolumeCall, bodyVolumeCall, volumeCentroidCall, fieldMassCall};
 ghost use Rattle.density.specs.Densitize.{densitized};
-ghost use Rattle.reports.specs.Homogeneous.{reportedAs, homogeneousCall};
+ghost use Rattle.mass.specs.Homogeneous.{reportedAs, homogeneousCall};
 ghost use Rattle.cauchy.specs.Volumes.{valueFrom, pointFrom, reportFrom};
 use base::refusal::Measured;
 use base::refusal::refusal_number;
@@ -16,9 +16,9 @@ use mass::calls::body_volume;
 use mass::calls::kernel_field_mass;
 use mass::calls::kernel_volume;
 use mass::calls::volume_centroid;
+use mass::homogeneous::Reported;
+use mass::homogeneous::homogeneous;
 use mesh::vectors::V3;
-use reports::Reported;
-use reports::homogeneous;
 
 // 01's number and a float.
 #[repr(C)]

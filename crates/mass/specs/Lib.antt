@@ -3,3 +3,4 @@ pub mod Total
 pub mod Calls
 pub mod Laws
 pub mod Rows
+pub mod Homogeneous

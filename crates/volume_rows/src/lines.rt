@@ -5,7 +5,7 @@ use base::refusal::Refusal;
 use base::refusal::refusal_number;
 use libc::STDOUT_FILENO;
 use mass::calls::Located;
-use reports::Reported;
+use mass::homogeneous::Reported;
 use weights::normalize::Weighed;
 
 // Writes a space and a number.

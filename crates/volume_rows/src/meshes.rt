@@ -20,7 +20,7 @@ use mass::calls::body_volume;
 use mass::calls::kernel_field_mass;
 use mass::calls::kernel_volume;
 use mass::calls::volume_centroid;
-use reports::homogeneous;
+use mass::homogeneous::homogeneous;
 use source::volume::mesh_enclosed_volume;
 use weights::calibrate::Mean;
 use weights::calibrate::calibrate_kernels;

@@ -8,8 +8,8 @@ use Rattle.mesh.specs.Triangles.{triangleAt, faceCount}
 use Rattle.mesh.specs.Checks.{meshCheck}
 use Rattle.volume.specs.Volume.{bodyVolume}
 use Rattle.density.specs.Reports.{reportValues, homogeneousOf}
-use Rattle.reports.specs.declared.Reported.{Reported}
-use Rattle.reports.specs.declared.Reported.the-variants.{Report, Refused}
+use Rattle.mass.specs.declared.homogeneous.Reported.{Reported}
+use Rattle.mass.specs.declared.homogeneous.Reported.the-variants.{Report, Refused}
 
 -- number and values of each case
 abbrev pub reportedAs : Reported → Answer

@@ -1,7 +1,7 @@
 // The report of a body of one density, on a mesh that is given beside it (native density.rs). The call
 // has no `requires`.
 ghost use mathlib.Core.Path.{_≡_};
-ghost use Rattle.reports.specs.Homogeneous.{reportedAs, homogeneousCall};
+ghost use Rattle.mass.specs.Homogeneous.{reportedAs, homogeneousCall};
 use base::refusal::Checked;
 use base::refusal::Refusal;
 use density::report::MassReport;

@@ -2,9 +2,9 @@
 use mathlib.Core.Path.{sym, _∙_}
 use borrow.Author.Needs.{needs}
 use Rattle.mesh.specs.CheckLaws.{passed-sound}
-use Rattle.reports.specs.Homogeneous.{homogeneousCall}
-use Rattle.reports.proofs.homogeneous.Statement.{statement}
-use Rattle.reports.proofs.homogeneous.Tie as tie
+use Rattle.mass.specs.Homogeneous.{homogeneousCall}
+use Rattle.mass.proofs.homogeneous.homogeneous.Statement.{statement}
+use Rattle.mass.proofs.homogeneous.homogeneous.Tie as tie
 
 returns : tie.Need-returns
 unfolding homogeneousCall
