@@ -10,7 +10,7 @@ use Rattle.base.specs.Floats.{+0}
 use Rattle.base.specs.Answers.{Answer, accepted, counted, outcome, guardedRun}
 use Rattle.base.specs.declared.refusal.Checked.the-variants.{Passed}
 use Rattle.mesh.specs.Checks.{vertexLimit, faceLimit, meshCheck}
-use Rattle.field.specs.Field.{centreOf, fieldCheck}
+use Rattle.kernel.specs.Field.{centreOf, fieldCheck}
 use Rattle.volume.specs.Volume.{bodyVolume}
 use Rattle.kernel.specs.declared.kernel.Kernel.{Kernel}
 use Rattle.pieces.specs.declared.pieces.Pieces.{Pieces}

@@ -5,7 +5,7 @@ use lib.ListN.{length, getD}
 use lib.Ieee.{nan}
 use Rattle.base.specs.Floats.{_⊗_, +0}
 use Rattle.volume.specs.Volume.{kernelVolume, bodyVolume}
-use Rattle.field.specs.Field.{centreOf}
+use Rattle.kernel.specs.Field.{centreOf}
 use Rattle.kernel.specs.declared.kernel.Kernel.{Kernel}
 use Rattle.pieces.specs.declared.pieces.Pieces.{Pieces}
 use Rattle.pieces.specs.Pieces.{decomposed, pieceAlpha}

@@ -8,7 +8,7 @@ use lib.ListN.{take, getD}
 use lib.Seq.{getD-append-add, take-suc, take-all}
 use lib.Ieee.{Float, nan}
 use Rattle.volume.specs.Volume.{volumeTo}
-use Rattle.field.specs.Field.{centreOf}
+use Rattle.kernel.specs.Field.{centreOf}
 use Rattle.kernel.specs.declared.kernel.Kernel.{Kernel}
 use Rattle.pieces.specs.declared.pieces.Pieces.{Pieces}
 use Rattle.readings.specs.Readings.{Part, bare, heldPart, heldAt, heldAll}

@@ -20,7 +20,7 @@ use Rattle.layout.specs.Runs.{write}
 use Rattle.mesh.specs.declared.vectors.V3.{V3}
 use Rattle.mesh.specs.declared.triangles.Triangle.{Triangle}
 use Rattle.mesh.specs.Triangles.{triangleAt, faceCount}
-use Rattle.field.specs.Field.{centreOf, fieldCheck}
+use Rattle.kernel.specs.Field.{centreOf, fieldCheck}
 use Rattle.volume.specs.Volume.{volumeTo, kernelVolume}
 use Rattle.volume.specs.EvenLaws.{volume-abs, kernel-volume-even}
 use Rattle.kernel.specs.declared.kernel.Kernel.{Kernel}

@@ -9,7 +9,7 @@ use lib.Ieee.{Float, nan}
 use Rattle.base.specs.Floats.{+0}
 use Rattle.base.specs.Loops.{times}
 use Rattle.volume.specs.Volume.{volumeTo}
-use Rattle.field.specs.Field.{centreOf}
+use Rattle.kernel.specs.Field.{centreOf}
 use Rattle.kernel.specs.declared.kernel.Kernel.{Kernel}
 use Rattle.pieces.specs.declared.pieces.Pieces.{Pieces}
 use Rattle.pieces.specs.Pieces.{decomposed}

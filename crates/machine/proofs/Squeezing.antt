@@ -14,7 +14,7 @@ use Rattle.mesh.specs.CheckLaws.{below-each}
 use Rattle.mesh.specs.declared.vectors.V3.{V3}
 use Rattle.volume.specs.Volume.{volumeTo}
 use Rattle.volume.specs.Laws.{same-volume}
-use Rattle.field.specs.Field.{centreOf}
+use Rattle.kernel.specs.Field.{centreOf}
 use Rattle.kernel.specs.declared.kernel.Kernel.{Kernel}
 use Rattle.pieces.specs.declared.pieces.Pieces.{Pieces}
 use Rattle.layout.specs.Layout.{coordsFrom, cornersFrom}

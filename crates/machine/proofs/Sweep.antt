@@ -12,7 +12,7 @@ use lib.Dec.{eqb}
 use lib.Ieee.{Float}
 use Rattle.base.specs.Loops.{iterate}
 use Rattle.base.specs.LoopLaws.{iterate-inner}
-use Rattle.field.specs.Field.{centreOf}
+use Rattle.kernel.specs.Field.{centreOf}
 use Rattle.kernel.specs.declared.kernel.Kernel.{Kernel}
 use Rattle.pieces.specs.declared.pieces.Pieces.{Pieces}
 use Rattle.layout.specs.Layout.{centreAt}

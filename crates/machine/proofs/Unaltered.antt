@@ -14,7 +14,7 @@ use Rattle.base.specs.declared.refusal.Refusal.the-variants.{NoPlace}
 use Rattle.mesh.specs.Triangles.{triangleAt}
 use Rattle.mesh.specs.CheckLaws.{below-each}
 use Rattle.volume.specs.Volume.{origin}
-use Rattle.field.specs.Field.{centreOf}
+use Rattle.kernel.specs.Field.{centreOf}
 use Rattle.kernel.specs.declared.kernel.Kernel.{Kernel}
 use Rattle.pieces.specs.declared.pieces.Pieces.{Pieces}
 use Rattle.pieces.specs.Pieces.{decomposed}

@@ -9,7 +9,7 @@ use Rattle.base.specs.Floats.{+0}
 use Rattle.mesh.specs.Triangles.{triangleAt}
 use Rattle.mesh.specs.declared.triangles.Triangle.{Triangle}
 use Rattle.volume.specs.Volume.{volumeTo}
-use Rattle.field.specs.Field.{centreOf}
+use Rattle.kernel.specs.Field.{centreOf}
 use Rattle.kernel.specs.declared.kernel.Kernel.{Kernel}
 use Rattle.pieces.specs.declared.pieces.Pieces.{Pieces}
 use Rattle.layout.specs.Layout.{coordsFrom, cornersFrom}

@@ -7,7 +7,7 @@ use Rattle.base.specs.Answers.{Answer, accepted, refused, answered}
 use Rattle.mesh.specs.declared.vectors.V3.{V3}
 use Rattle.mesh.specs.Triangles.{triangleAt, faceCount}
 use Rattle.mesh.specs.Checks.{meshCheck}
-use Rattle.field.specs.Field.{fieldCheck}
+use Rattle.kernel.specs.Field.{fieldCheck}
 use Rattle.volume.specs.Volume.{kernelVolume, bodyVolume}
 use Rattle.mass.specs.declared.calls.Located.{Located}
 use Rattle.mass.specs.declared.calls.Located.the-variants.{At, Refused}

@@ -10,8 +10,8 @@ use Rattle.mesh.specs.declared.vectors.V3.{V3}
 use Rattle.mesh.specs.declared.triangles.Triangle.{Triangle}
 use Rattle.mesh.specs.Vectors.{dot}
 use Rattle.mesh.specs.Triangles.{normalOf}
-use Rattle.field.specs.declared.dunavant.Node.{Node}
-use Rattle.field.specs.Dunavant.{row, node, pointOf}
+use Rattle.mesh.specs.declared.dunavant.Node.{Node}
+use Rattle.mesh.specs.Dunavant.{row, node, pointOf}
 use Rattle.volume.specs.Volume.{origin, bodyVolume}
 
 -- what a point y adds to the three sums: ((w·0.25)·(y·y))·n_k

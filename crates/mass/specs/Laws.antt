@@ -7,7 +7,7 @@ use Rattle.base.specs.Floats.{_⊕_, _⊗_, +0}
 use Rattle.base.specs.LoopLaws.{times-same}
 use Rattle.kernel.specs.Kernels.{kernelAt}
 use Rattle.mesh.specs.declared.triangles.Triangle.{Triangle}
-use Rattle.field.specs.Field.{centreOf}
+use Rattle.kernel.specs.Field.{centreOf}
 use Rattle.volume.specs.Volume.{origin}
 use Rattle.volume.specs.Laws.{same-volume}
 use Rattle.mass.specs.Centroid.{faceMoment, momentTo, volumeCentroid}

@@ -7,7 +7,7 @@ use Rattle.base.specs.Loops.{times}
 use Rattle.mesh.specs.declared.vectors.V3.{V3}
 use Rattle.mesh.specs.declared.triangles.Triangle.{Triangle}
 use Rattle.radial.specs.Radial.{seriesOf, radialG}
-use Rattle.field.specs.Dunavant.{third}
+use Rattle.mesh.specs.Dunavant.{third}
 use Rattle.volume.specs.Volume.{origin, volumeTo, kernelVolume}
 use Rattle.mass.specs.Centroid.{momentTo, centred, volumeCentroid}
 

@@ -7,7 +7,7 @@ use Rattle.base.specs.Floats.{_⊕_, _⊗_, +0}
 use Rattle.base.specs.Loops.{times}
 use Rattle.kernel.specs.Kernels.{kernelAt}
 use Rattle.mesh.specs.declared.triangles.Triangle.{Triangle}
-use Rattle.field.specs.Field.{centreOf}
+use Rattle.kernel.specs.Field.{centreOf}
 use Rattle.volume.specs.Volume.{kernelVolume}
 
 -- a kernel adds w times its volume; alpha is not looked at

@@ -8,7 +8,7 @@ use crate::total::field_mass_of;
 use base::refusal::Checked;
 use base::refusal::Measured;
 use base::refusal::Refusal;
-use field::check_field;
+use kernel::field::check_field;
 use mesh::check::check_mesh;
 use mesh::vectors::V3;
 use volume::faces::body_volume_of;

@@ -3,7 +3,7 @@ ghost use mathlib.Core.Path.{_≡_};
 ghost use lib.ListN.{length};
 ghost use Rattle.mesh.specs.Triangles.{triangleAt, faceCount, Sound};
 ghost use Rattle.mass.specs.Total.{fieldMass};
-use field::centre_of;
+use kernel::field::centre_of;
 use kernel::kernel::kernel_at;
 use volume::faces::volume_of;
 

@@ -3,3 +3,4 @@ pub mod Triangles
 pub mod TriangleLaws
 pub mod Checks
 pub mod CheckLaws
+pub mod Dunavant

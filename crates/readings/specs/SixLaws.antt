@@ -10,7 +10,7 @@ use Rattle.base.specs.LoopLaws.{times-same}
 use Rattle.base.specs.Answers.{accepted}
 use Rattle.base.specs.declared.refusal.Checked.the-variants.{Passed}
 use Rattle.mesh.specs.declared.triangles.Triangle.{Triangle}
-use Rattle.field.specs.Field.{centreOf}
+use Rattle.kernel.specs.Field.{centreOf}
 use Rattle.volume.specs.Volume.{kernelVolume}
 use Rattle.kernel.specs.declared.kernel.Kernel.{Kernel}
 use Rattle.kernel.specs.Kernels.{kernelAt, listCheck}

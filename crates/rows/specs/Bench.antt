@@ -22,7 +22,7 @@ use Rattle.mesh.specs.declared.vectors.V3.{V3}
 use Rattle.mesh.specs.declared.triangles.Triangle.{Triangle}
 use Rattle.volume.specs.Volume.{kernelVolume}
 use Rattle.mass.specs.Centroid.{volumeCentroid}
-use Rattle.field.specs.Dunavant.{third-is}
+use Rattle.mesh.specs.Dunavant.{third-is}
 use Rattle.mass.specs.Rows as mass
 use Rattle.density.specs.Densitize.{densitized}
 use Rattle.density.specs.Rows as density

@@ -12,7 +12,7 @@ use Rattle.kernel.specs.declared.kernel.Kernel.{Kernel}
 use Rattle.kernel.specs.Kernels.{kernelAt, listCheck}
 use Rattle.mesh.specs.declared.vectors.V3.{V3}
 use Rattle.mesh.specs.Vectors.{vsub, dot}
-use Rattle.field.specs.Field.{centreOf}
+use Rattle.kernel.specs.Field.{centreOf}
 
 -- what one kernel adds at a point: by the power, whatever its exponent
 unfoldable pub shareOf : Kernel → V3 → Float

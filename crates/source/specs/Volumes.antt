@@ -15,8 +15,8 @@ use Rattle.mesh.specs.declared.triangles.Triangle.{Triangle}
 use Rattle.mesh.specs.Vectors.{vsub, dot, norm}
 use Rattle.mesh.specs.Triangles.{triangleAt, faceCount}
 use Rattle.mesh.specs.Checks.{meshCheck}
-use Rattle.field.specs.declared.dunavant.Node.{Node}
-use Rattle.field.specs.Dunavant.{row, node, pointOf}
+use Rattle.mesh.specs.declared.dunavant.Node.{Node}
+use Rattle.mesh.specs.Dunavant.{row, node, pointOf}
 use Rattle.radial.specs.Radial.{radialGSeries}
 use Rattle.mesh.specs.Triangles.{normalOf}
 

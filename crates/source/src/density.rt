@@ -7,7 +7,7 @@ ghost use Rattle.base.specs.Answers.{measuredAs};
 ghost use Rattle.source.specs.Density.{shareOf, densityOf, densityAt};
 use base::refusal::Checked;
 use base::refusal::Measured;
-use field::centre_of;
+use kernel::field::centre_of;
 use kernel::kernel::Kernel;
 use kernel::kernel::check_list;
 use kernel::kernel::kernel_at;

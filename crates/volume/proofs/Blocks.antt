@@ -16,8 +16,8 @@ use Rattle.mesh.specs.declared.vectors.V3.{V3}
 use Rattle.mesh.specs.declared.triangles.Triangle.{Triangle}
 use Rattle.mesh.specs.Vectors.{norm}
 use Rattle.lanes.specs.Factors.{Each, factor}
-use Rattle.field.specs.declared.dunavant.Node.{Node}
-use Rattle.field.specs.Dunavant.{dunant7, node, middleWeight, innerWeight, outerWeight}
+use Rattle.mesh.specs.declared.dunavant.Node.{Node}
+use Rattle.mesh.specs.Dunavant.{dunant7, node, middleWeight, innerWeight, outerWeight}
 use Rattle.volume.specs.Volume.{flux, fluxStep, faceSum, volumeFrom}
 use Rattle.volume.specs.Laws.{volume-more}
 use Rattle.volume.specs.Block.{squareOf, heightOf, squaresOf, heightsOf, Points, shareOf, shareStep, threeShares, sevenShares, allShares}

@@ -11,8 +11,8 @@ use Rattle.mesh.specs.declared.vectors.V3.{V3}
 use Rattle.mesh.specs.declared.triangles.Triangle.{Triangle}
 use Rattle.mesh.specs.Vectors.{vsub, dot}
 use Rattle.mesh.specs.Triangles.{normalOf}
-use Rattle.field.specs.declared.dunavant.Node.{Node}
-use Rattle.field.specs.Dunavant.{row, node, pointOf}
+use Rattle.mesh.specs.declared.dunavant.Node.{Node}
+use Rattle.mesh.specs.Dunavant.{row, node, pointOf}
 
 -- of a point y: |y - c|²
 unfoldable pub squareOf : Triangle → V3 → Node → Float

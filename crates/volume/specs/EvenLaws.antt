@@ -17,8 +17,8 @@ use Rattle.mesh.specs.declared.vectors.V3.{V3}
 use Rattle.mesh.specs.declared.triangles.Triangle.{Triangle}
 use Rattle.mesh.specs.Vectors.{vsub, dot, norm}
 use Rattle.mesh.specs.Triangles.{normalOf}
-use Rattle.field.specs.declared.dunavant.Node.{Node}
-use Rattle.field.specs.Dunavant.{node, pointOf}
+use Rattle.mesh.specs.declared.dunavant.Node.{Node}
+use Rattle.mesh.specs.Dunavant.{node, pointOf}
 use Rattle.radial.specs.Radial.{radialG}
 use Rattle.radial.specs.EvenLaws.{even-near}
 use Rattle.volume.specs.Volume.{flux, fluxStep, faceSum, faceStep, volumeTo, volumeFrom, kernelVolume}

@@ -9,8 +9,8 @@ use Rattle.mesh.specs.declared.vectors.V3.{V3}
 use Rattle.mesh.specs.declared.triangles.Triangle.{Triangle}
 use Rattle.mesh.specs.Vectors.{vsub, dot, norm}
 use Rattle.mesh.specs.Triangles.{normalOf}
-use Rattle.field.specs.declared.dunavant.Node.{Node}
-use Rattle.field.specs.Dunavant.{row, node, pointOf}
+use Rattle.mesh.specs.declared.dunavant.Node.{Node}
+use Rattle.mesh.specs.Dunavant.{row, node, pointOf}
 use Rattle.radial.specs.Radial.{radialG}
 
 -- what a point y adds: w·g(sigma·|y - c|)·((y - c)·n)·0.5

@@ -13,8 +13,8 @@ use Rattle.base.specs.declared.refusal.Checked.{Checked}
 use Rattle.base.specs.declared.refusal.Checked.the-variants.{Passed, Failed}
 use Rattle.base.specs.declared.refusal.Refusal.the-variants.{ShortList}
 use Rattle.mesh.specs.Triangles.{Sound}
-use Rattle.field.specs.Field.{fieldCheck}
-use Rattle.field.specs.FieldLaws.{passed-field}
+use Rattle.kernel.specs.Field.{fieldCheck}
+use Rattle.kernel.specs.FieldLaws.{passed-field}
 use Rattle.weights.specs.Weights.{callCheck}
 
 module _ (n : ℕ) (faces : List ℕ) (ks : List Float) (room : ℕ) where

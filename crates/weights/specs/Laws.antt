@@ -7,7 +7,7 @@ use Rattle.base.specs.Floats.{_⊕_, +0}
 use Rattle.base.specs.LoopLaws.{times-same}
 use Rattle.kernel.specs.declared.kernel.Kernel.{Kernel}
 use Rattle.mesh.specs.declared.triangles.Triangle.{Triangle}
-use Rattle.field.specs.Field.{centreOf}
+use Rattle.kernel.specs.Field.{centreOf}
 use Rattle.source.specs.Laws.{same-volume, same-enclosed}
 use Rattle.weights.specs.declared.calibrate.Mean.{Mean}
 use Rattle.weights.specs.Weights.{kernelMass, rawMass, normalizedRun}

@@ -15,8 +15,8 @@ use Rattle.kernel.specs.declared.kernel.Kernel.{Kernel}
 use Rattle.kernel.specs.Kernels.{kernelAt, kernelSet}
 use Rattle.mesh.specs.declared.triangles.Triangle.{Triangle}
 use Rattle.mesh.specs.Triangles.{triangleAt, faceCount}
-use Rattle.field.specs.Field.{centreOf}
-use Rattle.field.specs.Field.{fieldCheck}
+use Rattle.kernel.specs.Field.{centreOf}
+use Rattle.kernel.specs.Field.{fieldCheck}
 use Rattle.weights.specs.declared.normalize.Stretch.{Stretch}
 use Rattle.weights.specs.declared.normalize.Stretch.the-variants.{Not, By}
 use Rattle.weights.specs.declared.normalize.Weighed.{Weighed}

@@ -9,8 +9,8 @@ ghost use Rattle.weights.specs.Weights.{stretched, kernelsOf, offUnit, s
 use base::floats::abs;
 use base::refusal::Checked;
 use base::refusal::Refusal;
-use field::centre_of;
-use field::check_field;
+use kernel::field::centre_of;
+use kernel::field::check_field;
 use kernel::kernel::Kernel;
 use kernel::kernel::kernel_at;
 use kernel::kernel::write_kernel;

@@ -1,7 +1,7 @@
 -- `mass::calls::kernel_field_mass` meets its contract: a mesh that passes is sound. Assumes nothing.
 use mathlib.Core.Path.{sym, _∙_}
 use borrow.Author.Needs.{needs}
-use Rattle.field.specs.FieldLaws.{passed-field}
+use Rattle.kernel.specs.FieldLaws.{passed-field}
 use Rattle.mass.specs.Calls.{fieldMassCall}
 use Rattle.mass.proofs.calls.kernel_field_mass.Statement.{statement}
 use Rattle.mass.proofs.calls.kernel_field_mass.Tie as tie

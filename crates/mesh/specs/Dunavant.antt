@@ -6,9 +6,9 @@ use lib.ListN.{getD}
 use lib.Ieee.{Float, ofBits, round, div}
 use Rattle.base.specs.Floats.{bits, decimal, _⊕_, _⊗_, _⊘_}
 use Rattle.base.specs.Constants.{one, three}
 use Rattle.mesh.specs.declared.vectors.V3.{V3}
 use Rattle.mesh.specs.declared.triangles.Triangle.{Triangle}
-use Rattle.field.specs.declared.dunavant.Node.{Node}
+use Rattle.mesh.specs.declared.dunavant.Node.{Node}
 
 -- 1.0 / 3.0
 abbrev pub third : Float

@@ -1,8 +1,8 @@
 // Dunavant's seven points on a triangle (1985, degree 5). No function here has a `requires`.
 ghost use mathlib.Core.Path.{_≡_};
-ghost use Rattle.field.specs.Dunavant.{pointOf};
-use mesh::triangles::Triangle;
-use mesh::vectors::V3;
+ghost use Rattle.mesh.specs.Dunavant.{pointOf};
+use crate::triangles::Triangle;
+use crate::vectors::V3;
 
 // A point of the rule: each corner's share, and the weight.
 pub struct Node {

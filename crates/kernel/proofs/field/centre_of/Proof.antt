@@ -1,8 +1,8 @@
 -- `field::centre_of` meets its contract. Assumes nothing.
 use borrow.Author.Needs.{needs}
-use Rattle.field.specs.Field.{centreOf}
-use Rattle.field.proofs.centre_of.Statement.{statement}
-use Rattle.field.proofs.centre_of.Tie as tie
+use Rattle.kernel.specs.Field.{centreOf}
+use Rattle.kernel.proofs.field.centre_of.Statement.{statement}
+use Rattle.kernel.proofs.field.centre_of.Tie as tie
 
 returns : tie.Need-returns
 unfolding centreOf

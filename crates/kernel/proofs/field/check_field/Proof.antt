@@ -1,8 +1,8 @@
 -- `field::check_field` meets its contract: the mesh comes before the list. Assumes nothing.
 use borrow.Author.Needs.{needs}
-use Rattle.field.specs.Field.{fieldCheck}
-use Rattle.field.proofs.check_field.Statement.{statement}
-use Rattle.field.proofs.check_field.Tie as tie
+use Rattle.kernel.specs.Field.{fieldCheck}
+use Rattle.kernel.proofs.field.check_field.Statement.{statement}
+use Rattle.kernel.proofs.field.check_field.Tie as tie
 
 returns : tie.Need-returns
 unfolding fieldCheck

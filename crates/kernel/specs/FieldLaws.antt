@@ -7,11 +7,11 @@ use lib.Ieee.{Float}
 use Rattle.base.specs.Answers.{andThen}
 use Rattle.base.specs.declared.refusal.Checked.{Checked}
 use Rattle.base.specs.declared.refusal.Checked.the-variants.{Passed, Failed}
 use Rattle.kernel.specs.Kernels.{listCheck}
 use Rattle.mesh.specs.Triangles.{Sound}
 use Rattle.mesh.specs.Checks.{meshCheck}
 use Rattle.mesh.specs.CheckLaws.{passed-sound}
-use Rattle.field.specs.Field.{fieldCheck}
+use Rattle.kernel.specs.Field.{fieldCheck}
 
 -- ---- a call that is not refused has a sound mesh
 pub passed-field : {n : ℕ} {corners : List ℕ} (kernels : List Float) → fieldCheck n corners kernels ≡ Passed → Sound n corners

@@ -1,8 +1,8 @@
 -- `field::dunavant::point_of` meets its contract. Assumes nothing.
 use borrow.Author.Needs.{needs}
-use Rattle.field.specs.Dunavant.{pointOf}
-use Rattle.field.proofs.dunavant.point_of.Statement.{statement}
-use Rattle.field.proofs.dunavant.point_of.Tie as tie
+use Rattle.mesh.specs.Dunavant.{pointOf}
+use Rattle.mesh.proofs.dunavant.point_of.Statement.{statement}
+use Rattle.mesh.proofs.dunavant.point_of.Tie as tie
 
 returns : tie.Need-returns
 unfolding pointOf

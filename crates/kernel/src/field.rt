@@ -2,14 +2,12 @@
 // centre as a point, and the refusals. No function here has a `requires`.
 ghost use mathlib.Core.Path.{_≡_};
 ghost use lib.ListN.{length};
-ghost use Rattle.field.specs.Field.{centreOf, fieldCheck};
+ghost use Rattle.kernel.specs.Field.{centreOf, fieldCheck};
+use crate::kernel::Kernel;
+use crate::kernel::check_list;
 use base::refusal::Checked;
-use kernel::kernel::Kernel;
-use kernel::kernel::check_list;
 use mesh::check::check_mesh;
 use mesh::vectors::V3;
-
-pub mod dunavant;
 
 // A kernel's centre.
 pub fn centre_of(k: Kernel) -> V3

@@ -1,3 +1,0 @@
-pub mod Dunavant
-pub mod Field
-pub mod FieldLaws
