@@ -12,7 +12,7 @@ use Rattle.base.specs.Answers.{Answer, refused, counted, Outcome, outcome, guar
 use Rattle.base.specs.declared.refusal.Refusal.the-variants.{Unfinished, ShortList, BadTrack, NoFigure, ShortPage}
 use Rattle.base.specs.declared.refusal.Checked.the-variants.{Passed, Failed}
 use Rattle.layout.specs.Runs.{write}
-use Rattle.track.specs.Track.{along}
+use Rattle.readings.specs.Along.{along}
 use Rattle.layout.specs.Layout.{width}
 use Rattle.layout.specs.After.{After, after}
 use Rattle.store.specs.Calls.{openCheck, openStep}

@@ -35,7 +35,7 @@ use Rattle.pieces.specs.Kernels.{pieceAt}
 use Rattle.mass.specs.Total.{fieldMass}
 use Rattle.mass.specs.Calls.{kernelVolumeCall, fieldMassCall}
 use Rattle.layout.specs.Layout.{width, slotLimit, pieceFrom}
-use Rattle.track.specs.TrackLaws.{stretch-same}
+use Rattle.readings.specs.AlongLaws.{stretch-same}
 use Rattle.readings.specs.Readings.{Reading, density, report, list, track, noKernel, origin, rescaled, six, sixes, trackCheck, refusing}
 use Rattle.readings.specs.SixLaws.{whole, sixes-length, at-whole, list-sound, count-of}
 use Rattle.page.specs.Page.{Row, row, pageAnswer}

@@ -11,3 +11,6 @@ pub mod ListAnswer
 pub mod TrackAnswer
 pub mod TrackLaws
 pub mod Tracks
+pub mod Along
+pub mod PointLanes
+pub mod AlongLaws

@@ -25,7 +25,7 @@ use Rattle.density.specs.Reports.{reportValues, reportOf}
 use Rattle.layout.specs.Layout.{slotLimit, centreOf, weightOf, alphaOf, errorOf, pieceFrom, vertsOf, facesOf, statusOf}
 use Rattle.layout.specs.Soundness.{storeCheck}
 use Rattle.layout.specs.Left.{held, leftOf}
-use Rattle.track.specs.Track.{along}
+use Rattle.readings.specs.Along.{along}
 
 -- ---- a reading and its convention
 

@@ -16,7 +16,7 @@ use Rattle.kernel.specs.declared.kernel.Kernel.{Kernel}
 use Rattle.kernel.specs.Kernels.{kernelAt}
 use Rattle.density.specs.Densitize.{densitizeOf}
 use Rattle.layout.specs.Runs.{write}
-use Rattle.track.specs.Track.{along}
+use Rattle.readings.specs.Along.{along}
 use Rattle.readings.specs.Readings.{Part, bare, rescaled, densityAt, sixes, trackLimit, trackCheck, tracking}
 use Rattle.readings.specs.Lists.{rows}
 use Rattle.readings.specs.SixLaws.{laid-density}

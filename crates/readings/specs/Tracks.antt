@@ -22,8 +22,8 @@ use Rattle.layout.specs.Layout.{slotLimit, facesOf}
 use Rattle.layout.specs.Soundness.{storeCheck}
 use Rattle.layout.specs.Left.{leftOf}
 use Rattle.layout.specs.Runs.{write}
-use Rattle.track.specs.Track.{pointAt, along}
-use Rattle.track.specs.TrackLaws.{stretch-length, stretch-at}
+use Rattle.readings.specs.Along.{pointAt, along}
+use Rattle.readings.specs.AlongLaws.{stretch-length, stretch-at}
 use Rattle.readings.specs.Readings.{density, track, byMass, bare, rescaled, applied, densityAt, trackCheck, heldSeen, refusing, guardedRead, readStep}
 
 -- the words written, and those past them

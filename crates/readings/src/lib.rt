@@ -1,4 +1,5 @@
 // The readings of a store: density, report, list and track. No exported reading has a `requires`, and none changes the store.
+pub mod along;
 pub mod at_point;
 pub mod counts;
 pub mod held;

@@ -7,10 +7,11 @@ ghost use Rattle.base.specs.Answers.{outcome};
 ghost use Rattle.layout.specs.Layout.{width, slotLimit, coordsFrom};
 ghost use Rattle.layout.specs.SoundLaws.{Worded};
 ghost use Rattle.layout.specs.Runs.{write};
-ghost use Rattle.track.specs.Track.{along};
+ghost use Rattle.readings.specs.Along.{along};
 ghost use Rattle.readings.specs.Readings.{bare, rescaled, densityAt, heldAll, trackCheck, readStep};
 ghost use Rattle.readings.specs.Readings;
 ghost use Rattle.readings.specs.TrackAnswer.{trackRead};
+use crate::along::densities;
 use crate::at_point::by_mass;
 use crate::at_point::check_read;
 use crate::at_point::scale_of;
@@ -21,7 +22,6 @@ use base::refusal::Checked;
 use base::refusal::Refusal;
 use density::convention::Convention;
 use layout::runs::word;
-use track::densities;
 
 // The answer of a track: how many points were written.
 pub enum TrackRead {

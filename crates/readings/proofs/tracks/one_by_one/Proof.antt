@@ -4,7 +4,7 @@ use mathlib.Core.List.{map}
 use Prim.Native.Nat.{_-_, _≤_}
 use native.Mathlib.Omega.{arith}
 use Rattle.layout.specs.Layout.{width, slotLimit}
-use Rattle.track.specs.TrackLaws.{Traced, none-traced, one-traced}
+use Rattle.readings.specs.AlongLaws.{Traced, none-traced, one-traced}
 use Rattle.readings.specs.Readings.{bare, rescaled, densityAt, heldAll}
 use Rattle.readings.specs.FoldLaws.{scaled-sum}
 use borrow.Author.Needs.{needs}

@@ -8,7 +8,7 @@ use Rattle.kernel.specs.Kernels.{kernelAt}
 use Rattle.density.specs.Densitize.{densitizeOf}
 use Rattle.layout.specs.Layout.{width}
 use Rattle.layout.specs.Runs.{write}
-use Rattle.track.specs.TrackLaws.{stretch-same}
+use Rattle.readings.specs.AlongLaws.{stretch-same}
 use Rattle.readings.specs.Readings.{bare, rescaled, densityAt, heldAll}
 use Rattle.readings.specs.Lists.{all-length}
 use Rattle.readings.specs.TrackLaws.{rows-density}
