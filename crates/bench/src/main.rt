@@ -2,7 +2,7 @@
 ghost use mathlib.Core.Path.{_≡_};
 ghost use mathlib.Core.Bool.{true};
 ghost use Prim.Native.Nat.{_≤_};
-ghost use Rattle.lines.specs.Session.{Small, session, idle};
+ghost use Rattle.session.specs.Session.{Small, session, idle};
 ghost use Rattle.program.specs.Bytes.{held, heldAfter};
 ghost use Rattle.program.specs.Bench.{heldAtFirst, Reached};
 use libc::EINTR;

@@ -28,7 +28,7 @@ use Rattle.advance.specs.declared.advance.Advanced.the-variants.{Steps, Refused
 use Rattle.readings.specs.ReportAnswer.{reportRead}
 use Rattle.readings.specs.declared.reports.Reported.{Reported}
 use Rattle.readings.specs.declared.reports.Reported.the-variants.{Report, Refused as Unreported}
-use Rattle.answers.specs.Answers.{openAnswer, putAnswer, densityAnswer, advanceAnswer, clearAnswer, reweighAnswer, reportAnswer}
+use Rattle.forms.specs.Answers.{openAnswer, putAnswer, densityAnswer, advanceAnswer, clearAnswer, reweighAnswer, reportAnswer}
 use Rattle.calls.specs.Texts.{lined, noText, openText, putText, densityText, advanceText, clearText, reweighText, reportText}
 
 -- a text that is another one

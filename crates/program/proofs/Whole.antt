@@ -11,7 +11,7 @@ use lib.Seq.{take-suc-set}
 use borrow.Author.Tests.{le-leb, lt-leb, le-ltb, ltb-true, ltb-false, eq-eqb, ne-eqb}
 use Rattle.forms.specs.declared.line.Line.{Line}
 use Rattle.forms.specs.Forms.{parseLine}
-use Rattle.lines.specs.Session.{Session, respond}
+use Rattle.session.specs.Session.{Session, respond}
 use Rattle.program.specs.Bytes.{lineRoom, held, Fed, lineIn, endLine, lineWith, countWith, keep, feedByte, feedEnd, printed}
 use Rattle.program.specs.Bench.{lastLine, linesFrom, answersTo, atFirst, bench}
 use Rattle.program.proofs.Long.{long-bad}

@@ -7,7 +7,7 @@ use lib.Dec.{eqb}
 use lib.ListN.{replicate}
 use Rattle.base.specs.Floats.{+0}
 use Rattle.forms.specs.Forms.{parseLine}
-use Rattle.lines.specs.Session.{Session, session, idle, respond}
+use Rattle.session.specs.Session.{Session, session, idle, respond}
 use Rattle.program.specs.Bytes.{lineRoom, Held, held, feedByte}
 
 -- a line ends with a newline or with the input, where it has a byte

@@ -8,7 +8,7 @@ use Rattle.base.specs.Loops.{times}
 use Rattle.forms.specs.declared.line.Line.{Line}
 use Rattle.forms.specs.declared.line.Line.the-variants.{Bad}
 use Rattle.forms.specs.Forms.{parseLine}
-use Rattle.lines.specs.Session.{Session, respond}
+use Rattle.session.specs.Session.{Session, respond}
 
 -- the bytes of a line that are kept; no good line has more
 abbrev pub lineRoom : ℕ

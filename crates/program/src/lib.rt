@@ -4,12 +4,12 @@ ghost use mathlib.Core.Path.{_≡_};
 ghost use Prim.Native.Nat.{_≤_};
 ghost use lib.ListN.{length};
 ghost use Rattle.text.specs.Print.{Wrote};
-ghost use Rattle.lines.specs.Session.{Small, session, idle};
+ghost use Rattle.session.specs.Session.{Small, session, idle};
 ghost use Rattle.program.specs.Bytes.{lineIn, held, endLine, lineWith, countWith, feedByte, feedEnd};
 use forms::line::Line;
 use forms::read::parse_line;
-use lines::opening::Opening;
-use lines::opening::idle;
+use session::opening::Opening;
+use session::opening::idle;
 use session::respond::respond;
 
 // An opening under way, the bytes of the line so far (257 where they are too many), and the length of what was written.

@@ -7,11 +7,11 @@ use lib.Ieee.{Float}
 use Rattle.text.specs.Print.{Wrote}
 use Rattle.forms.specs.declared.line.Line.{Line}
 use Rattle.calls.specs.Texts.{openText}
-use Rattle.lines.specs.declared.opening.Opening.{Opening}
-use Rattle.lines.specs.declared.take.Act.{Act}
-use Rattle.lines.specs.declared.take.Next.{Next}
-use Rattle.lines.specs.Session.{Session, Said, Small, due, session, said, opens, settled}
-use Rattle.lines.specs.Next.{doneBy, done}
+use Rattle.session.specs.declared.opening.Opening.{Opening}
+use Rattle.session.specs.declared.take.Act.{Act}
+use Rattle.session.specs.declared.take.Next.{Next}
+use Rattle.session.specs.Session.{Session, Said, Small, due, session, said, opens, settled}
+use Rattle.session.specs.Next.{doneBy, done}
 
 -- what is held and written, where another thing is said that is the same
 pub saying : {s : Session} {x y : Said} {o o′ : List ℕ} {r : ℕ} → x ≡ y → s ≡ y .next → Wrote o 0 (y .text) r o′ → (s ≡ x .next) × Wrote o 0 (x .text) r o′

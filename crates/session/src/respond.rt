@@ -5,18 +5,18 @@ ghost use Prim.Native.Nat.{_≤_};
 ghost use lib.ListN.{length};
 ghost use Rattle.text.specs.Print.{Wrote};
 ghost use Rattle.calls.specs.Calls.{badText, callOf};
-ghost use Rattle.lines.specs.Session.{Small, session, settled, respond};
-ghost use Rattle.lines.specs.Next.{done};
+ghost use Rattle.session.specs.Session.{Small, session, settled, respond};
+ghost use Rattle.session.specs.Next.{done};
+use crate::opening::Opening;
+use crate::opening::due;
+use crate::take::Act;
+use crate::take::Next;
+use crate::take::take_in;
 use base::refusal::Refusal;
 use calls::answer::answer_no;
 use calls::answer::answer_open;
 use calls::call::call;
 use forms::line::Line;
-use lines::opening::Opening;
-use lines::opening::due;
-use lines::take::Act;
-use lines::take::Next;
-use lines::take::take_in;
 
 // The opening under way after a line, and the length of what was written.
 pub struct Said {

@@ -4,7 +4,7 @@ use mathlib.Core.Bool.{false≢true}
 use Prim.Native.Nat.{_-_}
 use borrow.Author.Needs.{needs}
 use Rattle.base.specs.LoopLaws.{Left, from-zero, goes, ended}
-use Rattle.lines.specs.Session.{Small, session}
+use Rattle.session.specs.Session.{Small, session}
 use Rattle.program.specs.Bytes.{held, feedAt, heldAfter}
 use Rattle.bench.proofs.feed_chunk.Statement.{statement}
 use Rattle.bench.proofs.feed_chunk.Tie as tie

@@ -5,7 +5,7 @@ use native.Mathlib.Omega.{arith}
 use lib.ListN.{length}
 use borrow.Author.Needs.{needs}
 use borrow.Author.Tests.{not-false}
-use Rattle.lines.specs.Session.{Small, session}
+use Rattle.session.specs.Session.{Small, session}
 use Rattle.program.specs.Bytes.{held}
 use Rattle.program.specs.Bench.{Reached}
 use Rattle.program.proofs.Reached.{at-start, many-more}

@@ -1,6 +1,6 @@
 -- `program::end_line` meets its contract. Assumes nothing.
 use mathlib.Core.Path.{ap}
-use Rattle.lines.specs.Session.{Session}
+use Rattle.session.specs.Session.{Session}
 use Rattle.program.specs.Bytes.{held, endLine}
 use borrow.Author.Needs.{needs}
 use Rattle.program.proofs.end_line.Statement.{statement}

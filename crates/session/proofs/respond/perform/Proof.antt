@@ -1,5 +1,5 @@
 -- The opening is settled, the line refused, or the call made. Assumes nothing.
-use Rattle.lines.specs.Session.{session}
+use Rattle.session.specs.Session.{session}
 use Rattle.session.proofs.Lines.{saying, done-as, small-as}
 use borrow.Author.Needs.{needs}
 use Rattle.session.proofs.respond.perform.Statement.{statement}

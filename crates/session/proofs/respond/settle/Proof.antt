@@ -2,7 +2,7 @@
 use mathlib.Core.Path.{refl, sym, _∙_}
 use native.Mathlib.Omega.{arith}
 use lib.Seq.{length-take-le}
-use Rattle.lines.specs.Session.{session}
+use Rattle.session.specs.Session.{session}
 use Rattle.session.proofs.Lines.{saying, settled-due, settled-done}
 use borrow.Author.Needs.{needs}
 use Rattle.session.proofs.respond.settle.Statement.{statement}
