@@ -1,4 +1,4 @@
-//! The vectors of the Rattle program `vectors` (crates/vectors). `vectors` writes its expected output by the second transcription of
+//! The vectors of the Rattle program `test_powers` (crates/test_powers). `vectors` writes its expected output by the second transcription of
 //! 01's steps, a line for each: the function, the bits of its arguments, the bits of its answer. `vectors --tables` writes the
 //! program's two tables of arguments. The archive is not asked.
 use oracle::{pattern, step, steps};

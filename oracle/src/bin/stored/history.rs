@@ -1,4 +1,4 @@
-//! A mixed history of one store, for the program `history`: what 01's machine answers to the program's calls, topic by topic as there,
+//! A mixed history of one store, for the program `test_store`: what 01's machine answers to the program's calls, topic by topic as there,
 //! with the digests of both runs after each call. Words written past the store's calls make it unsound and sound again.
 use crate::topics;
 use oracle::conventions::{Convention, RAW, RHO0, Report};

@@ -1,10 +1,10 @@
 //! Answers of the original's text, stored for Rattle programs that replay them without Rust. The text works with 01's roots and powers by
 //! the second transcription, so nothing of the proved code is asked.
-//!   stored pieces               the expected output of the program `pieces_rows` (crates/pieces_rows)
+//!   stored pieces               the expected output of the program `test_pieces` (crates/test_pieces)
 //!   stored pieces --table       its tables of arguments
 //!   stored pieces --held FILE   whether FILE is that output: the exit status is 1 if it is not
-//!   stored volumes ..           the same for `volume_rows` (crates/volume_rows)
-//!   stored history [--held FILE]   the same for the program `history` (crates/history), by 01's machine
+//!   stored volumes ..           the same for `test_volumes` (crates/test_volumes)
+//!   stored history [--held FILE]   the same for the program `test_store` (crates/test_store), by 01's machine
 #[cfg(original)]
 mod history;
 #[cfg(original)]
@@ -39,7 +39,7 @@ fn main() {
     }
 }
 
-/// The lines of the program `pieces_rows`.
+/// The lines of the program `test_pieces`.
 #[cfg(original)]
 fn of_pieces() -> String {
     pieces::answers() + &systems::answers() + &kernels::answers()

@@ -1,4 +1,4 @@
-//! The calls of the program `history`, in its topics.
+//! The calls of the program `test_store`, in its topics.
 use crate::history::Step;
 use oracle::conventions::Convention;
 use oracle::histories::Call;

@@ -1,0 +1,35 @@
+-- `history::script::numbers` is safe and ends: the index stays within the text. Assumes nothing.
+use mathlib.Core.Path.{_≡_}
+use Prim.Native.Nat.{_≤_, _-_}
+use lib.ListN.{length}
+use borrow.Author.Needs.{needs}
+use Rattle.test_store.proofs.script.numbers.Statement.{statement}
+use Rattle.test_store.proofs.script.numbers.Tie as tie
+
+abbrev Inv-loop : tie.InvT-loop
+Inv-loop s n₀ k₀ i₀ i-end n k i = (i ≤ i-end) × (i-end ≡ length s)
+
+abbrev μ-loop : tie.MeasureT-loop
+μ-loop s n₀ k₀ i₀ i-end n k i = i-end - i
+
+pub numbers-spec : {M : Type 1} → statement M
+numbers-spec =
+    tie.close
+    (tie.spec
+    Inv-loop
+    μ-loop
+    (λ c. search needs)
+    (λ c. search needs)
+    (λ c. search needs)
+    (λ c. search needs)
+    (λ c. search needs)
+    (λ c. search needs)
+    (λ c. search needs)
+    (λ c. search needs)
+    (λ c κs. search needs)
+    (λ c. search needs)
+    (λ c. search needs)
+    (λ c. search needs)
+    (λ c. search needs)
+    (λ c. search needs)
+    (λ c. search needs))
