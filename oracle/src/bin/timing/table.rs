@@ -83,7 +83,7 @@ fn deeper(frames: usize, work: &mut dyn FnMut()) {
     black_box(&frame);
 }
 
-/// A way of the bench.
+/// A way that is timed.
 #[derive(Clone, Copy)]
 pub struct Id(usize);
 
@@ -135,14 +135,14 @@ impl Row {
 }
 
 #[derive(Default)]
-pub struct Bench {
+pub struct Timings {
     ways: Vec<Way>,
     rows: Vec<Row>,
 }
 
 const HEAD: [&str; 7] = ["row", "platform's Rust", "01's steps, machine's sqrt", "ours", "/ platform", "/ 01", "bar"];
 
-impl Bench {
+impl Timings {
     pub fn way(&mut self, way: Way) -> Id {
         self.ways.push(way);
         Id(self.ways.len() - 1)

@@ -1,6 +1,6 @@
 //! A file of kernels, per line, beside a plain way: one pass that reads a line at a time and puts its kernel at the end of a vector on the
 //! heap. Both loaders agree on the file, so that the strict form takes it too.
-use crate::table::{Bench, Row, Way};
+use crate::table::{Row, Timings, Way};
 use oracle::convert::{NATIVE, SOURCE, STRICT, convert, equal, line, read_line};
 use oracle::inputs::Rng;
 use oracle::original::native::CauchyKernel;
@@ -10,7 +10,7 @@ use std::rc::Rc;
 const LINES: usize = 100_000;
 const DEFAULT: f64 = 1.5;
 
-pub fn rows(bench: &mut Bench) {
+pub fn rows(timings: &mut Timings) {
     let lines = Rc::new(lines());
     for (name, loader) in [("native", NATIVE), ("source", SOURCE), ("strict", STRICT)] {
         let (of_ours, of_plain) = (lines.clone(), lines.clone());
@@ -18,10 +18,10 @@ pub fn rows(bench: &mut Bench) {
         let ours = move |out: &mut [f64]| assert_eq!(convert(black_box(&of_ours), DEFAULT, loader, out), (0, LINES as u64));
         ours(&mut out);
         assert!(equal(&out, &plain(&lines, DEFAULT, loader).expect("lines")), "convert");
-        let ours = bench.way(Way::new(LINES, move || ours(black_box(&mut out))).seldom(true));
-        let plain = bench.way(Way::new(LINES, move || plain(black_box(&of_plain), DEFAULT, loader)).seldom(true));
+        let ours = timings.way(Way::new(LINES, move || ours(black_box(&mut out))).seldom(true));
+        let plain = timings.way(Way::new(LINES, move || plain(black_box(&of_plain), DEFAULT, loader)).seldom(true));
         let row = Row::new(format!("convert, {name}, a line of 100,000, against one pass into a heap vector"), ours);
-        bench.row(row.platform(plain).within(1.0));
+        timings.row(row.platform(plain).within(1.0));
     }
 }
 

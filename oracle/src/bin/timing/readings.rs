@@ -2,7 +2,7 @@
 //! volumes, and does the lines of `from_toml_impl` after the decomposition, or prints by `format!`; its results are the same bits, which
 //! is asked first.
 use crate::lent::{Body, Shared};
-use crate::table::{Bench, Id, Row, Way};
+use crate::table::{Id, Row, Timings, Way};
 use oracle::conventions::{Convention, MASS, RAW, RHO0};
 use oracle::original::native_platform::{KernelSi, body_volume, densitize};
 use oracle::original::native_steps;
@@ -92,36 +92,36 @@ impl Pieces {
     }
 }
 
-pub fn rows(bench: &mut Bench) {
+pub fn rows(timings: &mut Timings) {
     let small = Body::thousand();
     let store = full(&small);
     let checked = store.clone();
-    let check = bench.way(Way::turns(TURNS, 1, move || checked.borrow_mut().advance(0)));
+    let check = timings.way(Way::turns(TURNS, 1, move || checked.borrow_mut().advance(0)));
     for (name, by) in [("raw", Convention::RAW), ("rho0", Convention::rho0(BULK)), ("mass", Convention::mass_of(TARGET, BULK))] {
-        density(bench, &store, name, by, check);
+        density(timings, &store, name, by, check);
     }
-    list(bench, &store, check);
-    page(bench, &store);
-    report(bench, "report by mass, 512 pieces, 1,000 faces", &small, store);
+    list(timings, &store, check);
+    page(timings, &store);
+    report(timings, "report by mass, 512 pieces, 1,000 faces", &small, store);
     let large = Body::twenty_thousand();
     let store = full(&large);
-    report(bench, "report by mass, 512 pieces, 20,000 faces", &large, store);
+    report(timings, "report by mass, 512 pieces, 20,000 faces", &large, store);
 }
 
-fn density(bench: &mut Bench, store: &Shared, name: &str, by: Convention, check: Id) {
+fn density(timings: &mut Timings, store: &Shared, name: &str, by: Convention, check: Id) {
     let (store, mut pieces) = (store.clone(), Pieces::of(store));
     let ours = move || {
         let lent = store.borrow();
         store::density(&lent.floats, &lent.words, by, black_box(AT)).1
     };
     assert_eq!(pattern(ours()), pattern(pieces.density(by.kind)), "density by {name}");
-    let ours = bench.way(Way::turns(TURNS, 1, ours));
-    let platform = bench.way(Way::turns(TURNS, 1, move || pieces.density(black_box(by.kind))));
+    let ours = timings.way(Way::turns(TURNS, 1, ours));
+    let platform = timings.way(Way::turns(TURNS, 1, move || pieces.density(black_box(by.kind))));
     let row = Row::new(format!("density by {name}, 512 pieces, beyond the check"), ours);
-    bench.row(row.platform(platform).less(check).within(1.2));
+    timings.row(row.platform(platform).less(check).within(1.2));
 }
 
-fn list(bench: &mut Bench, store: &Shared, check: Id) {
+fn list(timings: &mut Timings, store: &Shared, check: Id) {
     let (store, mut pieces) = (store.clone(), Pieces::of(store));
     let (mut out, mut written) = (vec![0.0; 6 * PIECES], vec![0.0; 6 * PIECES]);
     let ours = move |out: &mut [f64]| {
@@ -131,13 +131,13 @@ fn list(bench: &mut Bench, store: &Shared, check: Id) {
     ours(&mut out);
     pieces.write(&mut written);
     assert!(out.iter().zip(&written).all(|(a, b)| pattern(*a) == pattern(*b)), "list");
-    let ours = bench.way(Way::turns(TURNS, 1, move || ours(&mut out)));
-    let platform = bench.way(Way::turns(TURNS, 1, move || pieces.write(black_box(&mut written))));
-    bench.row(Row::new("list by mass, 512 pieces, 1,000 faces", ours).platform(platform));
-    bench.row(Row::new("list by mass, 512 pieces, beyond the check", ours).platform(platform).less(check));
+    let ours = timings.way(Way::turns(TURNS, 1, move || ours(&mut out)));
+    let platform = timings.way(Way::turns(TURNS, 1, move || pieces.write(black_box(&mut written))));
+    timings.row(Row::new("list by mass, 512 pieces, 1,000 faces", ours).platform(platform));
+    timings.row(Row::new("list by mass, 512 pieces, beyond the check", ours).platform(platform).less(check));
 }
 
-fn page(bench: &mut Bench, store: &Shared) {
+fn page(timings: &mut Timings, store: &Shared) {
     const BYTES: usize = 65 * 33;
     let (store, pieces) = (store.clone(), Pieces::of(store));
     let (mut out, mut written) = ([0; BYTES], [0; BYTES]);
@@ -147,12 +147,12 @@ fn page(bench: &mut Bench, store: &Shared) {
     };
     ours(&mut out);
     assert!(pieces.page(&mut written) == Ok(BYTES as u64) && out == written, "page");
-    let ours = bench.way(Way::turns(TURNS, 1, move || ours(black_box(&mut out))));
-    let platform = bench.way(Way::turns(TURNS, 1, move || pieces.page(black_box(&mut written))));
-    bench.row(Row::new("page, 32 places of 16 pieces, 1,000 faces, against `format!`", ours).platform(platform));
+    let ours = timings.way(Way::turns(TURNS, 1, move || ours(black_box(&mut out))));
+    let platform = timings.way(Way::turns(TURNS, 1, move || pieces.page(black_box(&mut written))));
+    timings.row(Row::new("page, 32 places of 16 pieces, 1,000 faces, against `format!`", ours).platform(platform));
 }
 
-fn report(bench: &mut Bench, name: &str, body: &Rc<Body>, store: Shared) {
+fn report(timings: &mut Timings, name: &str, body: &Rc<Body>, store: Shared) {
     let pieces = Pieces::of(&store);
     let ours = move || {
         let lent = store.borrow();
@@ -162,6 +162,6 @@ fn report(bench: &mut Bench, name: &str, body: &Rc<Body>, store: Shared) {
     let platform = move || pieces.report(body_volume(&of_plain.plain));
     let steps = move || list.report(native_steps::body_volume(&of_steps.steps));
     assert_eq!(ours().map(pattern), steps().map(pattern), "report");
-    let [ours, platform, steps] = [Way::new(1, ours), Way::new(1, platform), Way::new(1, steps)].map(|way| bench.way(way));
-    bench.row(Row::new(name, ours).platform(platform).steps(steps));
+    let [ours, platform, steps] = [Way::new(1, ours), Way::new(1, platform), Way::new(1, steps)].map(|way| timings.way(way));
+    timings.row(Row::new(name, ours).platform(platform).steps(steps));
 }

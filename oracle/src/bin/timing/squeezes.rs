@@ -1,7 +1,7 @@
 //! A squeeze of the largest store, a third of whose vertices no face uses, beside the same on plain vectors. The store is filled anew
 //! before each time.
 use crate::lent::Lent;
-use crate::table::{Bench, Row, Way};
+use crate::table::{Row, Timings, Way};
 use oracle::machine::{FACES, VERTS};
 use oracle::{pattern, store};
 use std::cell::RefCell;
@@ -10,7 +10,7 @@ use std::rc::Rc;
 /// The vertices that faces use: of each three the first two.
 const USED: usize = VERTS.div_ceil(3) + VERTS / 3;
 
-pub fn rows(bench: &mut Bench) {
+pub fn rows(timings: &mut Timings) {
     let xyz: Rc<Vec<f64>> = Rc::new((0..3 * VERTS).map(|i| i as f64).collect());
     let corners: Rc<Vec<u32>> = Rc::new((0..FACES).flat_map(face).collect());
     let lent = Rc::new(RefCell::new(Lent::open(&xyz, &corners)));
@@ -34,8 +34,8 @@ pub fn rows(bench: &mut Bench) {
         to_corners.copy_from_slice(&corners);
     };
     let plain = Way::new(1, plain).after(refill).seldom(true);
-    let [ours, plain] = [ours, plain].map(|way| bench.way(way));
-    bench.row(Row::new("squeeze, largest mesh, a third unused, against a heap of bits", ours).platform(plain).within(3.0));
+    let [ours, plain] = [ours, plain].map(|way| timings.way(way));
+    timings.row(Row::new("squeeze, largest mesh, a third unused, against a heap of bits", ours).platform(plain).within(3.0));
 }
 
 /// A face's corners, in an order that a mesh has: two near each other, and one in the next row of a thousand.

@@ -1,33 +1,33 @@
 //! The largest store: the soundness check that every call makes reads each corner once, and an opening copies and reads the mesh.
 use crate::lent::{Lent, RADIUS};
-use crate::table::{Bench, Row, Way};
+use crate::table::{Row, Timings, Way};
 use oracle::machine::{FACES, VERTS};
 use oracle::store;
 use std::cell::RefCell;
 use std::rc::Rc;
 
-pub fn rows(bench: &mut Bench) {
+pub fn rows(timings: &mut Timings) {
     let xyz = Rc::new(vec![0.5; 3 * VERTS]);
     let corners: Rc<Vec<u32>> = Rc::new((0..3 * FACES).map(|i| (i * 7 % VERTS) as u32).collect());
     let lent = Rc::new(RefCell::new(Lent::open(&xyz, &corners)));
     let [of_advance, of_clear, of_open] = [(); 3].map(|()| lent.clone());
     let [of_max, of_wide] = [(); 2].map(|()| lent.clone());
-    let most = bench.way(Way::new(1, move || greatest(&of_max.borrow().words[98..])));
-    let wide = bench.way(Way::new(1, move || greatest_wide(&of_wide.borrow().words[98..])));
-    let advance = bench.way(Way::new(1, move || of_advance.borrow_mut().advance(0)));
-    let clear = bench.way(Way::new(1, move || {
+    let most = timings.way(Way::new(1, move || greatest(&of_max.borrow().words[98..])));
+    let wide = timings.way(Way::new(1, move || greatest_wide(&of_wide.borrow().words[98..])));
+    let advance = timings.way(Way::new(1, move || of_advance.borrow_mut().advance(0)));
+    let clear = timings.way(Way::new(1, move || {
         let Lent { floats, words } = &mut *of_clear.borrow_mut();
         assert_eq!(store::clear(floats, words, 5), 7);
     }));
-    let copy = bench.way(copy(&lent, &xyz, &corners));
-    let open = bench.way(Way::new(1, move || {
+    let copy = timings.way(copy(&lent, &xyz, &corners));
+    let open = timings.way(Way::new(1, move || {
         let Lent { floats, words } = &mut *of_open.borrow_mut();
         assert_eq!(store::open(floats, words, RADIUS, &xyz, &corners).no, 0);
     }));
-    bench.row(Row::new("the check: an advance of 0, largest mesh, against a plain max", advance).platform(most).within(1.2));
-    bench.row(Row::new("the check: a refused clear, largest mesh, against a plain max", clear).platform(most).within(1.2));
-    bench.row(Row::new("the check: an advance of 0, largest mesh, against a max by AVX2", advance).platform(wide));
-    bench.row(Row::new("open, largest mesh, against a plain max and copy", open).platform(copy));
+    timings.row(Row::new("the check: an advance of 0, largest mesh, against a plain max", advance).platform(most).within(1.2));
+    timings.row(Row::new("the check: a refused clear, largest mesh, against a plain max", clear).platform(most).within(1.2));
+    timings.row(Row::new("the check: an advance of 0, largest mesh, against a max by AVX2", advance).platform(wide));
+    timings.row(Row::new("open, largest mesh, against a plain max and copy", open).platform(copy));
 }
 
 /// Built as the archive is: for SSE2, which has no instruction for it.

@@ -1,7 +1,7 @@
 //! A kernel's volume and an advance, per face, on globes of three sizes; the kernel's width decides which path of `radial_g` its points
 //! take. An advance's pieces are kernels of exponent 1, one to a place and all alike.
 use crate::lent::{Body, Shared};
-use crate::table::{Bench, Id, Row, Way};
+use crate::table::{Id, Row, Timings, Way};
 use oracle::original::{native_platform, native_steps};
 use oracle::pattern;
 use oracle::pieces::Kernel;
@@ -34,23 +34,23 @@ struct Volume {
     ours: Id,
 }
 
-pub fn rows(bench: &mut Bench) {
+pub fn rows(timings: &mut Timings) {
     let bodies = [Body::thousand(), Body::twenty_thousand(), Body::two_million()];
     let names = ["1,000 faces", "20,000 faces", "2,000,000 faces"];
     let places: Vec<Place> = bodies.into_iter().zip(names).map(|(body, name)| Place { store: body.store(), body, name }).collect();
     let mut above_zero = Vec::new();
     for case in CASES {
-        let volumes: Vec<Volume> = places.iter().map(|place| volume(bench, place, case.0)).collect();
+        let volumes: Vec<Volume> = places.iter().map(|place| volume(timings, place, case.0)).collect();
         for (i, place) in places.iter().enumerate() {
             let row = row(format!("kernel_volume, {}, sigma {}, {}", case.1, case.0, place.name), volumes[i].ours, volumes[i]);
             let before = i.checked_sub(1).map(|b| volumes[b].ours);
-            bench.row(grown(row.within(case.2), i, before));
+            timings.row(grown(row.within(case.2), i, before));
         }
-        above_zero.push([volumes[0].ours, advances(bench, &places, case, &volumes)]);
+        above_zero.push([volumes[0].ours, advances(timings, &places, case, &volumes)]);
     }
-    small_budget(bench, &places[2], CASES[3]);
-    unordered(bench);
-    below_zero(bench, &places, &above_zero);
+    small_budget(timings, &places[2], CASES[3]);
+    unordered(timings);
+    below_zero(timings, &places, &above_zero);
 }
 
 fn row(name: String, ours: Id, volume: Volume) -> Row {
@@ -73,7 +73,7 @@ macro_rules! text {
 }
 
 /// Bits equal to those of 01's steps are asked first.
-fn volume(bench: &mut Bench, Place { body, .. }: &Place, sigma: f64) -> Volume {
+fn volume(timings: &mut Timings, Place { body, .. }: &Place, sigma: f64) -> Volume {
     let platform = text!(native_platform, plain, body, sigma);
     let steps = text!(native_steps, steps, body, sigma);
     let of = body.clone();
@@ -81,9 +81,9 @@ fn volume(bench: &mut Bench, Place { body, .. }: &Place, sigma: f64) -> Volume {
     assert_eq!(pattern(ours()), pattern(steps()), "{} faces, sigma {sigma}", body.faces);
     let (turns, long) = ((20_000 / body.faces).max(1), body.faces > 100_000);
     Volume {
-        platform: bench.way(Way::turns(turns, body.faces, platform).seldom(long)),
-        steps: bench.way(Way::turns(turns, body.faces, steps).seldom(long)),
-        ours: bench.way(Way::turns(turns, body.faces, ours).seldom(long)),
+        platform: timings.way(Way::turns(turns, body.faces, platform).seldom(long)),
+        steps: timings.way(Way::turns(turns, body.faces, steps).seldom(long)),
+        ours: timings.way(Way::turns(turns, body.faces, ours).seldom(long)),
     }
 }
 
@@ -102,43 +102,43 @@ const BUDGETS: [(usize, usize, &str); 5] =
     [(0, 10_000, "10,000"), (0, 20_000, "20,000"), (1, 10_000, "10,000"), (1, 20_000, "20,000"), (2, 2_000_000, "2,000,000")];
 
 /// Answers the way of 20,000 faces on as many.
-fn advances(bench: &mut Bench, places: &[Place], (sigma, path, most): Case, volumes: &[Volume]) -> Id {
+fn advances(timings: &mut Timings, places: &[Place], (sigma, path, most): Case, volumes: &[Volume]) -> Id {
     let mut last = [None; 3];
     for (i, budget, said) in BUDGETS {
-        let ours = bench.way(advance(&places[i], budget, sigma));
+        let ours = timings.way(advance(&places[i], budget, sigma));
         let row = row(format!("advance of {said}, {path}, sigma {sigma}, {}", places[i].name), ours, volumes[i]);
         let row = if i == 1 { row.bar(1.05, volumes[i].ours, "kernel_volume") } else { row };
-        bench.row(grown(row.within(most), i, i.checked_sub(1).and_then(|b| last[b])));
+        timings.row(grown(row.within(most), i, i.checked_sub(1).and_then(|b| last[b])));
         last[i] = Some(ours);
     }
     last[1].expect("an advance on 20,000 faces")
 }
 
 /// Faces that follow each other lie anywhere, so that nearly every block has points on both sides of 0.1.
-fn unordered(bench: &mut Bench) {
+fn unordered(timings: &mut Timings) {
     let body = Body::shuffled();
     let place = Place { store: body.store(), body, name: "" };
-    let volume = volume(bench, &place, 2e-4);
-    bench.row(row("kernel_volume, both, sigma 0.0002, 20,000 faces in no order".into(), volume.ours, volume));
+    let volume = volume(timings, &place, 2e-4);
+    timings.row(row("kernel_volume, both, sigma 0.0002, 20,000 faces in no order".into(), volume.ours, volume));
 }
 
 /// A sigma below 0 beside its negative, of which these are a volume and an advance for each case: "the same", read as within 5 %. A
 /// volume on each path, and an advance on the arc's.
-fn below_zero(bench: &mut Bench, places: &[Place], above: &[[Id; 2]]) {
+fn below_zero(timings: &mut Timings, places: &[Place], above: &[[Id; 2]]) {
     for ((sigma, path, most), [volume_above, _]) in CASES.into_iter().zip(above).take(3) {
-        let volume = volume(bench, &places[0], -sigma);
+        let volume = volume(timings, &places[0], -sigma);
         let row = row(format!("kernel_volume, {path}, sigma -{sigma}, {}", places[0].name), volume.ours, volume);
-        bench.row(row.within(most).bar(1.05, *volume_above, "sigma above 0"));
+        timings.row(row.within(most).bar(1.05, *volume_above, "sigma above 0"));
     }
     let ((sigma, path, most), [_, advance_above]) = (CASES[2], above[2]);
-    let volume = volume(bench, &places[1], -sigma);
-    let ours = bench.way(advance(&places[1], 20_000, -sigma));
+    let volume = volume(timings, &places[1], -sigma);
+    let ours = timings.way(advance(&places[1], 20_000, -sigma));
     let row = row(format!("advance of 20,000, {path}, sigma -{sigma}, {}", places[1].name), ours, volume);
-    bench.row(row.within(most).bar(1.05, advance_above, "sigma above 0"));
+    timings.row(row.within(most).bar(1.05, advance_above, "sigma above 0"));
 }
 
 /// On a large mesh the check weighs more than so few faces.
-fn small_budget(bench: &mut Bench, place: &Place, (sigma, path, _): Case) {
-    let ours = bench.way(advance(place, 20_000, sigma));
-    bench.row(Row::new(format!("advance of 20,000, {path}, sigma {sigma}, {}", place.name), ours));
+fn small_budget(timings: &mut Timings, place: &Place, (sigma, path, _): Case) {
+    let ours = timings.way(advance(place, 20_000, sigma));
+    timings.row(Row::new(format!("advance of 20,000, {path}, sigma {sigma}, {}", place.name), ours));
 }

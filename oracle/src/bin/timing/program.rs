@@ -1,17 +1,17 @@
 //! 01's program `bench` on a long input of short lines, in processor time of its process.
 use crate::clock;
-use crate::table::{Bench, Row, Way};
+use crate::table::{Row, Timings, Way};
 use oracle::program::long;
 use std::io::Write;
 use std::process::{Command, Stdio};
 
 const LINES: usize = 200_000;
 
-pub fn rows(bench: &mut Bench, path: String) {
+pub fn rows(timings: &mut Timings, path: String) {
     let input = long(LINES as u64);
     let way = Way::new(LINES, move || run(&path, &input)).by(clock::children).seldom(true);
-    let ours = bench.way(way);
-    bench.row(Row::new("the program bench, a line of 200,000", ours));
+    let ours = timings.way(way);
+    timings.row(Row::new("the program bench, a line of 200,000", ours));
 }
 
 fn run(path: &str, input: &[u8]) {

@@ -1,7 +1,7 @@
 //! What the library's work costs: beside the Rust with the platform's functions, and beside 01's steps with the machine's square root.
 //! One table; each time is the least of several rounds, all ways in turn within each, in processor time of this thread.
-//!   bench              all but the program
-//!   bench PROGRAM      with 01's program `bench` at this path
+//!   timing             all but the program
+//!   timing PROGRAM     with 01's program `bench` at this path
 #[cfg(original)]
 mod clock;
 #[cfg(original)]
@@ -33,21 +33,21 @@ mod volumes;
 fn main() {
     println!("{}{}", oracle::platform(), processor());
     println!("processor time, {}\n", table::how());
-    let mut bench = table::Bench::default();
-    powers::rows(&mut bench);
-    fits::rows(&mut bench);
-    volumes::rows(&mut bench);
-    largest::rows(&mut bench);
-    squeezes::rows(&mut bench);
-    closed::rows(&mut bench);
-    convert::rows(&mut bench);
-    readings::rows(&mut bench);
-    tracks::rows(&mut bench);
+    let mut timings = table::Timings::default();
+    powers::rows(&mut timings);
+    fits::rows(&mut timings);
+    volumes::rows(&mut timings);
+    largest::rows(&mut timings);
+    squeezes::rows(&mut timings);
+    closed::rows(&mut timings);
+    convert::rows(&mut timings);
+    readings::rows(&mut timings);
+    tracks::rows(&mut timings);
     if let Some(path) = std::env::args().nth(1) {
-        program::rows(&mut bench, path);
+        program::rows(&mut timings, path);
     }
-    bench.run();
-    bench.print();
+    timings.run();
+    timings.print();
 }
 
 /// The processor's name, where Linux tells it.

@@ -1,28 +1,28 @@
 //! Whether a mesh is closed, beside a plain way: the numbers of all directed edges in a vector on the heap, sorted, looked through for
 //! pairs. The meshes are closed, so that both look at every edge.
-use crate::table::{Bench, Row, Way};
+use crate::table::{Row, Timings, Way};
 use oracle::closed::closed;
 use oracle::inputs::Rng;
 use oracle::meshes::Mesh;
 use oracle::solids::{Solid, bipyramid, torus};
 use std::rc::Rc;
 
-pub fn rows(bench: &mut Bench) {
+pub fn rows(timings: &mut Timings) {
     let large = torus(1_000, 1_000);
-    row(bench, "2,000,000 faces, vertices and faces in no order", large.clone().shuffled(&mut Rng(1)), Some(3.5));
-    row(bench, "2,000,000 faces in mesh order", large, Some(1.6));
-    row(bench, "20,000 faces in mesh order", torus(100, 100), Some(1.5));
-    row(bench, "2,000,000 faces about two hubs", bipyramid(1_000_000), None);
+    row(timings, "2,000,000 faces, vertices and faces in no order", large.clone().shuffled(&mut Rng(1)), Some(3.5));
+    row(timings, "2,000,000 faces in mesh order", large, Some(1.6));
+    row(timings, "20,000 faces in mesh order", torus(100, 100), Some(1.5));
+    row(timings, "2,000,000 faces about two hubs", bipyramid(1_000_000), None);
 }
 
-fn row(bench: &mut Bench, name: &str, solid: Solid, most: Option<f64>) {
+fn row(timings: &mut Timings, name: &str, solid: Solid, most: Option<f64>) {
     let mesh = Rc::new(solid.mesh(|_| 0.5));
     let of_ours = mesh.clone();
     let (turns, long) = ((20_000 / solid.faces.len()).max(1), solid.faces.len() > 100_000);
-    let ours = bench.way(Way::turns(turns, 1, move || assert_eq!(closed(&of_ours), 0)).seldom(long));
-    let plain = bench.way(Way::turns(turns, 1, move || assert!(sorted(&mesh))).seldom(long));
+    let ours = timings.way(Way::turns(turns, 1, move || assert_eq!(closed(&of_ours), 0)).seldom(long));
+    let plain = timings.way(Way::turns(turns, 1, move || assert!(sorted(&mesh))).seldom(long));
     let row = Row::new(format!("closed, {name}, against a sort"), ours).platform(plain);
-    bench.row(if let Some(most) = most { row.within(most) } else { row });
+    timings.row(if let Some(most) = most { row.within(most) } else { row });
 }
 
 /// Whether each edge stands beside its reverse, once; of an edge and its reverse the number of the first is even.

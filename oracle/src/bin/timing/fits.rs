@@ -1,6 +1,6 @@
 //! A system of 16 rows, one fit of a kernel's pieces, and the put that makes it.
 use crate::lent::{Body, RADIUS};
-use crate::table::{Bench, Row, Way};
+use crate::table::{Row, Timings, Way};
 use oracle::cases;
 use oracle::inputs::Rng;
 use oracle::original::{native_platform, native_steps};
@@ -10,29 +10,29 @@ use std::hint::black_box;
 const TURNS: usize = 10;
 const SIGMA: f64 = 0.004;
 
-pub fn rows(bench: &mut Bench) {
-    system(bench);
+pub fn rows(timings: &mut Timings) {
+    system(timings);
     for alpha in [1.7, 2.5] {
-        fit(bench, alpha);
+        fit(timings, alpha);
     }
 }
 
 /// The text works in place, so its matrix is filled anew each time.
-fn system(bench: &mut Bench) {
+fn system(timings: &mut Timings) {
     let normal = cases::SYSTEMS[11].1;
     let cells = normal(&mut Rng(1), 16);
     let rows: Vec<Vec<f64>> = cells.chunks(17).map(<[f64]>::to_vec).collect();
     let mut matrix = rows.clone();
     let mut answer = [0.0; 16];
-    let ours = bench.way(Way::turns(TURNS, 1, move || {
+    let ours = timings.way(Way::turns(TURNS, 1, move || {
         assert_eq!(solve(16, black_box(&cells), &mut answer), 0);
         answer[15]
     }));
-    let platform = bench.way(Way::turns(TURNS, 1, move || {
+    let platform = timings.way(Way::turns(TURNS, 1, move || {
         matrix.clone_from(black_box(&rows));
         native_platform::solve(&mut matrix)
     }));
-    bench.row(Row::new("solve, 16 rows", ours).platform(platform));
+    timings.row(Row::new("solve, 16 rows", ours).platform(platform));
 }
 
 fn kernel(alpha: f64) -> Kernel {
@@ -48,13 +48,13 @@ macro_rules! text {
     };
 }
 
-fn fit(bench: &mut Bench, alpha: f64) {
-    let platform = bench.way(text!(native_platform, alpha));
-    let steps = bench.way(text!(native_steps, alpha));
+fn fit(timings: &mut Timings, alpha: f64) {
+    let platform = timings.way(text!(native_platform, alpha));
+    let steps = timings.way(text!(native_steps, alpha));
     let mut out = [0.0; 96];
-    let ours = bench.way(Way::turns(TURNS, 1, move || decompose(kernel(alpha), black_box(RADIUS), &mut out).error + out[4]));
-    bench.row(Row::new(format!("one fit, alpha {alpha}"), ours).platform(platform).steps(steps).within(2.0));
+    let ours = timings.way(Way::turns(TURNS, 1, move || decompose(kernel(alpha), black_box(RADIUS), &mut out).error + out[4]));
+    timings.row(Row::new(format!("one fit, alpha {alpha}"), ours).platform(platform).steps(steps).within(2.0));
     let store = Body::thousand().store();
-    let put = bench.way(Way::turns(TURNS, 1, move || store.borrow_mut().put(7, kernel(alpha))));
-    bench.row(Row::new(format!("put, alpha {alpha}, 1,000 faces"), put).platform(platform).steps(steps).within(2.0));
+    let put = timings.way(Way::turns(TURNS, 1, move || store.borrow_mut().put(7, kernel(alpha))));
+    timings.row(Row::new(format!("put, alpha {alpha}, 1,000 faces"), put).platform(platform).steps(steps).within(2.0));
 }

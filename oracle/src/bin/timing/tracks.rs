@@ -1,7 +1,7 @@
 //! A track over the pieces of a finished store, per point. The platform's side has the rescaled pieces ready and takes `densitize` at each
 //! point; its results are the same bits, which is asked first. Short tracks stand beside as many single readings of the same store.
 use crate::lent::{Body, Shared};
-use crate::table::{Bench, Id, Row, Way};
+use crate::table::{Id, Row, Timings, Way};
 use oracle::conventions::Convention;
 use oracle::inputs::Rng;
 use oracle::original::native_platform::{KernelSi, densitize};
@@ -19,18 +19,18 @@ struct Place {
     points: Rc<Vec<f64>>,
 }
 
-pub fn rows(bench: &mut Bench) {
+pub fn rows(timings: &mut Timings) {
     let full = place(32, 2.5, 512);
-    let [long, few, fifteen, seven] = [4_096, 64, 15, 7].map(|count| track(bench, &full, count));
-    let [of_long, of_fifteen, of_seven] = [4_096, 15, 7].map(|count| bench.way(ready(&full, count)));
-    let [fifteen_readings, seven_readings] = [15, 7].map(|count| bench.way(singles(&full, count)));
+    let [long, few, fifteen, seven] = [4_096, 64, 15, 7].map(|count| track(timings, &full, count));
+    let [of_long, of_fifteen, of_seven] = [4_096, 15, 7].map(|count| timings.way(ready(&full, count)));
+    let [fifteen_readings, seven_readings] = [15, 7].map(|count| timings.way(singles(&full, count)));
     let row = |name: &str, ours: Id, platform: Id| Row::new(format!("track by raw, a point of {name}"), ours).platform(platform);
-    bench.row(row("4,096, 512 pieces", long, of_long).within(0.45).bar(1.05, few, "64 points"));
-    bench.row(row("15, 512 pieces", fifteen, of_fifteen).bar(1.1, fifteen_readings, "single readings"));
-    bench.row(row("7, 512 pieces", seven, of_seven).bar(1.1, seven_readings, "single readings"));
+    timings.row(row("4,096, 512 pieces", long, of_long).within(0.45).bar(1.05, few, "64 points"));
+    timings.row(row("15, 512 pieces", fifteen, of_fifteen).bar(1.1, fifteen_readings, "single readings"));
+    timings.row(row("7, 512 pieces", seven, of_seven).bar(1.1, seven_readings, "single readings"));
     let one = place(1, 1.0, 1);
-    let (ours, platform) = (track(bench, &one, 4_096), bench.way(ready(&one, 4_096)));
-    bench.row(row("4,096, 1 piece", ours, platform).within(1.0));
+    let (ours, platform) = (track(timings, &one, 4_096), timings.way(ready(&one, 4_096)));
+    timings.row(row("4,096, 1 piece", ours, platform).within(1.0));
 }
 
 /// A finished store of so many kernels of exponents from this one on, which have so many pieces together.
@@ -54,7 +54,7 @@ fn turns(count: usize) -> usize {
     4_096 / count
 }
 
-fn track(bench: &mut Bench, Place { store, pieces, points }: &Place, count: usize) -> Id {
+fn track(timings: &mut Timings, Place { store, pieces, points }: &Place, count: usize) -> Id {
     let (store, of_ours) = (store.clone(), points.clone());
     let ours = move |out: &mut [f64]| {
         let lent = store.borrow();
@@ -64,7 +64,7 @@ fn track(bench: &mut Bench, Place { store, pieces, points }: &Place, count: usiz
     ours(&mut out);
     let want = points.chunks(3).take(count).map(|at| pattern(densitize(pieces, &[at[0], at[1], at[2]])));
     assert!(out.iter().map(|x| pattern(*x)).eq(want), "track of {count} points");
-    bench.way(Way::turns(turns(count), count, move || ours(black_box(&mut out))))
+    timings.way(Way::turns(turns(count), count, move || ours(black_box(&mut out))))
 }
 
 /// `densitize` at each point, the rescaled weights ready.
