@@ -131,10 +131,10 @@ impl Held {
 
     /// A piece's held volume, brought on by so many faces.
     fn bring_on(&mut self, i: usize, piece: usize, from: usize, by: usize) {
-        let slot = 225 + 48 * i + 3 * piece;
+        let at = 225 + 48 * i + 3 * piece;
         let c = [0, 1, 2].map(|k| self.floats[1 + 7 * i + k]);
         let (xyz, faces) = self.mesh();
-        self.floats[slot + 2] = volume_on(xyz, faces, c, self.floats[slot], from..from + by, self.floats[slot + 2]);
+        self.floats[at + 2] = volume_on(xyz, faces, c, self.floats[at], from..from + by, self.floats[at + 2]);
     }
 
     /// 02's L12: "It answers how many coordinates were freed, and those words become zero."

@@ -10,7 +10,7 @@ use Rattle.base.specs.Loops.{iterate}
 use Rattle.mesh.specs.declared.vectors.V3.{V3}
 use Rattle.mesh.specs.declared.triangles.Triangle.{Triangle}
 use Rattle.volume.specs.Volume.{faceSum}
-use Rattle.layout.specs.Layout.{slotLimit, centreAt, piecesFrom, vertsOf, facesOf, statusOf, finishedAt, finishedOf, doneAt, doneOf}
+use Rattle.layout.specs.Layout.{placeLimit, centreAt, piecesFrom, vertsOf, facesOf, statusOf, finishedAt, finishedOf, doneAt, doneOf}
 use Rattle.layout.specs.Soundness.{storeCheck}
 use Rattle.layout.specs.Left.{held, leftOf}
 use Rattle.layout.specs.After.{After, after, guarded}
@@ -52,8 +52,8 @@ abbrev pub whole : List Float → List ℕ → ℕ → Whole
 whole fs ws b = record { floats = fs; words = ws; budget = b }
 
 -- the steps that place i takes of them
-unfoldable pub slotWork : ℕ → (ℕ → Triangle) → ℕ → ℕ → Whole → Work
-slotWork q t m i s =
+unfoldable pub placeWork : ℕ → (ℕ → Triangle) → ℕ → ℕ → Whole → Work
+placeWork q t m i s =
     iterate (oneFace t (centreAt (s .floats) i) m (piecesFrom i) (statusOf q (s .words) i - 1)) (s .budget)
     (work (s .floats) (finishedOf q (s .words) i) (doneOf q (s .words) i) (s .budget))
 
@@ -62,17 +62,17 @@ abbrev pub stored : ℕ → List ℕ → ℕ → Work → Whole
 stored q ws i r = whole (r .floats) (set (set ws (finishedAt q i) (r .finished)) (doneAt q i) (r .done)) (r .budget)
 
 -- the places below k, one after the other
-unfoldable pub slotsRun : ℕ → (ℕ → Triangle) → ℕ → ℕ → Whole → Whole
-slotsRun q t m zero s = s
-slotsRun q t m (suc i) s = stored q (slotsRun q t m i s .words) i (slotWork q t m i (slotsRun q t m i s))
+unfoldable pub placesRun : ℕ → (ℕ → Triangle) → ℕ → ℕ → Whole → Whole
+placesRun q t m zero s = s
+placesRun q t m (suc i) s = stored q (placesRun q t m i s .words) i (placeWork q t m i (placesRun q t m i s))
 
 -- ---- the call: "the step count in its result is done, beside left"
 abbrev pub spentAll : ℕ → List Float → List ℕ → ℕ → Whole
-spentAll q fs ws n = slotsRun q (held q fs ws (vertsOf ws) (facesOf ws)) (facesOf ws) slotLimit (whole fs ws n)
+spentAll q fs ws n = placesRun q (held q fs ws (vertsOf ws) (facesOf ws)) (facesOf ws) placeLimit (whole fs ws n)
 
 unfoldable pub advanceStep : ℕ → List Float → List ℕ → ℕ → After
 advanceStep q fs ws n =
     let s = spentAll q fs ws n in
     let done = n - s .budget in
     guarded (storeCheck q fs ws) fs ws
-    (after (counted (done ∷ (leftOf q ws (facesOf ws) slotLimit - done) ∷ [])) (s .floats) (s .words))
+    (after (counted (done ∷ (leftOf q ws (facesOf ws) placeLimit - done) ∷ [])) (s .floats) (s .words))

@@ -4,7 +4,7 @@ ghost use Rattle.layout.specs.Layout.{width};
 ghost use Rattle.layout.specs.After.{after};
 ghost use Rattle.advance.specs.Steps.{advanceStep};
 ghost use Rattle.advance.specs.AdvanceAnswer.{advanced};
-use crate::work::run_slots;
+use crate::work::run_places;
 use base::refusal::Checked;
 use base::refusal::Refusal;
 use layout::check::check_store;
@@ -29,7 +29,7 @@ pub fn advance(f: &mut [f64], w: &mut [u32], budget: u64) -> Advanced
             let faces = word(w, 1);
             let total = left(w, faces);
             let n = budget as usize;
-            let rest = run_slots(f, w, verts, faces, n);
+            let rest = run_places(f, w, verts, faces, n);
             let done = less(n, rest);
             let over = less(total, done);
             Advanced::Steps {

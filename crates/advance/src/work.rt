@@ -6,10 +6,10 @@ ghost use lib.ListN.{getD, set};
 ghost use lib.Ieee.{nan};
 ghost use Rattle.base.specs.Loops.{iterate};
 ghost use Rattle.volume.specs.Volume.{volumeFrom};
-ghost use Rattle.layout.specs.Layout.{centreAt, width, slotLimit, piecesFrom, coordsFrom, statusOf, finishedOf, doneOf};
+ghost use Rattle.layout.specs.Layout.{centreAt, width, placeLimit, piecesFrom, coordsFrom, statusOf, finishedOf, doneOf};
 ghost use Rattle.layout.specs.SoundLaws.{Ready, Meshed, Worded};
 ghost use Rattle.layout.specs.Left.{held};
-ghost use Rattle.advance.specs.Steps.{work, oneFace, whole, slotWork, stored, slotsRun};
+ghost use Rattle.advance.specs.Steps.{work, oneFace, whole, placeWork, stored, placesRun};
 use layout::left::pieces;
 use layout::offsets::COORDS;
 use layout::offsets::CORNERS;
@@ -17,7 +17,7 @@ use layout::offsets::KERNEL;
 use layout::offsets::KERNEL_SIZE;
 use layout::offsets::PIECE;
 use layout::offsets::PIECES_SIZE;
-use layout::offsets::SLOTS;
+use layout::offsets::PLACES;
 use layout::offsets::STATE;
 use layout::offsets::WIDTH;
 use layout::runs::lesser;
@@ -97,7 +97,7 @@ fn run_piece(
 }
 
 // Spends up to `budget` steps at place i, which has `count` pieces.
-fn run_slot(
+fn run_place(
     f: &mut [f64],
     w: &[u32],
     verts: usize,
@@ -128,13 +128,13 @@ fn run_slot(
 // Spends up to `budget` steps at place i, and answers how many are over.
 fn spend(f: &mut [f64], w: &mut [u32], verts: usize, faces: usize, i: usize, budget: usize) -> usize
     requires { ⌜ Meshed width (now f) (now w) verts faces ⌝ ∗ ⌜ Ready faces i (statusOf width (now w) i - 1) (finishedOf width (now w) i) (doneOf width (now w) i) ⌝ }
-    ensures { λ r. ⌜ whole (now (f .exit)) (now (w .exit)) r ≡ stored width (now (w .entry)) i (slotWork width (held width (now (f .entry)) (now (w .entry)) verts faces) faces i (whole (now (f .entry)) (now (w .entry)) budget)) ⌝ }
+    ensures { λ r. ⌜ whole (now (f .exit)) (now (w .exit)) r ≡ stored width (now (w .entry)) i (placeWork width (held width (now (f .entry)) (now (w .entry)) verts faces) faces i (whole (now (f .entry)) (now (w .entry)) budget)) ⌝ }
 {
     let at = WIDTH * i;
     let count = pieces(w[STATE + at]);
     let finished = word(w, STATE + 1 + at);
     let done = word(w, STATE + 2 + at);
-    let r = run_slot(
+    let r = run_place(
         f,
         w,
         verts,
@@ -153,13 +153,13 @@ fn spend(f: &mut [f64], w: &mut [u32], verts: usize, faces: usize, i: usize, bud
 }
 
 // Spends up to `budget` steps, the lowest place first, and answers how many are over.
-pub fn run_slots(f: &mut [f64], w: &mut [u32], verts: usize, faces: usize, budget: usize) -> usize
+pub fn run_places(f: &mut [f64], w: &mut [u32], verts: usize, faces: usize, budget: usize) -> usize
     requires { ⌜ Meshed width (now f) (now w) verts faces ⌝ ∗ ⌜ Worded width (now w) faces ⌝ }
-    ensures { λ r. ⌜ whole (now (f .exit)) (now (w .exit)) r ≡ slotsRun width (held width (now (f .entry)) (now (w .entry)) verts faces) faces slotLimit (whole (now (f .entry)) (now (w .entry)) budget) ⌝ }
+    ensures { λ r. ⌜ whole (now (f .exit)) (now (w .exit)) r ≡ placesRun width (held width (now (f .entry)) (now (w .entry)) verts faces) faces placeLimit (whole (now (f .entry)) (now (w .entry)) budget) ⌝ }
 {
     let mut rest = budget;
     let mut i: usize = 0;
-    while i < SLOTS {
+    while i < PLACES {
         rest = spend(f, w, verts, faces, i, rest);
         i += 1;
     }

@@ -6,8 +6,8 @@ use lib.Ieee.{Float, nan}
 use Rattle.mesh.specs.declared.vectors.V3.{V3}
 
 -- "places 0 to 31", "its 16 pieces"
-abbrev pub slotLimit : ℕ
-slotLimit = 32
+abbrev pub placeLimit : ℕ
+placeLimit = 32
 
 abbrev pub pieceLimit : ℕ
 pieceLimit = 16

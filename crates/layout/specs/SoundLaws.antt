@@ -17,20 +17,20 @@ use Rattle.base.specs.declared.refusal.Checked.{Checked}
 use Rattle.base.specs.declared.refusal.Checked.the-variants.{Passed, Failed}
 use Rattle.mesh.specs.Checks.{vertexLimit, faceLimit}
 use Rattle.mesh.specs.CheckLaws.{below-each}
-use Rattle.layout.specs.Layout.{width, slotLimit, pieceLimit, kernelFrom, piecesFrom, pieceFrom, coordsFrom, stateFrom, cornersFrom, cornersOf, vertsOf, facesOf, statusOf, finishedOf, doneOf}
-use Rattle.layout.specs.Soundness.{every, longEnough, slotSound, slotSoundAt, sound, storeCheck, slotCheck, filledCheck}
+use Rattle.layout.specs.Layout.{width, placeLimit, pieceLimit, kernelFrom, piecesFrom, pieceFrom, coordsFrom, stateFrom, cornersFrom, cornersOf, vertsOf, facesOf, statusOf, finishedOf, doneOf}
+use Rattle.layout.specs.Soundness.{every, longEnough, placeSound, placeSoundAt, sound, storeCheck, placeCheck, filledCheck}
 
 -- ---- 01's numbers: each part of a run begins where the one before it ends
-pub pieces-follow : piecesFrom 0 ≡ kernelFrom slotLimit
+pub pieces-follow : piecesFrom 0 ≡ kernelFrom placeLimit
 pieces-follow = refl
 
-pub coords-follow : coordsFrom ≡ piecesFrom slotLimit
+pub coords-follow : coordsFrom ≡ piecesFrom placeLimit
 coords-follow = refl
 
 pub next-place : (i : ℕ) → piecesFrom (suc i) ≡ pieceFrom i pieceLimit
 next-place i = omega arith
 
-pub corners-follow : cornersFrom width ≡ stateFrom width slotLimit
+pub corners-follow : cornersFrom width ≡ stateFrom width placeLimit
 corners-follow = refl
 
 pub corners-are : cornersFrom width ≡ 98
@@ -71,9 +71,9 @@ pub record Ready (m i p fin dn : ℕ) : Type 0 where
   pub part : fin < p → dn < m
   pub low : dn ≤ m
 
-pub slot-ready : (m i s n d : ℕ) → i < 32 → slotSound s n d m ≡ true → Ready m i (s - 1) n d
-unfolding slotSound
-slot-ready m i s n d hi e = go (leb-true s 17 (both (leb s 17) _ e .0)) (eqb s 0) (eqb n (s - 1)) refl refl (both (leb s 17) _ e .1)
+pub place-ready : (m i s n d : ℕ) → i < 32 → placeSound s n d m ≡ true → Ready m i (s - 1) n d
+unfolding placeSound
+place-ready m i s n d hi e = go (leb-true s 17 (both (leb s 17) _ e .0)) (eqb s 0) (eqb n (s - 1)) refl refl (both (leb s 17) _ e .1)
   where
     go : s ≤ 17 → (x y : Bool) → eqb s 0 ≡ x → eqb n (s - 1) ≡ y → cond x (eqb n 0 && eqb d 0) (leb n (s - 1) && cond y (eqb d 0) (ltb d m)) ≡ true → Ready m i (s - 1) n d
     go few true y ex ey t =
@@ -92,8 +92,8 @@ slot-ready m i s n d hi e = go (leb-true s 17 (both (leb s 17) _ e .0)) (eqb s 0
         record { place = hi; pieces = omega arith; fits = omega arith; part = λ h. omega arith; low = omega arith }
 
 -- "with F = 0 all are finished"
-pub none-unfinished : (i s n d : ℕ) → i < 32 → slotSound s n d 0 ≡ true → n ≡ s - 1
-none-unfinished i s n d h e = let r = slot-ready 0 i s n d h e in go (decLt n (s - 1)) r
+pub none-unfinished : (i s n d : ℕ) → i < 32 → placeSound s n d 0 ≡ true → n ≡ s - 1
+none-unfinished i s n d h e = let r = place-ready 0 i s n d h e in go (decLt n (s - 1)) r
   where
     go : Dec (n < s - 1) → Ready 0 i (s - 1) n d → n ≡ s - 1
     go (yes l) r = absurd (let z = r .part l in omega arith)
@@ -110,11 +110,11 @@ pub record Meshed (q : ℕ) (fs : List Float) (ws : List ℕ) (vs ms : ℕ) : Ty
 pub record Worded (q : ℕ) (ws : List ℕ) (ms : ℕ) : Type 0 where
   pub long : cornersFrom q ≤ length ws
   pub few : ms ≤ faceLimit
-  pub slot : (i : ℕ) → i < 32 → Ready ms i (statusOf q ws i - 1) (finishedOf q ws i) (doneOf q ws i)
+  pub place : (i : ℕ) → i < 32 → Ready ms i (statusOf q ws i - 1) (finishedOf q ws i) (doneOf q ws i)
 
 pub record Fine (q : ℕ) (fs : List Float) (ws : List ℕ) : Type 0 where
   pub mesh : Meshed q fs ws (vertsOf ws) (facesOf ws)
-  pub slots : Worded q ws (facesOf ws)
+  pub places : Worded q ws (facesOf ws)
 
 module _ (q : ℕ) (fs : List Float) (ws : List ℕ) where
   pub long-words : longEnough q fs ws ≡ true → cornersFrom q + 3 * facesOf ws ≤ length ws
@@ -122,12 +122,12 @@ module _ (q : ℕ) (fs : List Float) (ws : List ℕ) where
   long-words a = leb-true (cornersFrom q + 3 * facesOf ws) (length ws) (both (leb (cornersFrom q + 3 * facesOf ws) (length ws)) _ a .0)
 
   fine-sound : longEnough q fs ws ≡ true → sound q ws ≡ true → Fine q fs ws
-  unfolding longEnough sound slotSoundAt
+  unfolding longEnough sound placeSoundAt
   fine-sound a b =
       let l = both (leb (cornersFrom q + 3 * facesOf ws) (length ws)) _ a in
       let r = both (leb (vertsOf ws) vertexLimit && leb (facesOf ws) faceLimit) _ b in
       let s = both (leb (vertsOf ws) vertexLimit) (leb (facesOf ws) faceLimit) (r .0) in
-      let t = both (every (slotSoundAt q ws) slotLimit) _ (r .1) in
+      let t = both (every (placeSoundAt q ws) placeLimit) _ (r .1) in
       let k = long-words a in
       let n : length (cornersOf q ws) ≡ 3 * facesOf ws = length-take-le (3 * facesOf ws) _ (rw length-drop (omega arith)) in
       record {
@@ -138,10 +138,10 @@ module _ (q : ℕ) (fs : List Float) (ws : List ℕ) where
           faces = leb-true (facesOf ws) faceLimit (s .1);
           corners = λ j h. rw (getD-take, getD-drop) at (below-each (vertsOf ws) (cornersOf q ws) (t .1) j (omega arith));
         };
-        slots = record {
+        places = record {
           long = omega arith;
           few = leb-true (facesOf ws) faceLimit (s .1);
-          slot = λ i h. slot-ready (facesOf ws) i (statusOf q ws i) (finishedOf q ws i) (doneOf q ws i) h (every-at (slotSoundAt q ws) slotLimit i h (t .0));
+          place = λ i h. place-ready (facesOf ws) i (statusOf q ws i) (finishedOf q ws i) (doneOf q ws i) h (every-at (placeSoundAt q ws) placeLimit i h (t .0));
         };
       }
 
@@ -158,16 +158,16 @@ module _ (q : ℕ) (fs : List Float) (ws : List ℕ) where
     pub all : Fine q fs ws
     pub place : i < 32
 
-  pub slot-open : (i : ℕ) → slotCheck q fs ws i ≡ Passed → Open i
-  unfolding slotCheck
-  slot-open i e =
-      let p = passed-both (storeCheck q fs ws) (cond (ltb i slotLimit) Passed (Failed NoPlace)) e in
-      record { all = fine (p .0); place = go (ltb i slotLimit) refl (p .1) }
+  pub place-open : (i : ℕ) → placeCheck q fs ws i ≡ Passed → Open i
+  unfolding placeCheck
+  place-open i e =
+      let p = passed-both (storeCheck q fs ws) (cond (ltb i placeLimit) Passed (Failed NoPlace)) e in
+      record { all = fine (p .0); place = go (ltb i placeLimit) refl (p .1) }
     where
-      go : (b : Bool) → ltb i slotLimit ≡ b → cond b Passed (Failed NoPlace) ≡ Passed → i < 32
+      go : (b : Bool) → ltb i placeLimit ≡ b → cond b Passed (Failed NoPlace) ≡ Passed → i < 32
       go true b h = ltb-true i 32 b
       go false b h = absurd (let z : _≡_ {A = ℕ} 0 1 = cc in omega arith)
 
   pub filled-open : (i : ℕ) → filledCheck q fs ws i ≡ Passed → Open i
   unfolding filledCheck
-  filled-open i e = slot-open i (passed-both (slotCheck q fs ws i) (cond (eqb (statusOf q ws i) 0) (Failed Vacant) Passed) e .0)
+  filled-open i e = place-open i (passed-both (placeCheck q fs ws i) (cond (eqb (statusOf q ws i) 0) (Failed Vacant) Passed) e .0)

@@ -10,7 +10,7 @@ use Rattle.base.specs.declared.refusal.Refusal.the-variants.{ShortStore, Unsoun
 use Rattle.base.specs.declared.refusal.Checked.{Checked}
 use Rattle.base.specs.declared.refusal.Checked.the-variants.{Passed, Failed}
 use Rattle.mesh.specs.Checks.{vertexLimit, faceLimit, allBelow}
-use Rattle.layout.specs.Layout.{slotLimit, pieceLimit, coordsFrom, cornersFrom, cornersOf, vertsOf, facesOf, statusOf, finishedOf, doneOf}
+use Rattle.layout.specs.Layout.{placeLimit, pieceLimit, coordsFrom, cornersFrom, cornersOf, vertsOf, facesOf, statusOf, finishedOf, doneOf}
 
 -- each number below n passes
 unfoldable pub every : (ℕ → Bool) → ℕ → Bool
@@ -22,8 +22,8 @@ unfoldable pub longEnough : ℕ → List Float → List ℕ → Bool
 longEnough q fs ws = leb (cornersFrom q + 3 * facesOf ws) (length ws) && leb (coordsFrom + 3 * vertsOf ws) (length fs)
 
 -- a place's status, pieces finished and faces done, in a store of so many faces
-unfoldable pub slotSound : ℕ → ℕ → ℕ → ℕ → Bool
-slotSound status finished done faces =
+unfoldable pub placeSound : ℕ → ℕ → ℕ → ℕ → Bool
+placeSound status finished done faces =
     -- "status ≤ 17"
     leb status (1 + pieceLimit)
     && cond (eqb status 0)
@@ -35,8 +35,8 @@ slotSound status finished done faces =
     && cond (eqb finished (status - 1)) (eqb done 0) (ltb done faces))
 
 -- place i of a run
-unfoldable pub slotSoundAt : ℕ → List ℕ → ℕ → Bool
-slotSoundAt q ws i = slotSound (statusOf q ws i) (finishedOf q ws i) (doneOf q ws i) (facesOf ws)
+unfoldable pub placeSoundAt : ℕ → List ℕ → ℕ → Bool
+placeSoundAt q ws i = placeSound (statusOf q ws i) (finishedOf q ws i) (doneOf q ws i) (facesOf ws)
 
 -- "Sound", but for the lengths
 unfoldable pub sound : ℕ → List ℕ → Bool
@@ -44,7 +44,7 @@ sound q ws =
     -- "V and F in limit"
     (leb (vertsOf ws) vertexLimit && leb (facesOf ws) faceLimit)
     -- every place
-    && (every (slotSoundAt q ws) slotLimit
+    && (every (placeSoundAt q ws) placeLimit
     -- "corners < V"
     && allBelow (vertsOf ws) (cornersOf q ws))
 
@@ -53,9 +53,9 @@ unfoldable pub storeCheck : ℕ → List Float → List ℕ → Checked
 storeCheck q fs ws = cond (longEnough q fs ws) (cond (sound q ws) Passed (Failed Unsound)) (Failed ShortStore)
 
 -- and row 6, of a call that names a place
-unfoldable pub slotCheck : ℕ → List Float → List ℕ → ℕ → Checked
-slotCheck q fs ws i = andThen (storeCheck q fs ws) (cond (ltb i slotLimit) Passed (Failed NoPlace))
+unfoldable pub placeCheck : ℕ → List Float → List ℕ → ℕ → Checked
+placeCheck q fs ws i = andThen (storeCheck q fs ws) (cond (ltb i placeLimit) Passed (Failed NoPlace))
 
 -- and row 7, of a call that wants the place filled
 unfoldable pub filledCheck : ℕ → List Float → List ℕ → ℕ → Checked
-filledCheck q fs ws i = andThen (slotCheck q fs ws i) (cond (eqb (statusOf q ws i) 0) (Failed Vacant) Passed)
+filledCheck q fs ws i = andThen (placeCheck q fs ws i) (cond (eqb (statusOf q ws i) 0) (Failed Vacant) Passed)

@@ -2,12 +2,12 @@
 ghost use mathlib.Core.Path.{_≡_};
 ghost use Prim.Native.Nat.{_+_, _*_, _≤_};
 ghost use lib.ListN.{length};
-ghost use Rattle.layout.specs.Layout.{width, slotLimit, cornersFrom, facesOf};
-ghost use Rattle.layout.specs.Soundness.{every, longEnough, slotSound, slotSoundAt, sound, storeCheck, slotCheck, filledCheck};
+ghost use Rattle.layout.specs.Layout.{width, placeLimit, cornersFrom, facesOf};
+ghost use Rattle.layout.specs.Soundness.{every, longEnough, placeSound, placeSoundAt, sound, storeCheck, placeCheck, filledCheck};
 use crate::offsets::COORDS;
 use crate::offsets::CORNERS;
 use crate::offsets::PIECES;
-use crate::offsets::SLOTS;
+use crate::offsets::PLACES;
 use crate::offsets::STATE;
 use crate::offsets::WIDTH;
 use base::refusal::Checked;
@@ -28,8 +28,8 @@ fn long_enough(f: &[f64], w: &[u32]) -> bool
 }
 
 // Whether a place's three words go together.
-fn slot_sound(status: u32, finished: u32, done: u32, faces: u32) -> bool
-    ensures { λ r. ⌜ r ≡ slotSound status finished done faces ⌝ }
+fn place_sound(status: u32, finished: u32, done: u32, faces: u32) -> bool
+    ensures { λ r. ⌜ r ≡ placeSound status finished done faces ⌝ }
 {
     if status as usize > 1 + PIECES {
         return false;
@@ -49,15 +49,15 @@ fn slot_sound(status: u32, finished: u32, done: u32, faces: u32) -> bool
 }
 
 // Whether every place's words go together.
-fn slots_sound(w: &[u32]) -> bool
+fn places_sound(w: &[u32]) -> bool
     requires { ⌜ cornersFrom width ≤ length (now w) ⌝ }
-    ensures { λ r. ⌜ r ≡ every (slotSoundAt width (now (w .entry))) slotLimit ⌝ }
+    ensures { λ r. ⌜ r ≡ every (placeSoundAt width (now (w .entry))) placeLimit ⌝ }
 {
     let faces = w[1];
     let mut i: usize = 0;
-    while i < SLOTS {
+    while i < PLACES {
         let at = WIDTH * i;
-        if !slot_sound(w[STATE + at], w[STATE + 1 + at], w[STATE + 2 + at], faces) {
+        if !place_sound(w[STATE + at], w[STATE + 1 + at], w[STATE + 2 + at], faces) {
             return false;
         }
         i += 1;
@@ -74,7 +74,7 @@ fn words_sound(w: &[u32]) -> bool
     let faces = w[1];
     let few = (verts <= VERTEX_LIMIT) & (faces <= FACE_LIMIT);
     if few {
-        if slots_sound(w) {
+        if places_sound(w) {
             let end = CORNERS + 3 * (faces as usize);
             mesh::check::all_below(&w[CORNERS..end], verts)
         } else {
@@ -101,12 +101,12 @@ pub fn check_store(f: &[f64], w: &[u32]) -> Checked
 }
 
 // Refusal 4, 5 or 6 of a call that names a place.
-pub fn check_slot(f: &[f64], w: &[u32], slot: u32) -> Checked
-    ensures { λ r. ⌜ r ≡ slotCheck width (now (f .entry)) (now (w .entry)) slot ⌝ }
+pub fn check_place(f: &[f64], w: &[u32], place: u32) -> Checked
+    ensures { λ r. ⌜ r ≡ placeCheck width (now (f .entry)) (now (w .entry)) place ⌝ }
 {
     match check_store(f, w) {
         Checked::Failed(r) => Checked::Failed(r),
-        Checked::Passed => if (slot as usize) < SLOTS {
+        Checked::Passed => if (place as usize) < PLACES {
             Checked::Passed
         } else {
             Checked::Failed(Refusal::NoPlace)
@@ -115,12 +115,12 @@ pub fn check_slot(f: &[f64], w: &[u32], slot: u32) -> Checked
 }
 
 // Refusal 4, 5, 6 or 7 of a call that wants the place filled.
-pub fn check_filled(f: &[f64], w: &[u32], slot: u32) -> Checked
-    ensures { λ r. ⌜ r ≡ filledCheck width (now (f .entry)) (now (w .entry)) slot ⌝ }
+pub fn check_filled(f: &[f64], w: &[u32], place: u32) -> Checked
+    ensures { λ r. ⌜ r ≡ filledCheck width (now (f .entry)) (now (w .entry)) place ⌝ }
 {
-    match check_slot(f, w, slot) {
+    match check_place(f, w, place) {
         Checked::Failed(r) => Checked::Failed(r),
-        Checked::Passed => if w[STATE + WIDTH * (slot as usize)] == 0 {
+        Checked::Passed => if w[STATE + WIDTH * (place as usize)] == 0 {
             Checked::Failed(Refusal::Vacant)
         } else {
             Checked::Passed

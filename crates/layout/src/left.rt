@@ -2,10 +2,10 @@
 // Internal: a function with a `requires` is called by proved code alone.
 ghost use mathlib.Core.Path.{_≡_};
 ghost use Prim.Native.Nat.{_-_, _*_, _≤_, _<_};
-ghost use Rattle.layout.specs.Layout.{width, slotLimit};
+ghost use Rattle.layout.specs.Layout.{width, placeLimit};
 ghost use Rattle.layout.specs.SoundLaws.{Worded};
 ghost use Rattle.layout.specs.Left.{leftAt, leftOf};
-use crate::offsets::SLOTS;
+use crate::offsets::PLACES;
 use crate::offsets::STATE;
 use crate::offsets::WIDTH;
 use crate::runs::word;
@@ -23,7 +23,7 @@ pub fn pieces(status: u32) -> usize
 
 // The steps that place i has left.
 fn left_at(w: &[u32], i: usize, faces: usize) -> usize
-    requires { ⌜ Worded width (now w) faces ⌝ ∗ ⌜ i < slotLimit ⌝ }
+    requires { ⌜ Worded width (now w) faces ⌝ ∗ ⌜ i < placeLimit ⌝ }
     ensures { λ r. ⌜ (r ≡ leftAt width (now (w .entry)) faces i) × (r ≤ 33554432) ⌝ }
 {
     let at = WIDTH * i;
@@ -40,11 +40,11 @@ fn left_at(w: &[u32], i: usize, faces: usize) -> usize
 // The steps that all places have left.
 pub fn left(w: &[u32], faces: usize) -> usize
     requires { ⌜ Worded width (now w) faces ⌝ }
-    ensures { λ r. ⌜ r ≡ leftOf width (now (w .entry)) faces slotLimit ⌝ }
+    ensures { λ r. ⌜ r ≡ leftOf width (now (w .entry)) faces placeLimit ⌝ }
 {
     let mut sum: usize = 0;
     let mut i: usize = 0;
-    while i < SLOTS {
+    while i < PLACES {
         sum += left_at(w, i, faces);
         i += 1;
     }

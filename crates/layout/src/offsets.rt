@@ -1,7 +1,7 @@
 // Where a store's fields stand, as `specs/Layout.antt` says: i is a place, j a piece.
 
 // Places, and the pieces that a place has room for.
-pub const SLOTS: usize = 32;
+pub const PLACES: usize = 32;
 
 pub const PIECES: usize = 16;
 

@@ -25,10 +25,10 @@ use Rattle.layout.specs.Runs.{write}
 use Rattle.readings.specs.AlongLaws.{stretch-same}
 use Rattle.readings.specs.Readings.{Reading, density, report, list, track, Part, bare, densityAt, rawMass, origin, applied, rescaled, sixes, trackCheck, seeing, answerOf}
 use Rattle.readings.specs.SixLaws.{whole, list-sound, sixes-whole, whole-rescaled, densitized-on, sized, mass-on}
-use Rattle.machine.specs.Machine.{Mesh, Slot, empty, full}
+use Rattle.machine.specs.Machine.{Mesh, Place, empty, full}
 use Rattle.machine.specs.Holding.{triangles}
 use Rattle.machine.specs.Fresh.{kernelsOf, piecesTo, piecesOf, allPieces, worstFrom, valueOf, massOf, originOf, scaledList, readingOn, workedAfresh}
-use Rattle.machine.proofs.Parts.{freshAt, freshSlot, freshAll, freshSeen}
+use Rattle.machine.proofs.Parts.{freshAt, freshPlace, freshAll, freshSeen}
 use Rattle.machine.specs.Valid.{Shape}
 
 abbrev partOf : Mesh → Kernel → Part
@@ -41,7 +41,7 @@ module _ (m : Mesh) where
   parts-to k fit zero = refl
   parts-to k fit (suc n) = rw (parts-to k fit n, map-append (partOf m) (piecesTo k fit n) (pieceAt k fit n ∷ [])) refl
 
-  parts-all : (ss : List Slot) → freshAll m ss ≡ map (partOf m) (allPieces (m .radius) (kernelsOf ss))
+  parts-all : (ss : List Place) → freshAll m ss ≡ map (partOf m) (allPieces (m .radius) (kernelsOf ss))
   parts-all [] = refl
   parts-all (empty ∷ ss) = parts-all ss
   parts-all (full k fit p ∷ ss) =
@@ -100,12 +100,12 @@ module _ (m : Mesh) (g : Shape m) where
         (stretch-same (densityAt (map whole (map (rescaled s) ks))) (λ x. valueOf (densitized (scaledList v m ks) x)) (λ x. ap valueOf (sym (densitized-on (map (rescaled s) ks) x))) points 0 n))
 
   -- the mass of one place
-  pub slot-mass : (k : Kernel) (fit : Pieces) (p : ℕ) → rawMass (freshSlot m (full k fit p)) ≡ massOf m (piecesOf (m .radius) k)
-  slot-mass k fit p =
+  pub place-mass : (k : Kernel) (fit : Pieces) (p : ℕ) → rawMass (freshPlace m (full k fit p)) ≡ massOf m (piecesOf (m .radius) k)
+  place-mass k fit p =
       let f = decomposed k (m .radius) in
       ap rawMass (parts-to m k f (f .count)) ∙ raw-on (piecesOf (m .radius) k)
 
-  pub joined : (ss : List Slot) (r : Reading) → answerOf r (freshSeen m ss) ≡ workedAfresh m ss r
+  pub joined : (ss : List Place) (r : Reading) → answerOf r (freshSeen m ss) ≡ workedAfresh m ss r
   unfolding freshSeen workedAfresh
   joined ss r =
       let ks = kernelsOf ss in

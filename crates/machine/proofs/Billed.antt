@@ -82,20 +82,20 @@ granted-run Passed a run o = refl
 granted-run (Failed r) a run o = refl
 
 module _ (wd : ℕ) (fm : Width wd) (exF : List Float) (exW : List ℕ) (m : Machine) where
-  list-answer : Valid (m .mesh) (m .slots) → (cv : Convention) (run : List Float) (n : ℕ)
-      → heldIn (m .mesh .radius) (m .slots) ≡ n
+  list-answer : Valid (m .mesh) (m .places) → (cv : Convention) (run : List Float) (n : ℕ)
+      → heldIn (m .mesh .radius) (m .places) ≡ n
       → Listing (store wd (holding m exF exW) (read (list cv run)) .reply) n (length run)
   unfolding machine workedAfresh
   list-answer v cv run n e =
-      let ks = allPieces (m .mesh .radius) (kernelsOf (m .slots)) in
+      let ks = allPieces (m .mesh .radius) (kernelsOf (m .places)) in
       let c = roomCheck (6 * length ks) (length run) in
       let g = granted-run c (counted (length ks ∷ [])) run (write run 0 (scaledList cv (m .mesh) ks)) in
       let h = ap (λ (j : ℕ). granted (roomCheck (6 * j) (length run)) (counted (j ∷ []))) (held e) in
       let o = ap (λ (x : Result). x .reply) (one-call wd fm m v exF exW (read (list cv run))) in
-      go (workedAfresh (m .mesh) (m .slots) (list cv run)) (needsWork (list cv run) && ltb 0 (workLeft m)) (g ∙ h) o
+      go (workedAfresh (m .mesh) (m .places) (list cv run)) (needsWork (list cv run) && ltb 0 (workLeft m)) (g ∙ h) o
     where
-      held : heldIn (m .mesh .radius) (m .slots) ≡ n → length (allPieces (m .mesh .radius) (kernelsOf (m .slots))) ≡ n
-      held e = pieces-held (m .mesh .radius) (m .slots) ∙ e
+      held : heldIn (m .mesh .radius) (m .places) ≡ n → length (allPieces (m .mesh .radius) (kernelsOf (m .places))) ≡ n
+      held e = pieces-held (m .mesh .radius) (m .places) ∙ e
 
       go : {a x : Answer} (o : Outcome) (b : Bool) → o .reply ≡ x
           → a ≡ cond b (refusing (list cv run) Unfinished) o .reply → (a ≡ refused Unfinished) ⊎ (a ≡ x)
@@ -130,7 +130,7 @@ all-vacant n (i ∷ is) = (none-at n i, all-vacant n is)
 
 module _
     (wd : ℕ) (fm : Width wd) (r : Float) (xs : List Float) (ks : List ℕ)
-    (v : Valid (opened r xs ks .mesh) (opened r xs ks .slots))
+    (v : Valid (opened r xs ks .mesh) (opened r xs ks .places))
     (exF : List Float) (exW : List ℕ) (kernels : List Float) where
   abbrev M : Machine
   M = opened r xs ks
@@ -146,13 +146,13 @@ module _
 
   -- the pieces held after a list, and what a list then answers
   abbrev after : List Call → ℕ
-  after cs = heldIn r (after-all M cs .slots)
+  after cs = heldIn r (after-all M cs .places)
 
   list-after : (cs : List Call) (cv : Convention) (run : List Float)
       → Listing (listAfter wd S cs cv run) (after cs) (length run)
   list-after cs cv run =
       let i = last wd fm exF exW cs M v in
-      let e = ap (λ (x : Float). heldIn x (after-all M cs .slots)) (radius-after cs M v) in
+      let e = ap (λ (x : Float). heldIn x (after-all M cs .places)) (radius-after cs M v) in
       subst (λ (s : Store). Listing (store wd s (read (list cv run)) .reply) (after cs) (length run)) (sym (i .0))
       (list-answer wd fm exF exW (after-all M cs) (i .1) cv run (after cs) e)
 

@@ -24,13 +24,13 @@ use Rattle.kernel.specs.declared.kernel.Kernel.{Kernel}
 use Rattle.pieces.specs.declared.pieces.Pieces.{Pieces}
 use Rattle.pieces.specs.Pieces.{decomposed}
 use Rattle.pieces.specs.PieceLaws.{same-pieces}
-use Rattle.layout.specs.Layout.{slotLimit, radiusOf, vertsOf, facesOf, statusOf}
-use Rattle.layout.specs.Soundness.{storeCheck, slotCheck, filledCheck}
+use Rattle.layout.specs.Layout.{placeLimit, radiusOf, vertsOf, facesOf, statusOf}
+use Rattle.layout.specs.Soundness.{storeCheck, placeCheck, filledCheck}
 use Rattle.store.specs.Calls.{clearStep, reweighStep}
 use Rattle.advance.specs.Steps.{advanceStep}
 use Rattle.store.specs.Squeeze.{squeezeStep}
 use Rattle.store.specs.Puts.{fresh, atFirst, putFloats, putWords, putStep}
-use Rattle.machine.specs.Machine.{Mesh, Slot, empty, full, need, leftSlot, leftSum, Machine, Turn, turn, putTurn, clearTurn, weighed, reweighTurn}
+use Rattle.machine.specs.Machine.{Mesh, Place, empty, full, need, leftPlace, leftSum, Machine, Turn, turn, putTurn, clearTurn, weighed, reweighTurn}
 use Rattle.machine.specs.Holding.{placeRow, cells, wordsOf}
 use Rattle.readings.specs.Readings.{Reading}
 use Rattle.machine.specs.Calls.{Call, put, clear, reweigh, advance, squeeze, read, page, machine, Store, Result, result, seen, pinned, store, after-all, past, holding, chargedBy, doneBy, chargedIn, doneIn}
@@ -47,44 +47,44 @@ use Rattle.machine.proofs.Sweep.{spread, all-held, left-held, lowest-fi
 
 -- the runs by sixteen pieces to a filled place, and what a turn leaves in them
 abbrev inner : Machine → List Float → List ℕ → Store
-inner m xs ys = record { floats = laidOut (m .mesh) (m .slots) (past m xs); words = wordsOf (m .mesh) (m .slots) ys }
+inner m xs ys = record { floats = laidOut (m .mesh) (m .places) (past m xs); words = wordsOf (m .mesh) (m .places) ys }
 
 abbrev shownIn : List Float → List ℕ → Turn → Result
 shownIn xs ys t = record { left = inner (t .next) xs ys; reply = t .reply; out = t .out; page = t .page }
 
-module _ (wd : ℕ) (fm : Width wd) (m : Machine) (v : Valid (m .mesh) (m .slots)) (xs : List Float) (ys : List ℕ) where
+module _ (wd : ℕ) (fm : Width wd) (m : Machine) (v : Valid (m .mesh) (m .places)) (xs : List Float) (ys : List ℕ) where
   abbrev FS : List Float
-  FS = laidOut (m .mesh) (m .slots) (past m xs)
+  FS = laidOut (m .mesh) (m .places) (past m xs)
 
   abbrev WS : List ℕ
-  WS = wordsOf (m .mesh) (m .slots) ys
+  WS = wordsOf (m .mesh) (m .places) ys
 
   sane : storeCheck wd FS WS ≡ Passed
-  sane = no-fault wd fm (m .mesh) (m .slots) v (past m xs) ys
+  sane = no-fault wd fm (m .mesh) (m .places) v (past m xs) ys
 
   -- ---- the checks of a place
-  slot-in : (i : ℕ) → i < 32 → slotCheck wd FS WS i ≡ Passed
-  unfolding slotCheck
-  slot-in i h = rw (sane, lt-ltb i 32 h) refl
+  place-in : (i : ℕ) → i < 32 → placeCheck wd FS WS i ≡ Passed
+  unfolding placeCheck
+  place-in i h = rw (sane, lt-ltb i 32 h) refl
 
-  slot-out : (i : ℕ) → 32 ≤ i → slotCheck wd FS WS i ≡ Failed NoPlace
-  unfolding slotCheck
-  slot-out i h = rw (sane, le-ltb i 32 h) refl
+  place-out : (i : ℕ) → 32 ≤ i → placeCheck wd FS WS i ≡ Failed NoPlace
+  unfolding placeCheck
+  place-out i h = rw (sane, le-ltb i 32 h) refl
 
-  status : (i : ℕ) → i < 32 → statusOf wd WS i ≡ getD (placeRow (m .mesh) (getD (m .slots) i empty)) 0 0
-  status i h = status-held wd fm (m .mesh) (m .slots) (v .slots) ys i h
+  status : (i : ℕ) → i < 32 → statusOf wd WS i ≡ getD (placeRow (m .mesh) (getD (m .places) i empty)) 0 0
+  status i h = status-held wd fm (m .mesh) (m .places) (v .places) ys i h
 
   filled-out : (i : ℕ) → 32 ≤ i → filledCheck wd FS WS i ≡ Failed NoPlace
   unfolding filledCheck
-  filled-out i h = rw (slot-out i h) refl
+  filled-out i h = rw (place-out i h) refl
 
-  filled-none : (i : ℕ) → i < 32 → getD (m .slots) i empty ≡ empty → filledCheck wd FS WS i ≡ Failed Vacant
+  filled-none : (i : ℕ) → i < 32 → getD (m .places) i empty ≡ empty → filledCheck wd FS WS i ≡ Failed Vacant
   unfolding filledCheck
-  filled-none i h e = rw (slot-in i h, status i h, e) refl
+  filled-none i h e = rw (place-in i h, status i h, e) refl
 
-  filled-in : (i : ℕ) → i < 32 → (k : Kernel) (fit : Pieces) (p : ℕ) → getD (m .slots) i empty ≡ full k fit p → filledCheck wd FS WS i ≡ Passed
+  filled-in : (i : ℕ) → i < 32 → (k : Kernel) (fit : Pieces) (p : ℕ) → getD (m .places) i empty ≡ full k fit p → filledCheck wd FS WS i ≡ Passed
   unfolding filledCheck
-  filled-in i h k fit p e = rw (slot-in i h, status i h, e, ne-eqb (1 + fit .count) 0 (λ z. omega arith)) refl
+  filled-in i h k fit p e = rw (place-in i h, status i h, e, ne-eqb (1 + fit .count) 0 (λ z. omega arith)) refl
 
   -- ---- clear
   zeros-row : replicate wd 0 ≡ placeRow (m .mesh) empty
@@ -93,47 +93,47 @@ module _ (wd : ℕ) (fm : Width wd) (m : Machine) (v : Valid (m .mesh) (m .slots
       go : {w : ℕ} → Width w → replicate w 0 ≡ placeRow (m .mesh) empty
       go width3 = refl
 
-  clear-in : (i : ℕ) → i < 32 → (s : Slot) → getD (m .slots) i empty ≡ s → result (clearStep wd FS WS i) ≡ shownIn xs ys (clearTurn m i s)
+  clear-in : (i : ℕ) → i < 32 → (s : Place) → getD (m .places) i empty ≡ s → result (clearStep wd FS WS i) ≡ shownIn xs ys (clearTurn m i s)
   unfolding clearStep
   clear-in i h empty e = rw (filled-none i h e) refl
   clear-in i h (full k fit p) e =
-      rw (filled-in i h k fit p e, write-floats wd fm (m .mesh) (m .slots) (v .slots) (past m xs) i h empty, zeros-row, write-words wd fm (m .mesh) (m .slots) (v .slots) ys i h empty) refl
+      rw (filled-in i h k fit p e, write-floats wd fm (m .mesh) (m .places) (v .places) (past m xs) i h empty, zeros-row, write-words wd fm (m .mesh) (m .places) (v .places) ys i h empty) refl
 
   clear-held : (i : ℕ) → store wd (inner m xs ys) (clear i) ≡ shownIn xs ys (machine m (clear i))
   unfolding store machine clearStep
   clear-held i = go (decLt i 32)
     where
-      go : Dec (i < 32) → result (clearStep wd FS WS i) ≡ shownIn xs ys (cond (ltb i slotLimit) (clearTurn m i (getD (m .slots) i empty)) (turn m (refused NoPlace)))
-      go (yes h) = clear-in i h (getD (m .slots) i empty) refl ∙ rw (lt-ltb i 32 h) refl
+      go : Dec (i < 32) → result (clearStep wd FS WS i) ≡ shownIn xs ys (cond (ltb i placeLimit) (clearTurn m i (getD (m .places) i empty)) (turn m (refused NoPlace)))
+      go (yes h) = clear-in i h (getD (m .places) i empty) refl ∙ rw (lt-ltb i 32 h) refl
       go (no h) = rw (filled-out i (omega arith), le-ltb i 32 (omega arith)) refl
 
   -- ---- reweigh
-  same-place : (i : ℕ) → i < 32 → (s : Slot) → placeRow (m .mesh) (getD (m .slots) i empty) ≡ placeRow (m .mesh) s → WS ≡ wordsOf (m .mesh) (set (m .slots) i s) ys
+  same-place : (i : ℕ) → i < 32 → (s : Place) → placeRow (m .mesh) (getD (m .places) i empty) ≡ placeRow (m .mesh) s → WS ≡ wordsOf (m .mesh) (set (m .places) i s) ys
   same-place i h s e =
-      sym (write-words wd fm (m .mesh) (m .slots) (v .slots) ys i h (getD (m .slots) i empty) ∙ ap (λ (t : List Slot). wordsOf (m .mesh) t ys) (set-getD (m .slots) i empty))
-      ∙ (ap (write WS (2 + wd * i)) e ∙ write-words wd fm (m .mesh) (m .slots) (v .slots) ys i h s)
+      sym (write-words wd fm (m .mesh) (m .places) (v .places) ys i h (getD (m .places) i empty) ∙ ap (λ (t : List Place). wordsOf (m .mesh) t ys) (set-getD (m .places) i empty))
+      ∙ (ap (write WS (2 + wd * i)) e ∙ write-words wd fm (m .mesh) (m .places) (v .places) ys i h s)
 
   same-volumes : (k : Kernel) (fit : Pieces) (w : Float) (p : ℕ) → sixteen (m .mesh) (full (weighed k w) fit p) ≡ sixteen (m .mesh) (full k fit p)
   unfolding centreOf
   same-volumes k fit w p = refl
 
-  reweigh-in : (i : ℕ) (w : Float) → i < 32 → (s : Slot) → getD (m .slots) i empty ≡ s → result (reweighStep wd FS WS i w) ≡ shownIn xs ys (reweighTurn m i w s)
+  reweigh-in : (i : ℕ) (w : Float) → i < 32 → (s : Place) → getD (m .places) i empty ≡ s → result (reweighStep wd FS WS i w) ≡ shownIn xs ys (reweighTurn m i w s)
   unfolding reweighStep
   reweigh-in i w h empty e = rw (filled-none i h e) refl
   reweigh-in i w h (full k fit p) e =
       let n : 5 + 7 * i ≡ 1 + (7 * i + 4) = omega arith in
       let s = full (weighed k w) fit p in
-      let f = set-seven wd fm (m .mesh) (m .slots) (v .slots) (past m xs) i h s 4 w (omega arith) (rw e refl) (rw e (same-volumes k fit w p)) in
-      let g : WS ≡ wordsOf (m .mesh) (set (m .slots) i s) ys = same-place i h s (rw e refl) in
+      let f = set-seven wd fm (m .mesh) (m .places) (v .places) (past m xs) i h s 4 w (omega arith) (rw e refl) (rw e (same-volumes k fit w p)) in
+      let g : WS ≡ wordsOf (m .mesh) (set (m .places) i s) ys = same-place i h s (rw e refl) in
       rw (filled-in i h k fit p e, n, f)
-      (ap (λ (t : List ℕ). record { left = record { floats = laidOut (m .mesh) (set (m .slots) i s) (past m xs); words = t }; reply = done; out = []; page = [] }) g)
+      (ap (λ (t : List ℕ). record { left = record { floats = laidOut (m .mesh) (set (m .places) i s) (past m xs); words = t }; reply = done; out = []; page = [] }) g)
 
   reweigh-held : (i : ℕ) (w : Float) → store wd (inner m xs ys) (reweigh i w) ≡ shownIn xs ys (machine m (reweigh i w))
   unfolding store machine reweighStep
   reweigh-held i w = go (decLt i 32)
     where
-      go : Dec (i < 32) → result (reweighStep wd FS WS i w) ≡ shownIn xs ys (cond (ltb i slotLimit) (reweighTurn m i w (getD (m .slots) i empty)) (turn m (refused NoPlace)))
-      go (yes h) = reweigh-in i w h (getD (m .slots) i empty) refl ∙ rw (lt-ltb i 32 h) refl
+      go : Dec (i < 32) → result (reweighStep wd FS WS i w) ≡ shownIn xs ys (cond (ltb i placeLimit) (reweighTurn m i w (getD (m .places) i empty)) (turn m (refused NoPlace)))
+      go (yes h) = reweigh-in i w h (getD (m .places) i empty) refl ∙ rw (lt-ltb i 32 h) refl
       go (no h) = rw (filled-out i (omega arith), le-ltb i 32 (omega arith)) refl
 
   -- ---- put
@@ -161,8 +161,8 @@ module _ (wd : ℕ) (fm : Width wd) (m : Machine) (v : Valid (m .mesh) (m .slots
       → result (record { reply = counted (fit .count ∷ need (m .mesh) fit ∷ []); floats = putFloats FS i k fit; words = putWords wd WS i fit }) ≡ shownIn xs ys (putTurn m i k fit)
   unfolding putFloats putWords atFirst
   put-in i k fit h =
-      let f = write-floats wd fm (m .mesh) (m .slots) (v .slots) (past m xs) i h (full k fit 0) in
-      let g = rw (zero-div, zero-mod) at (write-words wd fm (m .mesh) (m .slots) (v .slots) ys i h (full k fit 0)) in
+      let f = write-floats wd fm (m .mesh) (m .places) (v .places) (past m xs) i h (full k fit 0) in
+      let g = rw (zero-div, zero-mod) at (write-words wd fm (m .mesh) (m .places) (v .places) ys i h (full k fit 0)) in
       rw (faces-held, fresh-cells k fit 16 0, f, g) refl
 
   put-held : (i : ℕ) (k : Kernel) → store wd (inner m xs ys) (put i k) ≡ shownIn xs ys (machine m (put i k))
@@ -170,37 +170,37 @@ module _ (wd : ℕ) (fm : Width wd) (m : Machine) (v : Valid (m .mesh) (m .slots
   put-held i k = go (decLt i 32)
     where
       go : Dec (i < 32) → store wd (inner m xs ys) (put i k) ≡ shownIn xs ys (machine m (put i k))
-      go (yes h) = rw (slot-in i h, lt-ltb i 32 h, radius-held, faces-held) (put-in i k (decomposed k (m .mesh .radius)) h)
-      go (no h) = rw (slot-out i (omega arith), le-ltb i 32 (omega arith)) refl
+      go (yes h) = rw (place-in i h, lt-ltb i 32 h, radius-held, faces-held) (put-in i k (decomposed k (m .mesh .radius)) h)
+      go (no h) = rw (place-out i (omega arith), le-ltb i 32 (omega arith)) refl
 
   -- ---- advance
   advance-held : (n : ℕ) → store wd (inner m xs ys) (advance n) ≡ shownIn xs ys (machine m (advance n))
   unfolding store machine advanceStep
   advance-held n =
-      let l = leftSum (m .mesh) (m .slots) in
+      let l = leftSum (m .mesh) (m .places) in
       let a : n - (n - l) ≡ min n l = omega arith in
       rw (
         sane,
         verts-held,
         faces-held,
-        coords-held wd fm (m .mesh) (m .slots) (v .slots) (past m xs) (v .mesh .coords),
-        corners-held wd fm (m .mesh) (m .slots) (v .slots) ys (v .mesh .corners),
-        all-held wd fm (m .mesh) (m .slots) v (past m xs) ys n,
-        left-held wd fm (m .mesh) (m .slots) v ys,
+        coords-held wd fm (m .mesh) (m .places) (v .places) (past m xs) (v .mesh .coords),
+        corners-held wd fm (m .mesh) (m .places) (v .places) ys (v .mesh .corners),
+        all-held wd fm (m .mesh) (m .places) v (past m xs) ys n,
+        left-held wd fm (m .mesh) (m .places) v ys,
         a,
-        lowest-first (m .mesh) (min n l) n (m .slots) refl,
-        left-spread (m .mesh) n (m .slots),
+        lowest-first (m .mesh) (min n l) n (m .places) refl,
+        left-spread (m .mesh) n (m .places),
       ) refl
 
   -- ---- a reading
   reading-held : (r : Reading) → store wd (inner m xs ys) (read r) ≡ shownIn xs ys (machine m (read r))
   unfolding store machine
-  reading-held r = ap (seen (inner m xs ys)) (read-held wd fm (m .mesh) (m .slots) v (past m xs) ys r)
+  reading-held r = ap (seen (inner m xs ys)) (read-held wd fm (m .mesh) (m .places) v (past m xs) ys r)
 
   -- ---- a page
   page-of-held : (bs : List ℕ) → store wd (inner m xs ys) (page bs) ≡ shownIn xs ys (machine m (page bs))
   unfolding store machine
-  page-of-held bs = ap (pinned (inner m xs ys)) (page-held wd fm (m .mesh) (m .slots) v (past m xs) ys bs)
+  page-of-held bs = ap (pinned (inner m xs ys)) (page-held wd fm (m .mesh) (m .places) v (past m xs) ys bs)
 
   -- ---- squeeze
   squeeze-held : store wd (inner m xs ys) squeeze ≡ shownIn xs ys (machine m squeeze)
@@ -210,10 +210,10 @@ module _ (wd : ℕ) (fm : Width wd) (m : Machine) (v : Valid (m .mesh) (m .slots
         sane,
         verts-held,
         faces-held,
-        coords-held wd fm (m .mesh) (m .slots) (v .slots) (past m xs) (v .mesh .coords),
-        corners-held wd fm (m .mesh) (m .slots) (v .slots) ys (v .mesh .corners),
-        floats-squeezed wd fm (m .mesh) (m .slots) v (m .freed) xs,
-        words-squeezed wd fm (m .mesh) (m .slots) v ys,
+        coords-held wd fm (m .mesh) (m .places) (v .places) (past m xs) (v .mesh .coords),
+        corners-held wd fm (m .mesh) (m .places) (v .places) ys (v .mesh .corners),
+        floats-squeezed wd fm (m .mesh) (m .places) v (m .freed) xs,
+        words-squeezed wd fm (m .mesh) (m .places) v ys,
         freed-is (m .mesh),
       ) refl
 
@@ -227,29 +227,29 @@ module _ (wd : ℕ) (fm : Width wd) (m : Machine) (v : Valid (m .mesh) (m .slots
   one-in (page bs) = page-of-held bs
 
 -- ---- what every turn keeps
-all-set : (P : Slot → Type 0) (ss : List Slot) (i : ℕ) (s : Slot) → P s → ((j : ℕ) → P (getD ss j empty)) → (j : ℕ) → P (getD (set ss i s) j empty)
+all-set : (P : Place → Type 0) (ss : List Place) (i : ℕ) (s : Place) → P s → ((j : ℕ) → P (getD ss j empty)) → (j : ℕ) → P (getD (set ss i s) j empty)
 all-set P [] i s w h j = h j
 all-set P (x ∷ ss) zero s w h zero = w
 all-set P (x ∷ ss) zero s w h (suc j) = h (suc j)
 all-set P (x ∷ ss) (suc i) s w h zero = h zero
 all-set P (x ∷ ss) (suc i) s w h (suc j) = all-set P ss i s w (λ n. h (suc n)) j
 
-left-set : (m : Mesh) (ss : List Slot) (i : ℕ) (s : Slot) → i < length ss → leftSum m (set ss i s) + leftSlot m (getD ss i empty) ≡ leftSum m ss + leftSlot m s
+left-set : (m : Mesh) (ss : List Place) (i : ℕ) (s : Place) → i < length ss → leftSum m (set ss i s) + leftPlace m (getD ss i empty) ≡ leftSum m ss + leftPlace m s
 left-set m [] i s h = absurd (omega arith)
 left-set m (x ∷ ss) zero s h = omega arith
 left-set m (x ∷ ss) (suc i) s h = omega (arith, left-set m ss i s (omega arith))
 
 pub record Kept (m : Machine) (c : Call) (t : Turn) : Type 0 where
-  pub valid : Valid (t .next .mesh) (t .next .slots)
-  pub balance : doneBy c (t .reply) + leftSum (t .next .mesh) (t .next .slots) + t .next .dropped ≡ chargedBy c (t .reply) + leftSum (m .mesh) (m .slots) + m .dropped
+  pub valid : Valid (t .next .mesh) (t .next .places)
+  pub balance : doneBy c (t .reply) + leftSum (t .next .mesh) (t .next .places) + t .next .dropped ≡ chargedBy c (t .reply) + leftSum (m .mesh) (m .places) + m .dropped
   pub charged : t .next .charged ≡ m .charged + chargedBy c (t .reply)
 
-module _ (m : Machine) (v : Valid (m .mesh) (m .slots)) where
-  remade : (ss : List Slot) → length ss ≡ 32 → ((i : ℕ) → Within (m .mesh) (getD ss i empty)) → Valid (m .mesh) ss
-  remade ss l w = record { mesh = v .mesh; slots = l; within = w }
+module _ (m : Machine) (v : Valid (m .mesh) (m .places)) where
+  remade : (ss : List Place) → length ss ≡ 32 → ((i : ℕ) → Within (m .mesh) (getD ss i empty)) → Valid (m .mesh) ss
+  remade ss l w = record { mesh = v .mesh; places = l; within = w }
 
-  with-slot : (i : ℕ) (s : Slot) → Within (m .mesh) s → Valid (m .mesh) (set (m .slots) i s)
-  with-slot i s w = remade (set (m .slots) i s) (length-set (m .slots) i s ∙ v .slots) (all-set (Within (m .mesh)) (m .slots) i s w (v .within))
+  with-place : (i : ℕ) (s : Place) → Within (m .mesh) s → Valid (m .mesh) (set (m .places) i s)
+  with-place i s w = remade (set (m .places) i s) (length-set (m .places) i s ∙ v .places) (all-set (Within (m .mesh)) (m .places) i s w (v .within))
 
   still-put : (i : ℕ) (k : Kernel) (r : Refusal) → Kept m (put i k) (turn m (refused r))
   still-put i k r = record { valid = v; balance = refl; charged = omega arith }
@@ -263,22 +263,22 @@ module _ (m : Machine) (v : Valid (m .mesh) (m .slots)) where
   keep-put : (i : ℕ) (k : Kernel) → i < 32 → Kept m (put i k) (putTurn m i k (decomposed k (m .mesh .radius)))
   keep-put i k h =
       let fit = decomposed k (m .mesh .radius) in
-      let z = left-set (m .mesh) (m .slots) i (full k fit 0) (rw (v .slots) h) in
-      record { valid = with-slot i (full k fit 0) (okay (m .mesh) k fit 0 refl (omega arith)); balance = omega arith; charged = omega arith }
+      let z = left-set (m .mesh) (m .places) i (full k fit 0) (rw (v .places) h) in
+      record { valid = with-place i (full k fit 0) (okay (m .mesh) k fit 0 refl (omega arith)); balance = omega arith; charged = omega arith }
 
-  keep-clear : (i : ℕ) → i < 32 → (s : Slot) → getD (m .slots) i empty ≡ s → Kept m (clear i) (clearTurn m i s)
+  keep-clear : (i : ℕ) → i < 32 → (s : Place) → getD (m .places) i empty ≡ s → Kept m (clear i) (clearTurn m i s)
   keep-clear i h empty e = still-clear i Vacant
   keep-clear i h (full k fit p) e =
-      let z = rw e at (left-set (m .mesh) (m .slots) i empty (rw (v .slots) h)) in
-      record { valid = with-slot i empty (tt {0}); balance = omega arith; charged = omega arith }
+      let z = rw e at (left-set (m .mesh) (m .places) i empty (rw (v .places) h)) in
+      record { valid = with-place i empty (tt {0}); balance = omega arith; charged = omega arith }
 
-  keep-reweigh : (i : ℕ) (w : Float) → i < 32 → (s : Slot) → getD (m .slots) i empty ≡ s → Kept m (reweigh i w) (reweighTurn m i w s)
+  keep-reweigh : (i : ℕ) (w : Float) → i < 32 → (s : Place) → getD (m .places) i empty ≡ s → Kept m (reweigh i w) (reweighTurn m i w s)
   keep-reweigh i w h empty e = still-reweigh i w Vacant
   keep-reweigh i w h (full k fit p) e =
       let o = subst (Within (m .mesh)) e (v .within i) in
-      let z = rw e at (left-set (m .mesh) (m .slots) i (full (weighed k w) fit p) (rw (v .slots) h)) in
+      let z = rw e at (left-set (m .mesh) (m .places) i (full (weighed k w) fit p) (rw (v .places) h)) in
       record {
-        valid = with-slot i (full (weighed k w) fit p) (okay (m .mesh) (weighed k w) fit p (o .fitted ∙ same-pieces (k .c) (k .c) (k .sigma) (k .w) w (k .alpha) (m .mesh .radius)) (o .steps));
+        valid = with-place i (full (weighed k w) fit p) (okay (m .mesh) (weighed k w) fit p (o .fitted ∙ same-pieces (k .c) (k .c) (k .sigma) (k .w) w (k .alpha) (m .mesh .radius)) (o .steps));
         balance = omega arith;
         charged = omega arith;
       }
@@ -293,22 +293,22 @@ module _ (m : Machine) (v : Valid (m .mesh) (m .slots)) where
   kept (clear i) = go (decLt i 32)
     where
       go : Dec (i < 32) → Kept m (clear i) (machine m (clear i))
-      go (yes h) = rw (lt-ltb i 32 h) (keep-clear i h (getD (m .slots) i empty) refl)
+      go (yes h) = rw (lt-ltb i 32 h) (keep-clear i h (getD (m .places) i empty) refl)
       go (no h) = rw (le-ltb i 32 (omega arith)) (still-clear i NoPlace)
   kept (reweigh i w) = go (decLt i 32)
     where
       go : Dec (i < 32) → Kept m (reweigh i w) (machine m (reweigh i w))
-      go (yes h) = rw (lt-ltb i 32 h) (keep-reweigh i w h (getD (m .slots) i empty) refl)
+      go (yes h) = rw (lt-ltb i 32 h) (keep-reweigh i w h (getD (m .places) i empty) refl)
       go (no h) = rw (le-ltb i 32 (omega arith)) (still-reweigh i w NoPlace)
   kept (advance n) =
-      let l = leftSum (m .mesh) (m .slots) in
-      rw (lowest-first (m .mesh) (min n l) n (m .slots) refl)
+      let l = leftSum (m .mesh) (m .places) in
+      rw (lowest-first (m .mesh) (min n l) n (m .places) refl)
       (record {
-        valid = remade (spread (m .mesh) n (m .slots)) (spread-length 3 width3 (m .mesh) n (m .slots) ∙ v .slots) (within-spread (m .mesh) n (m .slots) (v .within));
-        balance = rw (left-spread (m .mesh) n (m .slots)) (omega arith);
+        valid = remade (spread (m .mesh) n (m .places)) (spread-length 3 width3 (m .mesh) n (m .places) ∙ v .places) (within-spread (m .mesh) n (m .places) (v .within));
+        balance = rw (left-spread (m .mesh) n (m .places)) (omega arith);
         charged = omega arith;
       })
-  kept squeeze = record { valid = slim-valid (m .mesh) (m .slots) v; balance = rw (left-slim (m .mesh) (m .slots) v) refl; charged = omega arith }
+  kept squeeze = record { valid = slim-valid (m .mesh) (m .places) v; balance = rw (left-slim (m .mesh) (m .places) v) refl; charged = omega arith }
   kept (read r) = record { valid = v; balance = refl; charged = omega arith }
   kept (page bs) = record { valid = v; balance = refl; charged = omega arith }
 
@@ -316,10 +316,10 @@ module _ (m : Machine) (v : Valid (m .mesh) (m .slots)) where
 abbrev pub shown : List Float → List ℕ → Turn → Result
 shown xs ys t = record { left = holding (t .next) xs ys; reply = t .reply; out = t .out; page = t .page }
 
-held-in : (m : Machine) → Valid (m .mesh) (m .slots) → (xs : List Float) (ys : List ℕ) → holding m xs ys ≡ inner m xs ys
-held-in m v xs ys = ap (λ (fs : List Float). record { floats = fs; words = wordsOf (m .mesh) (m .slots) ys }) (laid-out (m .mesh) (m .slots) v (past m xs))
+held-in : (m : Machine) → Valid (m .mesh) (m .places) → (xs : List Float) (ys : List ℕ) → holding m xs ys ≡ inner m xs ys
+held-in m v xs ys = ap (λ (fs : List Float). record { floats = fs; words = wordsOf (m .mesh) (m .places) ys }) (laid-out (m .mesh) (m .places) v (past m xs))
 
-pub one-call : (wd : ℕ) → Width wd → (m : Machine) → Valid (m .mesh) (m .slots) → (xs : List Float) (ys : List ℕ) (c : Call) → store wd (holding m xs ys) c ≡ shown xs ys (machine m c)
+pub one-call : (wd : ℕ) → Width wd → (m : Machine) → Valid (m .mesh) (m .places) → (xs : List Float) (ys : List ℕ) (c : Call) → store wd (holding m xs ys) c ≡ shown xs ys (machine m c)
 one-call wd fm m v xs ys c =
     let t = machine m c in
     ap (λ (s : Store). store wd s c) (held-in m v xs ys)
@@ -327,16 +327,16 @@ one-call wd fm m v xs ys c =
 
 -- ---- every list of calls
 module _ (wd : ℕ) (fm : Width wd) where
-  pub books : (cs : List Call) (m : Machine) → Valid (m .mesh) (m .slots) → (xs : List Float) (ys : List ℕ)
-      → doneIn wd (holding m xs ys) cs + leftSum (after-all m cs .mesh) (after-all m cs .slots) + after-all m cs .dropped
-      ≡ chargedIn wd (holding m xs ys) cs + leftSum (m .mesh) (m .slots) + m .dropped
+  pub books : (cs : List Call) (m : Machine) → Valid (m .mesh) (m .places) → (xs : List Float) (ys : List ℕ)
+      → doneIn wd (holding m xs ys) cs + leftSum (after-all m cs .mesh) (after-all m cs .places) + after-all m cs .dropped
+      ≡ chargedIn wd (holding m xs ys) cs + leftSum (m .mesh) (m .places) + m .dropped
   books [] m v xs ys = refl
   books (c ∷ cs) m v xs ys =
       let k = kept m v c in
       let t = machine m c in
       rw (one-call wd fm m v xs ys c) (omega (arith, books cs (t .next) (k .valid) xs ys, k .balance))
 
-  pub charges : (cs : List Call) (m : Machine) → Valid (m .mesh) (m .slots) → (xs : List Float) (ys : List ℕ) → after-all m cs .charged ≡ m .charged + chargedIn wd (holding m xs ys) cs
+  pub charges : (cs : List Call) (m : Machine) → Valid (m .mesh) (m .places) → (xs : List Float) (ys : List ℕ) → after-all m cs .charged ≡ m .charged + chargedIn wd (holding m xs ys) cs
   charges [] m v xs ys = omega arith
   charges (c ∷ cs) m v xs ys =
       let k = kept m v c in

@@ -18,7 +18,7 @@ use Rattle.layout.specs.After.{After, after}
 use Rattle.store.specs.Calls.{openCheck, openStep}
 use Rattle.readings.specs.Readings.{Reading, density, report, list, track, bare, applied, rescaled, densityAt, sixes, Seen, trackLimit, trackCheck, answerOf, refusing}
 use Rattle.page.specs.Page.{Row, Paged, paged, allPrintable, pageOf, guardedPage, pageAnswer}
-use Rattle.machine.specs.Machine.{Mesh, Slot, leftSum, Machine, opened, openRow}
+use Rattle.machine.specs.Machine.{Mesh, Place, leftSum, Machine, opened, openRow}
 use Rattle.machine.specs.Holding.{excessF, excessW}
 use Rattle.machine.specs.Fresh.{kernelsOf, freshRows, workedAfresh, pageAfresh}
 use Rattle.machine.specs.Calls.{Call, advance, read, page, needs, machine, Store, Result, store, leaves, after-all, holding, leftIn, without, heard}
@@ -81,7 +81,7 @@ paged-not rs bs e = go (allPrintable rs) (leb (length (pageOf rs)) (length bs)) 
     go true false z = omega arith
     go false b z = omega arith
 
-page-not : (m : Mesh) (ss : List Slot) (bs : List ℕ) → pageAfresh m ss bs .reply ≡ refused Unfinished → ⊥
+page-not : (m : Mesh) (ss : List Place) (bs : List ℕ) → pageAfresh m ss bs .reply ≡ refused Unfinished → ⊥
 unfolding pageAfresh
 page-not m ss bs = paged-not (freshRows m 0 ss) bs
 
@@ -95,73 +95,73 @@ module _ (o : Paged) (bs : List ℕ) where
   page-other false n = refl
 
 module _ (wd : ℕ) (fm : Width wd) (exF : List Float) (exW : List ℕ) where
-  same : (m : Machine) → Valid (m .mesh) (m .slots) → (c : Call) → Same wd exF exW m (holding m exF exW) c
+  same : (m : Machine) → Valid (m .mesh) (m .places) → (c : Call) → Same wd exF exW m (holding m exF exW) c
   same m v c =
       let e = one-call wd fm m v exF exW c in
       record { before = refl; reply = ap (λ (r : Result). r .reply) e; lent = ap (λ (r : Result). r .out) e; shown = ap (λ (r : Result). r .page) e; fields = ap (λ (r : Result). r .left) e }
 
-  reading : (o : Mesh) (m : Machine) → Valid (m .mesh) (m .slots) → From o (m .mesh) → (r : Reading) → Read wd o m (holding m exF exW) r
+  reading : (o : Mesh) (m : Machine) → Valid (m .mesh) (m .places) → From o (m .mesh) → (r : Reading) → Read wd o m (holding m exF exW) r
   unfolding machine
   reading o m v g r =
       let e = one-call wd fm m v exF exW (read r) in
       let er = ap (λ (x : Result). x .reply) e in
       let eo = ap (λ (x : Result). x .out) e in
-      let l = leftSum (m .mesh) (m .slots) in
+      let l = leftSum (m .mesh) (m .places) in
       let b = needs r && ltb 0 l in
-      let f = workedAfresh (m .mesh) (m .slots) r in
-      let j = joined (m .mesh) (v .mesh) (m .slots) r in
-      let never : f .reply ≡ refused Unfinished → ⊥ = λ y. not-eight r (freshSeen (m .mesh) (m .slots)) (ap (λ (a : Outcome). a .reply) j ∙ y) in
+      let f = workedAfresh (m .mesh) (m .places) r in
+      let j = joined (m .mesh) (v .mesh) (m .places) r in
+      let never : f .reply ≡ refused Unfinished → ⊥ = λ y. not-eight r (freshSeen (m .mesh) (m .places)) (ap (λ (a : Outcome). a .reply) j ∙ y) in
       record {
         unfinished = λ n h. er ∙ rw (n, lt-ltb 0 l h) (eight r);
         only-then = λ z. let t = and-eq-true-iff (needs r) (ltb 0 l) .0 (when-eight r f never b (sym er ∙ z)) in (t .0, ltb-true 0 l (t .1));
         afresh = λ z.
-            let t = when-not r f b (λ y. z (er ∙ y)) ∙ on-opened o (m .mesh) g (m .slots) r in
+            let t = when-not r f b (λ y. z (er ∙ y)) ∙ on-opened o (m .mesh) g (m .places) r in
             (er ∙ ap (λ (a : Outcome). a .reply) t, eo ∙ ap (λ (a : Outcome). a .out) t);
         kept = ap (λ (x : Result). x .left) e;
       }
 
-  posting : (o : Mesh) (m : Machine) → Valid (m .mesh) (m .slots) → From o (m .mesh) → (bs : List ℕ) → Post wd o m (holding m exF exW) bs
+  posting : (o : Mesh) (m : Machine) → Valid (m .mesh) (m .places) → From o (m .mesh) → (bs : List ℕ) → Post wd o m (holding m exF exW) bs
   unfolding machine
   posting o m v g bs =
       let e = one-call wd fm m v exF exW (page bs) in
       let er = ap (λ (x : Result). x .reply) e in
       let ep = ap (λ (x : Result). x .page) e in
-      let l = leftSum (m .mesh) (m .slots) in
-      let f = pageAfresh (m .mesh) (m .slots) bs in
+      let l = leftSum (m .mesh) (m .places) in
+      let f = pageAfresh (m .mesh) (m .places) bs in
       record {
         unfinished = λ h. er ∙ rw (lt-ltb 0 l h) refl;
-        only-then = λ z. ltb-true 0 l (page-eight f bs (page-not (m .mesh) (m .slots) bs) (ltb 0 l) (sym er ∙ z));
+        only-then = λ z. ltb-true 0 l (page-eight f bs (page-not (m .mesh) (m .places) bs) (ltb 0 l) (sym er ∙ z));
         afresh = λ z.
-            let t = page-other f bs (ltb 0 l) (λ y. z (er ∙ y)) ∙ page-opened o (m .mesh) g (m .slots) bs in
+            let t = page-other f bs (ltb 0 l) (λ y. z (er ∙ y)) ∙ page-opened o (m .mesh) g (m .places) bs in
             (er ∙ ap (λ (a : Paged). a .reply) t, ep ∙ ap (λ (a : Paged). a .page) t);
         kept = ap (λ (x : Result). x .left) e;
       }
 
-  each : (o : Mesh) (cs : List Call) (m : Machine) → Valid (m .mesh) (m .slots) → From o (m .mesh) → Each wd exF exW o m (holding m exF exW) cs
+  each : (o : Mesh) (cs : List Call) (m : Machine) → Valid (m .mesh) (m .places) → From o (m .mesh) → Each wd exF exW o m (holding m exF exW) cs
   each o [] m v g = end
   each o (c ∷ cs) m v g =
       let s = same m v c in
       next s (reading o m v g) (posting o m v g) (subst (λ (t : Store). Each wd exF exW o (machine m c .next) t cs) (sym (s .fields)) (each o cs (machine m c .next) (kept m v c .valid) (from-next o m c g)))
 
-  pub last : (cs : List Call) (m : Machine) → Valid (m .mesh) (m .slots) → (leaves wd (holding m exF exW) cs ≡ holding (after-all m cs) exF exW) × Valid (after-all m cs .mesh) (after-all m cs .slots)
+  pub last : (cs : List Call) (m : Machine) → Valid (m .mesh) (m .places) → (leaves wd (holding m exF exW) cs ≡ holding (after-all m cs) exF exW) × Valid (after-all m cs .mesh) (after-all m cs .places)
   last [] m v = (refl, v)
   last (c ∷ cs) m v =
       let i = last cs (machine m c .next) (kept m v c .valid) in
       (ap (λ (t : Store). leaves wd t cs) (same m v c .fields) ∙ i .0, i .1)
 
-  left-asked : (m : Machine) → Valid (m .mesh) (m .slots) → leftIn (store wd (holding m exF exW) (advance 0) .reply) ≡ leftSum (m .mesh) (m .slots)
+  left-asked : (m : Machine) → Valid (m .mesh) (m .places) → leftIn (store wd (holding m exF exW) (advance 0) .reply) ≡ leftSum (m .mesh) (m .places)
   unfolding machine
   left-asked m v =
-      let z : min 0 (leftSum (m .mesh) (m .slots)) ≡ 0 = omega arith in
+      let z : min 0 (leftSum (m .mesh) (m .places)) ≡ 0 = omega arith in
       ap (λ (x : Result). leftIn (x .reply)) (one-call wd fm m v exF exW (advance 0)) ∙ rw z refl
 
-  follows : (cs : List Call) (m : Machine) → Valid (m .mesh) (m .slots) → leftSum (m .mesh) (m .slots) ≡ 0 → m .dropped ≡ 0 → m .charged ≡ 0 → Follows wd exF exW m (holding m exF exW) cs
+  follows : (cs : List Call) (m : Machine) → Valid (m .mesh) (m .places) → leftSum (m .mesh) (m .places) ≡ 0 → m .dropped ≡ 0 → m .charged ≡ 0 → Follows wd exF exW m (holding m exF exW) cs
   follows cs m v z d c =
       let i = last cs m v in
-      let l : leftIn (store wd (leaves wd (holding m exF exW) cs) (advance 0) .reply) ≡ leftSum (after-all m cs .mesh) (after-all m cs .slots)
+      let l : leftIn (store wd (leaves wd (holding m exF exW) cs) (advance 0) .reply) ≡ leftSum (after-all m cs .mesh) (after-all m cs .places)
       = ap (λ (t : Store). leftIn (store wd t (advance 0) .reply)) (i .0) ∙ left-asked (after-all m cs) (i .1) in
       let b = books wd fm cs m v exF exW in
-      record { calls = each (m .mesh) cs m v (from-start (m .mesh) (v .mesh)); valid = i .1; pieces = listed (m .mesh .radius) (kernelsOf (after-all m cs .slots)); sums = omega arith; charged = omega (arith, charges wd fm cs m v exF exW) }
+      record { calls = each (m .mesh) cs m v (from-start (m .mesh) (v .mesh)); valid = i .1; pieces = listed (m .mesh .radius) (kernelsOf (after-all m cs .places)); sums = omega arith; charged = omega (arith, charges wd fm cs m v exF exW) }
 
 -- ---- from an opening on
 module _ (wd : ℕ) (fm : Width wd) (r : Float) (xs : List Float) (ks : List ℕ) (fs : List Float) (ws : List ℕ) where

@@ -1,4 +1,4 @@
--- What a store that holds a mesh and slots has in each field, and what a write leaves. Assumes nothing.
+-- What a store that holds a mesh and places has in each field, and what a write leaves. Assumes nothing.
 use mathlib.Core.Path.{_≡_, refl, sym, ap, _∙_}
 use mathlib.Core.List.{List, [], _∷_, _++_, map, append-assoc}
 use Prim.Native.Nat.{ℕ, zero, suc, _+_, _*_, _-_, _≤_, _<_}
@@ -11,7 +11,7 @@ use Rattle.layout.specs.Runs.{write}
 use Rattle.layout.specs.Layout.{cornersFrom, statusOf, finishedOf, doneOf}
 use Rattle.kernel.specs.declared.kernel.Kernel.{Kernel}
 use Rattle.pieces.specs.declared.pieces.Pieces.{Pieces}
-use Rattle.machine.specs.Machine.{Mesh, Slot, empty, full}
+use Rattle.machine.specs.Machine.{Mesh, Place, empty, full}
 use Rattle.machine.specs.Holding.{placeRow, floats7, cells, flat, wordsOf}
 use Rattle.machine.proofs.Sixteen.{sixteen, laidOut}
 use Rattle.machine.proofs.Rows.{Width, width3, Each, row-get, row-set, row-write, flat-length, map-set, map-getD, each-map, set-append-add, write-append-add, each-set}
@@ -29,7 +29,7 @@ module _ (wd : ℕ) (fm : Width wd) where
   cells-length m k fit (suc n) j t = rw mul-suc (omega (arith, cells-length m k fit n (suc j) (t - m .faces)))
 
   module _ (m : Mesh) where
-    pub len3 : (s : Slot) → length (placeRow m s) ≡ wd
+    pub len3 : (s : Place) → length (placeRow m s) ≡ wd
     len3 empty = go fm
       where
         go : {w : ℕ} → Width w → length (placeRow m empty) ≡ w
@@ -39,25 +39,25 @@ module _ (wd : ℕ) (fm : Width wd) where
         go : {w : ℕ} → Width w → length (placeRow m (full k fit p)) ≡ w
         go width3 = refl
 
-    pub len7 : (s : Slot) → length (floats7 s) ≡ 7
+    pub len7 : (s : Place) → length (floats7 s) ≡ 7
     len7 empty = refl
     len7 (full k fit p) = refl
 
-    pub len48 : (s : Slot) → length (sixteen m s) ≡ 48
+    pub len48 : (s : Place) → length (sixteen m s) ≡ 48
     len48 empty = refl
     len48 (full k fit p) = cells-length m k fit 16 0 p
 
-    pub each3 : (ss : List Slot) → Each wd (map (placeRow m) ss)
+    pub each3 : (ss : List Place) → Each wd (map (placeRow m) ss)
     each3 ss = each-map wd (placeRow m) len3 ss
 
-    pub each7 : (ss : List Slot) → Each 7 (map floats7 ss)
+    pub each7 : (ss : List Place) → Each 7 (map floats7 ss)
     each7 ss = each-map 7 floats7 len7 ss
 
-    pub each48 : (ss : List Slot) → Each 48 (map (sixteen m) ss)
+    pub each48 : (ss : List Place) → Each 48 (map (sixteen m) ss)
     each48 ss = each-map 48 (sixteen m) len48 ss
 
-    module _ (ss : List Slot) (hs : length ss ≡ 32) where
-      in-map : {B : Type 0} (g : Slot → B) (i : ℕ) → i < 32 → i < length (map g ss)
+    module _ (ss : List Place) (hs : length ss ≡ 32) where
+      in-map : {B : Type 0} (g : Place → B) (i : ℕ) → i < 32 → i < length (map g ss)
       in-map g i h = rw (length-map, hs) h
 
       module _ (ys : List ℕ) (i : ℕ) (h : i < 32) where
@@ -80,7 +80,7 @@ module _ (wd : ℕ) (fm : Width wd) where
         pub done-held : doneOf wd (wordsOf m ss ys) i ≡ getD (placeRow m (getD ss i empty)) 2 0
         done-held = let e : 4 + wd * i ≡ 2 + (wd * i + 2) = omega arith in rw e (get-word 2 (omega (arith, three-in)))
 
-        pub write-words : (s : Slot) → write (wordsOf m ss ys) (2 + wd * i) (placeRow m s) ≡ wordsOf m (set ss i s) ys
+        pub write-words : (s : Place) → write (wordsOf m ss ys) (2 + wd * i) (placeRow m s) ≡ wordsOf m (set ss i s) ys
         unfolding wordsOf
         write-words s =
             write-append-add (m .verts ∷ m .faces ∷ []) (flat (map (placeRow m) ss) ++ rest3) (wd * i) (placeRow m s)
@@ -143,7 +143,7 @@ module _ (wd : ℕ) (fm : Width wd) where
         ∙ (set-append-add (r ∷ flat a) (flat b ++ rest) (48 * i + j) v
         ∙ ap (λ (l : List Float). (r ∷ flat a) ++ l) (row-set 48 b eb rest i j v (rw lb h) hj))
 
-  module _ (m : Mesh) (ss : List Slot) (hs : length ss ≡ 32) (xs : List Float) (i : ℕ) (h : i < 32) where
+  module _ (m : Mesh) (ss : List Place) (hs : length ss ≡ 32) (xs : List Float) (i : ℕ) (h : i < 32) where
     l7 : length (map floats7 ss) ≡ 32
     l7 = length-map ss floats7 ∙ hs
 
@@ -151,7 +151,7 @@ module _ (wd : ℕ) (fm : Width wd) where
     l48 = length-map ss (sixteen m) ∙ hs
 
     -- place i's floats written anew
-    pub write-floats : (s : Slot) → write (write (laidOut m ss xs) (1 + 7 * i) (floats7 s)) (225 + 48 * i) (sixteen m s) ≡ laidOut m (set ss i s) xs
+    pub write-floats : (s : Place) → write (write (laidOut m ss xs) (1 + 7 * i) (floats7 s)) (225 + 48 * i) (sixteen m s) ≡ laidOut m (set ss i s) xs
     unfolding laidOut
     write-floats s =
         let a = map floats7 ss in
@@ -161,7 +161,7 @@ module _ (wd : ℕ) (fm : Width wd) where
         ∙ rw (map-set floats7 ss i s, map-set (sixteen m) ss i s) refl)
 
     -- one float of place i's seven, where the pieces stay
-    pub set-seven : (s : Slot) (j : ℕ) (v : Float) → j < 7 → set (floats7 (getD ss i empty)) j v ≡ floats7 s → sixteen m s ≡ sixteen m (getD ss i empty) → set (laidOut m ss xs) (1 + (7 * i + j)) v ≡ laidOut m (set ss i s) xs
+    pub set-seven : (s : Place) (j : ℕ) (v : Float) → j < 7 → set (floats7 (getD ss i empty)) j v ≡ floats7 s → sixteen m s ≡ sixteen m (getD ss i empty) → set (laidOut m ss xs) (1 + (7 * i + j)) v ≡ laidOut m (set ss i s) xs
     unfolding laidOut
     set-seven s j v hj e q =
         let a = map floats7 ss in
@@ -170,7 +170,7 @@ module _ (wd : ℕ) (fm : Width wd) where
         ∙ rw (map-getD floats7 ss i empty [] (rw hs h), e, map-set floats7 ss i s, map-set (sixteen m) ss i s, q, ← map-getD (sixteen m) ss i empty [] (rw hs h), set-getD b i []) refl
 
     -- one float of its forty-eight, where the seven stay
-    pub set-piece : (s : Slot) (j : ℕ) (v : Float) → j < 48 → set (sixteen m (getD ss i empty)) j v ≡ sixteen m s → floats7 s ≡ floats7 (getD ss i empty) → set (laidOut m ss xs) (225 + (48 * i + j)) v ≡ laidOut m (set ss i s) xs
+    pub set-piece : (s : Place) (j : ℕ) (v : Float) → j < 48 → set (sixteen m (getD ss i empty)) j v ≡ sixteen m s → floats7 s ≡ floats7 (getD ss i empty) → set (laidOut m ss xs) (225 + (48 * i + j)) v ≡ laidOut m (set ss i s) xs
     unfolding laidOut
     set-piece s j v hj e q =
         let a = map floats7 ss in
@@ -179,7 +179,7 @@ module _ (wd : ℕ) (fm : Width wd) where
         ∙ rw (map-getD (sixteen m) ss i empty [] (rw hs h), e, map-set floats7 ss i s, map-set (sixteen m) ss i s, q, ← map-getD floats7 ss i empty [] (rw hs h), set-getD a i []) refl
 
   -- the mesh part
-  module _ (m : Mesh) (ss : List Slot) (hs : length ss ≡ 32) where
+  module _ (m : Mesh) (ss : List Place) (hs : length ss ≡ 32) where
     pub coords-held : (xs : List Float) → length (m .coords) ≡ 3 * m .verts → take (3 * m .verts) (drop 1761 (laidOut m ss xs)) ≡ m .coords
     unfolding laidOut
     coords-held xs e =
@@ -204,14 +204,14 @@ module _ (wd : ℕ) (fm : Width wd) where
     floats-long xs e = rw (length-append, flat-length 7 (map floats7 ss) (each7 m ss), length-map, hs, length-append, flat-length 48 (map (sixteen m) ss) (each48 m ss), length-map, hs, length-append) (omega arith)
 
   -- two of place i's words, where the first stays
-  module _ (m : Mesh) (ss : List Slot) (hs : length ss ≡ 32) (ys : List ℕ) (i : ℕ) (h : i < 32) where
+  module _ (m : Mesh) (ss : List Place) (hs : length ss ≡ 32) (ys : List ℕ) (i : ℕ) (h : i < 32) where
     one-word : (a : List (List ℕ)) → Each wd a → length a ≡ 32 → (j : ℕ) (v : ℕ) → j < wd
         → set (m .verts ∷ m .faces ∷ (flat a ++ (m .corners ++ ys))) (2 + (wd * i + j)) v ≡ m .verts ∷ m .faces ∷ (flat (set a i (set (getD a i []) j v)) ++ (m .corners ++ ys))
     one-word a ea la j v hj =
         set-append-add (m .verts ∷ m .faces ∷ []) (flat a ++ (m .corners ++ ys)) (wd * i + j) v
         ∙ ap (λ (l : List ℕ). m .verts ∷ m .faces ∷ l) (row-set wd a ea (m .corners ++ ys) i j v (rw la h) hj)
 
-    pub two-words : (s : Slot) (x y : ℕ) → set (set (placeRow m (getD ss i empty)) 1 x) 2 y ≡ placeRow m s → set (set (wordsOf m ss ys) (3 + wd * i) x) (4 + wd * i) y ≡ wordsOf m (set ss i s) ys
+    pub two-words : (s : Place) (x y : ℕ) → set (set (placeRow m (getD ss i empty)) 1 x) 2 y ≡ placeRow m s → set (set (wordsOf m ss ys) (3 + wd * i) x) (4 + wd * i) y ≡ wordsOf m (set ss i s) ys
     unfolding wordsOf
     two-words s x y e =
         let a = map (placeRow m) ss in

@@ -21,7 +21,7 @@ use Rattle.layout.specs.Layout.{vertsOf, facesOf}
 use Rattle.layout.specs.Left.{held}
 use Rattle.base.specs.Answers.{outcome}
 use Rattle.readings.specs.Readings.{Reading, density, report, list, track, byMass, needsWork, Part, bare, densityAt, rawMass, origin, applied, rescaled, Seen, seeing, listing, tracking, answerOf, refusing, readingOf, heldFilled, heldWorst, heldSeen, readStep}
-use Rattle.machine.specs.Machine.{Mesh, Slot, empty, full, leftSum}
+use Rattle.machine.specs.Machine.{Mesh, Place, empty, full, leftSum}
 use Rattle.machine.specs.Holding.{triangles, placeRow, wordsOf}
 use Rattle.machine.specs.Fresh.{kernelOf, kernelsOf, worstFrom, workedAfresh}
 use Rattle.machine.specs.Calls.{byTarget, needs}
@@ -81,11 +81,11 @@ pub same-seen : {p p′ : List Part} {b b′ : Float} {n n′ : ℕ} {e e′ : F
 same-seen hp hb hn he = rw (hp, hb, hn, he) refl
 
 -- one place more, behind
-kernels-snoc : (l : List Slot) (s : Slot) → kernelsOf (l ++ (s ∷ [])) ≡ kernelsOf l ++ kernelOf s
+kernels-snoc : (l : List Place) (s : Place) → kernelsOf (l ++ (s ∷ [])) ≡ kernelsOf l ++ kernelOf s
 kernels-snoc [] s = append-nil (kernelOf s)
 kernels-snoc (x ∷ l) s = ap (λ (t : List Kernel). kernelOf x ++ t) (kernels-snoc l s) ∙ sym (append-assoc (kernelOf x) (kernelsOf l) (kernelOf s))
 
-module _ (wd : ℕ) (fm : Width wd) (m : Mesh) (ss : List Slot) (v : Valid m ss) (xs : List Float) (ys : List ℕ) where
+module _ (wd : ℕ) (fm : Width wd) (m : Mesh) (ss : List Place) (v : Valid m ss) (xs : List Float) (ys : List ℕ) where
   abbrev FS : List Float
   FS = laidOut m ss xs
 
@@ -96,25 +96,25 @@ module _ (wd : ℕ) (fm : Width wd) (m : Mesh) (ss : List Slot) (v : Valid m ss)
   not-empty : (fit : Pieces) → eqb (1 + fit .count) 0 ≡ false
   not-empty fit = ne-eqb (1 + fit .count) 0 (λ e. omega arith)
 
-  filled-one : (s : Slot) → cond (eqb (getD (placeRow m s) 0 0) 0) 0 1 ≡ length (kernelOf s)
+  filled-one : (s : Place) → cond (eqb (getD (placeRow m s) 0 0) 0) 0 1 ≡ length (kernelOf s)
   filled-one empty = refl
   filled-one (full k fit p) = rw (not-empty fit) refl
 
-  worst-one : (i : ℕ) → i < 32 → (e : Float) (s : Slot) → getD ss i empty ≡ s → Within m s → cond (eqb (getD (placeRow m s) 0 0) 0) e (greater e (getD FS (7 + 7 * i) nan)) ≡ worstFrom (m .radius) e (kernelOf s)
+  worst-one : (i : ℕ) → i < 32 → (e : Float) (s : Place) → getD ss i empty ≡ s → Within m s → cond (eqb (getD (placeRow m s) 0 0) 0) e (greater e (getD FS (7 + 7 * i) nan)) ≡ worstFrom (m .radius) e (kernelOf s)
   worst-one i h e empty q w = refl
   worst-one i h e (full k fit p) q w =
       let a : 7 + 7 * i ≡ 1 + (7 * i + 6) = omega arith in
-      rw (not-empty fit, a, get7 wd fm m ss (v .slots) xs i h 6 (omega arith), q) (ap (λ (f : Pieces). greater e (f .error)) (w .fitted))
+      rw (not-empty fit, a, get7 wd fm m ss (v .places) xs i h 6 (omega arith), q) (ap (λ (f : Pieces). greater e (f .error)) (w .fitted))
 
   filled-to : (n : ℕ) → n ≤ 32 → heldFilled wd WS n ≡ length (kernelsOf (take n ss))
   unfolding heldFilled
   filled-to zero h = refl
   filled-to (suc n) h =
       rw (
-        status-held wd fm m ss (v .slots) ys n h,
+        status-held wd fm m ss (v .places) ys n h,
         filled-one (getD ss n empty),
         filled-to n (omega arith),
-        take-suc ss n empty (rw (v .slots) h),
+        take-suc ss n empty (rw (v .places) h),
         kernels-snoc (take n ss) (getD ss n empty),
         length-append (kernelsOf (take n ss)) (kernelOf (getD ss n empty)),
       ) refl
@@ -125,16 +125,16 @@ module _ (wd : ℕ) (fm : Width wd) (m : Mesh) (ss : List Slot) (v : Valid m ss)
   worst-to (suc n) h =
       let ks = kernelsOf (take n ss) in
       rw (
-        status-held wd fm m ss (v .slots) ys n h,
+        status-held wd fm m ss (v .places) ys n h,
         worst-to n (omega arith),
         worst-one n h (worstFrom (m .radius) +0 ks) (getD ss n empty) refl (v .within n),
-        take-suc ss n empty (rw (v .slots) h),
+        take-suc ss n empty (rw (v .places) h),
         kernels-snoc (take n ss) (getD ss n empty),
         worst-append (m .radius) +0 ks (kernelOf (getD ss n empty)),
       ) refl
 
   all : take 32 ss ≡ ss
-  all = take-all 32 ss (rw (v .slots) (omega arith))
+  all = take-all 32 ss (rw (v .places) (omega arith))
 
   faces-held : facesOf WS ≡ m .faces
   unfolding wordsOf
@@ -145,15 +145,15 @@ module _ (wd : ℕ) (fm : Width wd) (m : Mesh) (ss : List Slot) (v : Valid m ss)
   verts-held = refl
 
   body-held : bodyVolume (held wd FS WS (vertsOf WS) (facesOf WS)) (facesOf WS) ≡ bodyVolume (triangles m) (m .faces)
-  body-held = rw (verts-held, faces-held, coords-held wd fm m ss (v .slots) xs (v .mesh .coords), corners-held wd fm m ss (v .slots) ys (v .mesh .corners)) refl
+  body-held = rw (verts-held, faces-held, coords-held wd fm m ss (v .places) xs (v .mesh .coords), corners-held wd fm m ss (v .places) ys (v .mesh .corners)) refl
 
   -- with nothing left a reading sees what is worked afresh
   whole-seen : leftSum m ss ≡ 0 → heldSeen wd FS WS ≡ freshSeen m ss
   unfolding heldSeen freshSeen
   whole-seen z =
       same-seen (whole-all wd fm m ss v xs ys z) body-held
-      (filled-to 32 (omega arith) ∙ ap (λ (l : List Slot). length (kernelsOf l)) all)
-      (worst-to 32 (omega arith) ∙ ap (λ (l : List Slot). worstFrom (m .radius) +0 (kernelsOf l)) all)
+      (filled-to 32 (omega arith) ∙ ap (λ (l : List Place). length (kernelsOf l)) all)
+      (worst-to 32 (omega arith) ∙ ap (λ (l : List Place). worstFrom (m .radius) +0 (kernelsOf l)) all)
 
   bare-seen : map bare (heldSeen wd FS WS .parts) ≡ map bare (freshSeen m ss .parts)
   unfolding heldSeen freshSeen

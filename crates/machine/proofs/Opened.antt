@@ -14,13 +14,13 @@ use Rattle.layout.specs.Layout.{coordsFrom, cornersFrom}
 use Rattle.layout.specs.After.{after}
 use Rattle.store.specs.Calls.{openCheck, openFloats, openWords, openStep}
 use Rattle.store.specs.OpenLaws.{open-passes}
-use Rattle.machine.specs.Machine.{Mesh, Slot, empty, meshOf}
+use Rattle.machine.specs.Machine.{Mesh, Place, empty, meshOf}
 use Rattle.machine.specs.Holding.{flat, placeRow, floats7, floats48, floatsOf, wordsOf, excessF, excessW}
 use Rattle.machine.specs.Valid.{Within, Valid}
 use Rattle.machine.proofs.Rows.{Width, width3}
 
 -- ---- zeros
-flat-same : {A : Type 0} (g : Slot → List A) (k : ℕ) (z : A) → g empty ≡ replicate k z → (n : ℕ) → flat (map g (replicate n empty)) ≡ replicate (k * n) z
+flat-same : {A : Type 0} (g : Place → List A) (k : ℕ) (z : A) → g empty ≡ replicate k z → (n : ℕ) → flat (map g (replicate n empty)) ≡ replicate (k * n) z
 flat-same g k z e zero = rw mul-zero refl
 flat-same g k z e (suc n) =
     let q : k + k * n ≡ k * suc n = rw mul-suc (omega arith) in
@@ -84,6 +84,6 @@ module _ (wd : ℕ) (fm : Width wd) (r : Float) (xs : List Float) (ks : List ℕ
       let y = div-add-mod' (length ks) 3 in
       record {
         mesh = record { coords = omega (arith, g .coords, x); corners = omega (arith, g .corners, y); verts = g .verts; faces = g .faces; below = g .below };
-        slots = length-replicate 32 empty;
+        places = length-replicate 32 empty;
         within = λ i. subst (Within M) (sym (none-at 32 i)) (tt {0});
       }

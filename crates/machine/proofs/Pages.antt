@@ -17,7 +17,7 @@ use Rattle.layout.specs.Layout.{facesOf}
 use Rattle.readings.specs.Readings.{rawMass, heldAt}
 use Rattle.readings.specs.Checks.{readCheck}
 use Rattle.page.specs.Page.{Row, row, paged, pageAnswer, rowAt, heldRows, guardedPage, pageStep}
-use Rattle.machine.specs.Machine.{Mesh, Slot, empty, full, leftSum}
+use Rattle.machine.specs.Machine.{Mesh, Place, empty, full, leftSum}
 use Rattle.machine.specs.Holding.{placeRow, wordsOf}
 use Rattle.machine.specs.Fresh.{massOf, piecesOf, freshRow, freshRows, pageAfresh}
 use Rattle.machine.specs.Valid.{Within, Valid}
@@ -26,10 +26,10 @@ use Rattle.machine.proofs.Sixteen.{laidOut}
 use Rattle.machine.proofs.Held.{status-held}
 use Rattle.machine.proofs.Sane.{no-fault}
 use Rattle.machine.proofs.Sweep.{left-held}
-use Rattle.machine.proofs.Read.{whole-slot}
-use Rattle.machine.proofs.Afresh.{slot-mass}
+use Rattle.machine.proofs.Read.{whole-place}
+use Rattle.machine.proofs.Afresh.{place-mass}
 
-module _ (wd : ℕ) (fm : Width wd) (m : Mesh) (ss : List Slot) (v : Valid m ss) (xs : List Float) (ys : List ℕ) where
+module _ (wd : ℕ) (fm : Width wd) (m : Mesh) (ss : List Place) (v : Valid m ss) (xs : List Float) (ys : List ℕ) where
   abbrev FS : List Float
   FS = laidOut m ss xs
 
@@ -37,7 +37,7 @@ module _ (wd : ℕ) (fm : Width wd) (m : Mesh) (ss : List Slot) (v : Valid m ss)
   WS = wordsOf m ss ys
 
   -- one place more, behind
-  rows-snoc : (i : ℕ) (l : List Slot) (s : Slot) → freshRows m i (l ++ (s ∷ [])) ≡ freshRows m i l ++ freshRow m (i + length l) s
+  rows-snoc : (i : ℕ) (l : List Place) (s : Place) → freshRows m i (l ++ (s ∷ [])) ≡ freshRows m i l ++ freshRow m (i + length l) s
   rows-snoc i [] s = append-nil (freshRow m i s) ∙ ap (λ (k : ℕ). freshRow m k s) (let e : i ≡ i + 0 = omega arith in e)
   rows-snoc i (x ∷ l) s =
       let e : suc i + length l ≡ i + length (x ∷ l) = omega arith in
@@ -45,30 +45,30 @@ module _ (wd : ℕ) (fm : Width wd) (m : Mesh) (ss : List Slot) (v : Valid m ss)
       ∙ sym (append-assoc (freshRow m i x) (freshRows m (suc i) l) (freshRow m (i + length (x ∷ l)) s))
 
   module _ (none : leftSum m ss ≡ 0) where
-    row-held : (i : ℕ) → i < 32 → (s : Slot) → getD ss i empty ≡ s → Within m s → rowAt FS i (getD (placeRow m s) 0 0) ≡ freshRow m i s
+    row-held : (i : ℕ) → i < 32 → (s : Place) → getD ss i empty ≡ s → Within m s → rowAt FS i (getD (placeRow m s) 0 0) ≡ freshRow m i s
     row-held i h empty e w = refl
     row-held i h (full k fit p) e w =
         let n : eqb (1 + fit .count) 0 ≡ false = ne-eqb (1 + fit .count) 0 (λ z. omega arith) in
         let c : 1 + fit .count - 1 ≡ fit .count = omega arith in
-        let a = ap rawMass (whole-slot wd fm m ss v xs ys none i h (full k fit p) e w) ∙ slot-mass m (v .mesh) k fit p in
+        let a = ap rawMass (whole-place wd fm m ss v xs ys none i h (full k fit p) e w) ∙ place-mass m (v .mesh) k fit p in
         rw (n, a, c) (ap (λ (f : Pieces). row i (f .count) (massOf m (piecesOf (m .radius) k)) ∷ []) (w .fitted))
 
     rows-to : (n : ℕ) → n ≤ 32 → heldRows wd FS WS n ≡ freshRows m 0 (take n ss)
     unfolding heldRows
     rows-to zero h = refl
     rows-to (suc n) h =
-        let l : 0 + length (take n ss) ≡ n = omega (arith, length-take-le n ss (rw (v .slots) (omega arith))) in
+        let l : 0 + length (take n ss) ≡ n = omega (arith, length-take-le n ss (rw (v .places) (omega arith))) in
         rw (
-          status-held wd fm m ss (v .slots) ys n h,
+          status-held wd fm m ss (v .places) ys n h,
           rows-to n (omega arith),
           row-held n h (getD ss n empty) refl (v .within n),
-          take-suc ss n empty (rw (v .slots) h),
+          take-suc ss n empty (rw (v .places) h),
           rows-snoc 0 (take n ss) (getD ss n empty),
           l,
         ) refl
 
     rows-held : heldRows wd FS WS 32 ≡ freshRows m 0 ss
-    rows-held = rows-to 32 (omega arith) ∙ ap (freshRows m 0) (take-all 32 ss (rw (v .slots) (omega arith)))
+    rows-held = rows-to 32 (omega arith) ∙ ap (freshRows m 0) (take-all 32 ss (rw (v .places) (omega arith)))
 
   faces-held : facesOf WS ≡ m .faces
   unfolding wordsOf

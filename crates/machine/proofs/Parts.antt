@@ -10,7 +10,7 @@ use Rattle.kernel.specs.declared.kernel.Kernel.{Kernel}
 use Rattle.pieces.specs.declared.pieces.Pieces.{Pieces}
 use Rattle.pieces.specs.Pieces.{decomposed, pieceAlpha}
 use Rattle.readings.specs.Readings.{Part, Seen, seeing}
-use Rattle.machine.specs.Machine.{Mesh, Slot, empty, full}
+use Rattle.machine.specs.Machine.{Mesh, Place, empty, full}
 use Rattle.machine.specs.Holding.{triangles}
 use Rattle.machine.specs.Fresh.{kernelsOf, worstFrom}
 
@@ -33,13 +33,13 @@ freshAt m k fit zero = []
 freshAt m k fit (suc n) = freshAt m k fit n ++ (freshPart m k fit n ∷ [])
 
 -- a place, "decomposed"
-abbrev pub freshSlot : Mesh → Slot → List Part
-freshSlot m empty = []
-freshSlot m (full k fit p) = freshAt m k (decomposed k (m .radius)) (decomposed k (m .radius) .count)
+abbrev pub freshPlace : Mesh → Place → List Part
+freshPlace m empty = []
+freshPlace m (full k fit p) = freshAt m k (decomposed k (m .radius)) (decomposed k (m .radius) .count)
 
-abbrev pub freshAll : Mesh → List Slot → List Part
+abbrev pub freshAll : Mesh → List Place → List Part
 freshAll m [] = []
-freshAll m (s ∷ ss) = freshSlot m s ++ freshAll m ss
+freshAll m (s ∷ ss) = freshPlace m s ++ freshAll m ss
 
-unfoldable pub freshSeen : Mesh → List Slot → Seen
+unfoldable pub freshSeen : Mesh → List Place → Seen
 freshSeen m ss = seeing (freshAll m ss) (bodyVolume (triangles m) (m .faces)) (length (kernelsOf ss)) (worstFrom (m .radius) +0 (kernelsOf ss))

@@ -12,11 +12,11 @@ use Rattle.kernel.specs.Field.{centreOf}
 use Rattle.kernel.specs.declared.kernel.Kernel.{Kernel}
 use Rattle.pieces.specs.declared.pieces.Pieces.{Pieces}
 use Rattle.readings.specs.Readings.{Part, bare, heldPart, heldAt, heldAll}
-use Rattle.machine.specs.Machine.{Mesh, Slot, empty, full, need, leftSlot, leftSum}
+use Rattle.machine.specs.Machine.{Mesh, Place, empty, full, need, leftPlace, leftSum}
 use Rattle.machine.specs.Holding.{triangles, cells, placeRow, wordsOf}
 use Rattle.machine.proofs.Rows.{Width}
 use Rattle.machine.proofs.Sixteen.{laidOut}
-use Rattle.machine.proofs.Parts.{freshPart, freshAt, freshSlot, freshAll}
+use Rattle.machine.proofs.Parts.{freshPart, freshAt, freshPlace, freshAll}
 use Rattle.machine.specs.Valid.{Within, Valid}
 use Rattle.machine.proofs.Held.{get7, get48, status-held}
 
@@ -56,7 +56,7 @@ module _ (m : Mesh) (k : Kernel) (fit : Pieces) where
       rw (i, e) (getD-append-add (getD (fit .sigma) j nan ∷ getD (fit .coefficient) j nan ∷ volumeTo (triangles m) (centreOf k) (getD (fit .sigma) j nan) (min (m .faces) t) ∷ []) (cells m k fit n (suc j) (t - m .faces)) (3 * u + 2) nan
       ∙ cell-volume n (suc j) (t - m .faces) u (omega arith) (omega arith))
 
-module _ (wd : ℕ) (fm : Width wd) (m : Mesh) (ss : List Slot) (v : Valid m ss) (xs : List Float) (ys : List ℕ) where
+module _ (wd : ℕ) (fm : Width wd) (m : Mesh) (ss : List Place) (v : Valid m ss) (xs : List Float) (ys : List ℕ) where
   abbrev FS : List Float
   FS = laidOut m ss xs
 
@@ -68,17 +68,17 @@ module _ (wd : ℕ) (fm : Width wd) (m : Mesh) (ss : List Slot) (v : Valid m ss)
     few-in = subst (Within m) e (v .within i) .few
 
     seven-at : (j : ℕ) → j < 7 → getD FS (1 + (7 * i + j)) nan ≡ getD (getD (k .c) 0 nan ∷ getD (k .c) 1 nan ∷ getD (k .c) 2 nan ∷ k .sigma ∷ k .w ∷ k .alpha ∷ fit .error ∷ []) j nan
-    seven-at j hj = rw (get7 wd fm m ss (v .slots) xs i h j hj, e) refl
+    seven-at j hj = rw (get7 wd fm m ss (v .places) xs i h j hj, e) refl
 
     pub bare-held : (j : ℕ) → j < fit .count → bare (heldPart FS i j) ≡ bare (freshPart m k fit j)
     bare-held j hj =
         let z : 0 + j ≡ j = omega arith in
         let s0 : getD FS (225 + 48 * i + 3 * j) nan ≡ getD (fit .sigma) j nan
         = (let q : 225 + 48 * i + 3 * j ≡ 225 + (48 * i + 3 * j) = omega arith in
-        rw (q, get48 wd fm m ss (v .slots) xs i h (3 * j) (omega (arith, few-in)), e) (rw z at (cell-sigma m k fit 16 0 p j (omega (arith, few-in))))) in
+        rw (q, get48 wd fm m ss (v .places) xs i h (3 * j) (omega (arith, few-in)), e) (rw z at (cell-sigma m k fit 16 0 p j (omega (arith, few-in))))) in
         let s1 : getD FS (225 + 48 * i + 3 * j + 1) nan ≡ getD (fit .coefficient) j nan
         = (let q : 225 + 48 * i + 3 * j + 1 ≡ 225 + (48 * i + (3 * j + 1)) = omega arith in
-        rw (q, get48 wd fm m ss (v .slots) xs i h (3 * j + 1) (omega (arith, few-in)), e) (rw z at (cell-coefficient m k fit 16 0 p j (omega (arith, few-in))))) in
+        rw (q, get48 wd fm m ss (v .places) xs i h (3 * j + 1) (omega (arith, few-in)), e) (rw z at (cell-coefficient m k fit 16 0 p j (omega (arith, few-in))))) in
         let c0 : 1 + 7 * i ≡ 1 + (7 * i + 0) = omega arith in
         let c1 : 2 + 7 * i ≡ 1 + (7 * i + 1) = omega arith in
         let c2 : 3 + 7 * i ≡ 1 + (7 * i + 2) = omega arith in
@@ -91,7 +91,7 @@ module _ (wd : ℕ) (fm : Width wd) (m : Mesh) (ss : List Slot) (v : Valid m ss)
         let q : 225 + 48 * i + 3 * j + 2 ≡ 225 + (48 * i + (3 * j + 2)) = omega arith in
         let z : 0 + j ≡ j = omega arith in
         let l : suc j * m .faces ≤ fit .count * m .faces = mul-le-mul hj (le-refl (m .faces)) in
-        rw (q, get48 wd fm m ss (v .slots) xs i h (3 * j + 2) (omega (arith, few-in)), e) (rw z at (cell-volume m k fit 16 0 p j (omega (arith, few-in)) (omega arith)))
+        rw (q, get48 wd fm m ss (v .places) xs i h (3 * j + 2) (omega (arith, few-in)), e) (rw z at (cell-volume m k fit 16 0 p j (omega (arith, few-in)) (omega arith)))
 
   -- by any function g of a part on which the two agree
   module _ {B : Type 0} (g : Part → B) (ag : (i : ℕ) → i < 32 → (k : Kernel) (fit : Pieces) (p : ℕ) → getD ss i empty ≡ full k fit p → (j : ℕ) → j < fit .count → g (heldPart FS i j) ≡ g (freshPart m k fit j)) where
@@ -101,38 +101,38 @@ module _ (wd : ℕ) (fm : Width wd) (m : Mesh) (ss : List Slot) (v : Valid m ss)
         rw (map-append g (heldAt FS i j) (heldPart FS i j ∷ []), parts-to i h k fit p e j (omega arith), map-append g (freshAt m k fit j) (freshPart m k fit j ∷ []))
         (ap (λ (b : B). map g (freshAt m k fit j) ++ (b ∷ [])) (ag i h k fit p e j hj))
 
-    slot-held : (i : ℕ) → i < 32 → (s : Slot) → getD ss i empty ≡ s → Within m s → map g (heldAt FS i (getD (placeRow m s) 0 0 - 1)) ≡ map g (freshSlot m s)
-    slot-held i h empty e w = refl
-    slot-held i h (full k fit p) e w =
+    place-held : (i : ℕ) → i < 32 → (s : Place) → getD ss i empty ≡ s → Within m s → map g (heldAt FS i (getD (placeRow m s) 0 0 - 1)) ≡ map g (freshPlace m s)
+    place-held i h empty e w = refl
+    place-held i h (full k fit p) e w =
         let n : 1 + fit .count - 1 ≡ fit .count = omega arith in
         rw n (parts-to i h k fit p e (fit .count) (omega arith) ∙ ap (λ (f : Pieces). map g (freshAt m k f (f .count))) (w .fitted))
 
-    fresh-snoc : (l : List Slot) (s : Slot) → freshAll m (l ++ (s ∷ [])) ≡ freshAll m l ++ freshSlot m s
-    fresh-snoc [] s = append-nil (freshSlot m s)
-    fresh-snoc (x ∷ l) s = ap (λ (t : List Part). freshSlot m x ++ t) (fresh-snoc l s) ∙ sym (append-assoc (freshSlot m x) (freshAll m l) (freshSlot m s))
+    fresh-snoc : (l : List Place) (s : Place) → freshAll m (l ++ (s ∷ [])) ≡ freshAll m l ++ freshPlace m s
+    fresh-snoc [] s = append-nil (freshPlace m s)
+    fresh-snoc (x ∷ l) s = ap (λ (t : List Part). freshPlace m x ++ t) (fresh-snoc l s) ∙ sym (append-assoc (freshPlace m x) (freshAll m l) (freshPlace m s))
 
     held-to : (n : ℕ) → n ≤ 32 → map g (heldAll wd FS WS n) ≡ map g (freshAll m (take n ss))
     unfolding heldAll
     held-to zero h = refl
     held-to (suc n) h =
         rw (
-          status-held wd fm m ss (v .slots) ys n h,
+          status-held wd fm m ss (v .places) ys n h,
           map-append g (heldAll wd FS WS n) (heldAt FS n (getD (placeRow m (getD ss n empty)) 0 0 - 1)),
           held-to n (omega arith),
-          slot-held n h (getD ss n empty) refl (v .within n),
-          take-suc ss n empty (rw (v .slots) h),
+          place-held n h (getD ss n empty) refl (v .within n),
+          take-suc ss n empty (rw (v .places) h),
           fresh-snoc (take n ss) (getD ss n empty),
-          map-append g (freshAll m (take n ss)) (freshSlot m (getD ss n empty)),
+          map-append g (freshAll m (take n ss)) (freshPlace m (getD ss n empty)),
         ) refl
 
     held-all : map g (heldAll wd FS WS 32) ≡ map g (freshAll m ss)
-    held-all = held-to 32 (omega arith) ∙ ap (λ (l : List Slot). map g (freshAll m l)) (take-all 32 ss (rw (v .slots) (omega arith)))
+    held-all = held-to 32 (omega arith) ∙ ap (λ (l : List Place). map g (freshAll m l)) (take-all 32 ss (rw (v .places) (omega arith)))
 
   -- but for volumes, whatever is left
   pub bare-all : map bare (heldAll wd FS WS 32) ≡ map bare (freshAll m ss)
   bare-all = held-all bare bare-held
 
-  none-left : (l : List Slot) (i : ℕ) → leftSum m l ≡ 0 → leftSlot m (getD l i empty) ≡ 0
+  none-left : (l : List Place) (i : ℕ) → leftSum m l ≡ 0 → leftPlace m (getD l i empty) ≡ 0
   none-left [] i e = refl
   none-left (s ∷ l) zero e = omega arith
   none-left (s ∷ l) (suc i) e = none-left l i (omega arith)
@@ -141,7 +141,7 @@ module _ (wd : ℕ) (fm : Width wd) (m : Mesh) (ss : List Slot) (v : Valid m ss)
   module _ (none : leftSum m ss ≡ 0) where
     agree : (i : ℕ) → i < 32 → (k : Kernel) (fit : Pieces) (p : ℕ) → getD ss i empty ≡ full k fit p → (j : ℕ) → j < fit .count → heldPart FS i j ≡ freshPart m k fit j
     agree i h k fit p e j hj =
-        let z : need m fit - p ≡ 0 = subst (λ (s : Slot). leftSlot m s ≡ 0) e (none-left ss i none) in
+        let z : need m fit - p ≡ 0 = subst (λ (s : Place). leftPlace m s ≡ 0) e (none-left ss i none) in
         let y = subst (Within m) e (v .within i) .steps in
         ap (λ (b : Kernel). record { kernel = b; volume = heldPart FS i j .volume }) (bare-held i h k fit p e j hj)
         ∙ ap (λ (x : Float). record { kernel = freshPart m k fit j .kernel; volume = x }) (volume-held i h k fit p e (omega arith) j hj)
@@ -150,5 +150,5 @@ module _ (wd : ℕ) (fm : Width wd) (m : Mesh) (ss : List Slot) (v : Valid m ss)
     whole-all = sym (map-id (heldAll wd FS WS 32)) ∙ (held-all (λ (x : Part). x) agree ∙ map-id (freshAll m ss))
 
     -- place by place
-    pub whole-slot : (i : ℕ) → i < 32 → (s : Slot) → getD ss i empty ≡ s → Within m s → heldAt FS i (getD (placeRow m s) 0 0 - 1) ≡ freshSlot m s
-    whole-slot i h s e w = sym (map-id (heldAt FS i (getD (placeRow m s) 0 0 - 1))) ∙ (slot-held (λ (x : Part). x) agree i h s e w ∙ map-id (freshSlot m s))
+    pub whole-place : (i : ℕ) → i < 32 → (s : Place) → getD ss i empty ≡ s → Within m s → heldAt FS i (getD (placeRow m s) 0 0 - 1) ≡ freshPlace m s
+    whole-place i h s e w = sym (map-id (heldAt FS i (getD (placeRow m s) 0 0 - 1))) ∙ (place-held (λ (x : Part). x) agree i h s e w ∙ map-id (freshPlace m s))

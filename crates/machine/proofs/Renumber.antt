@@ -165,7 +165,7 @@ abbrev thinner : Machine → Machine
 thinner m =
     record {
       mesh = thinned (m .mesh);
-      slots = m .slots;
+      places = m .places;
       charged = m .charged;
       dropped = m .dropped;
       freed = freedBy (m .mesh) + m .freed;
@@ -225,7 +225,7 @@ module _ (p q : ℕ → ℕ) (xs : List Float) (ks : List ℕ) (ys : List Float)
       ap distinct (e .corners) ∙ distinct-map p ks (λ i j h g z. sym (taken-back i h) ∙ (ap q z ∙ taken-back j g))
 
 -- ---- the store
-store-told : (exF : List Float) (exW : List ℕ) (cs : List Call) (m : Machine) → Valid (m .mesh) (m .slots)
+store-told : (exF : List Float) (exW : List ℕ) (cs : List Call) (m : Machine) → Valid (m .mesh) (m .places)
     → answers width (holding m exF exW) cs ≡ toldBy m cs
 store-told exF exW [] m v = refl
 store-told exF exW (c ∷ cs) m v =
@@ -235,7 +235,7 @@ store-told exF exW (c ∷ cs) m v =
 
 module _ (r : Float) (xs : List Float) (ks : List ℕ) (fs : List Float) (ws : List ℕ)
     (h : openRow width xs ks (length fs) (length ws) ≡ 0) where
-  valid : Valid (opened r xs ks .mesh) (opened r xs ks .slots)
+  valid : Valid (opened r xs ks .mesh) (opened r xs ks .places)
   valid = opened-valid width width3 r xs ks (length fs) (length ws) (passed width width3 r xs ks fs ws h)
 
   opened-reply : openStep width fs ws r xs ks .reply ≡ counted (length xs / 3 ∷ length ks / 3 ∷ [])

@@ -12,8 +12,8 @@ use borrow.Author.Tests.{lt-ltb, le-leb, eq-eqb, ne-eqb, eqb-true, eqb-false}
 use Rattle.base.specs.declared.refusal.Checked.the-variants.{Passed}
 use Rattle.mesh.specs.Checks.{vertexLimit, faceLimit}
 use Rattle.layout.specs.Layout.{coordsFrom, cornersFrom, facesOf}
-use Rattle.layout.specs.Soundness.{every, longEnough, slotSound, slotSoundAt, sound, storeCheck}
-use Rattle.machine.specs.Machine.{Mesh, Slot, empty, full}
+use Rattle.layout.specs.Soundness.{every, longEnough, placeSound, placeSoundAt, sound, storeCheck}
+use Rattle.machine.specs.Machine.{Mesh, Place, empty, full}
 use Rattle.machine.specs.Holding.{placeRow, wordsOf}
 use Rattle.machine.specs.Valid.{Within, Valid}
 use Rattle.machine.proofs.Rows.{Width}
@@ -21,8 +21,8 @@ use Rattle.machine.proofs.Sixteen.{laidOut}
 use Rattle.machine.proofs.Held.{status-held, finished-held, done-held, words-long, floats-long, corners-held}
 
 -- the words of n pieces, f faces and p steps are sound
-steps-sound : (n f p : ℕ) → n ≤ 16 → p ≤ n * f → slotSound (1 + n) (cond (eqb f 0) n (p / f)) (p % f) f ≡ true
-unfolding slotSound
+steps-sound : (n f p : ℕ) → n ≤ 16 → p ≤ n * f → placeSound (1 + n) (cond (eqb f 0) n (p / f)) (p % f) f ≡ true
+unfolding placeSound
 steps-sound n f p hn hp = go (eqb f 0) refl
   where
     e1 : 1 + n - 1 ≡ n
@@ -51,32 +51,32 @@ steps-sound n f p hn hp = go (eqb f 0) refl
         let q : 0 < f = omega (arith, eqb-false f 0 e) in
         rw (e1, e0, le-leb (1 + n) 17 (omega arith)) (some q (eqb (p / f) n) refl)
 
-slot-sound : (m : Mesh) (s : Slot) → Within m s → slotSound (getD (placeRow m s) 0 0) (getD (placeRow m s) 1 0) (getD (placeRow m s) 2 0) (m .faces) ≡ true
-unfolding slotSound
-slot-sound m empty h = refl
-slot-sound m (full k fit p) h = steps-sound (fit .count) (m .faces) p (h .few) (h .steps)
+place-sound : (m : Mesh) (s : Place) → Within m s → placeSound (getD (placeRow m s) 0 0) (getD (placeRow m s) 1 0) (getD (placeRow m s) 2 0) (m .faces) ≡ true
+unfolding placeSound
+place-sound m empty h = refl
+place-sound m (full k fit p) h = steps-sound (fit .count) (m .faces) p (h .few) (h .steps)
 
-module _ (wd : ℕ) (fm : Width wd) (m : Mesh) (ss : List Slot) (v : Valid m ss) (xs : List Float) (ys : List ℕ) where
+module _ (wd : ℕ) (fm : Width wd) (m : Mesh) (ss : List Place) (v : Valid m ss) (xs : List Float) (ys : List ℕ) where
   faces-held : facesOf (wordsOf m ss ys) ≡ m .faces
   unfolding wordsOf
   faces-held = refl
 
-  slots-sound : (n : ℕ) → n ≤ 32 → every (slotSoundAt wd (wordsOf m ss ys)) n ≡ true
-  unfolding every slotSoundAt
-  slots-sound zero h = refl
-  slots-sound (suc n) h =
-      rw (slots-sound n (omega arith), status-held wd fm m ss (v .slots) ys n h, finished-held wd fm m ss (v .slots) ys n h, done-held wd fm m ss (v .slots) ys n h, faces-held)
-      (slot-sound m (getD ss n empty) (v .within n))
+  places-sound : (n : ℕ) → n ≤ 32 → every (placeSoundAt wd (wordsOf m ss ys)) n ≡ true
+  unfolding every placeSoundAt
+  places-sound zero h = refl
+  places-sound (suc n) h =
+      rw (places-sound n (omega arith), status-held wd fm m ss (v .places) ys n h, finished-held wd fm m ss (v .places) ys n h, done-held wd fm m ss (v .places) ys n h, faces-held)
+      (place-sound m (getD ss n empty) (v .within n))
 
   pub no-fault : storeCheck wd (laidOut m ss xs) (wordsOf m ss ys) ≡ Passed
   unfolding storeCheck longEnough sound wordsOf
   no-fault =
       rw (
-        le-leb (cornersFrom wd + 3 * m .faces) (length (wordsOf m ss ys)) (words-long wd fm m ss (v .slots) ys (v .mesh .corners)),
-        le-leb (coordsFrom + 3 * m .verts) (length (laidOut m ss xs)) (floats-long wd fm m ss (v .slots) xs (v .mesh .coords)),
+        le-leb (cornersFrom wd + 3 * m .faces) (length (wordsOf m ss ys)) (words-long wd fm m ss (v .places) ys (v .mesh .corners)),
+        le-leb (coordsFrom + 3 * m .verts) (length (laidOut m ss xs)) (floats-long wd fm m ss (v .places) xs (v .mesh .coords)),
         le-leb (m .verts) vertexLimit (v .mesh .verts),
         le-leb (m .faces) faceLimit (v .mesh .faces),
-        slots-sound 32 (omega arith),
-        corners-held wd fm m ss (v .slots) ys (v .mesh .corners),
+        places-sound 32 (omega arith),
+        corners-held wd fm m ss (v .places) ys (v .mesh .corners),
         v .mesh .below,
       ) refl

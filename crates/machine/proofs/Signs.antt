@@ -34,12 +34,12 @@ use Rattle.pieces.specs.Pieces.{delta, stays, sizeOf, curveOf, itself, fitted, 
 use Rattle.pieces.specs.Kernels.{pieceAt}
 use Rattle.mass.specs.Total.{fieldMass}
 use Rattle.mass.specs.Calls.{kernelVolumeCall, fieldMassCall}
-use Rattle.layout.specs.Layout.{width, slotLimit, pieceFrom}
+use Rattle.layout.specs.Layout.{width, placeLimit, pieceFrom}
 use Rattle.readings.specs.AlongLaws.{stretch-same}
 use Rattle.readings.specs.Readings.{Reading, density, report, list, track, noKernel, origin, rescaled, six, sixes, trackCheck, refusing}
 use Rattle.readings.specs.SixLaws.{whole, sixes-length, at-whole, list-sound, count-of}
 use Rattle.page.specs.Page.{Row, row, pageAnswer}
-use Rattle.machine.specs.Machine.{Mesh, Slot, empty, full, leftSlot, leftSum, adv, bump, Machine, Turn, turn, stepsOf, putTurn, clearTurn, weighed, reweighTurn, opened}
+use Rattle.machine.specs.Machine.{Mesh, Place, empty, full, leftPlace, leftSum, adv, bump, Machine, Turn, turn, stepsOf, putTurn, clearTurn, weighed, reweighTurn, opened}
 use Rattle.machine.specs.Holding.{triangles, cells, excessF, excessW}
 use Rattle.machine.specs.Valid.{Valid}
 use Rattle.machine.specs.Fresh.{kernelsOf, piecesOf, allPieces, worstFrom, valueOf, massOf, originOf, scaledList, readingOn, workedAfresh, freshRow, freshRows, pageAfresh}
@@ -217,21 +217,21 @@ worst-same r e (k ∷ ks) =
     ap (λ (f : Pieces). worstFrom r (greater e (f .error)) (map unsigned ks)) (fit-even k r)
     ∙ worst-same r (greater e (decomposed k r .error)) ks
 
-abbrev unsignedSlot : Slot → Slot
-unsignedSlot empty = empty
-unsignedSlot (full k fit p) = full (unsigned k) (unsignedFit k fit) p
+abbrev unsignedPlace : Place → Place
+unsignedPlace empty = empty
+unsignedPlace (full k fit p) = full (unsigned k) (unsignedFit k fit) p
 
-slot-at : (ss : List Slot) (i : ℕ) → getD (map unsignedSlot ss) i empty ≡ unsignedSlot (getD ss i empty)
-slot-at ss i = List·getD-map unsignedSlot ss i empty
+place-at : (ss : List Place) (i : ℕ) → getD (map unsignedPlace ss) i empty ≡ unsignedPlace (getD ss i empty)
+place-at ss i = List·getD-map unsignedPlace ss i empty
 
-kernels-same : (ss : List Slot) → kernelsOf (map unsignedSlot ss) ≡ map unsigned (kernelsOf ss)
+kernels-same : (ss : List Place) → kernelsOf (map unsignedPlace ss) ≡ map unsigned (kernelsOf ss)
 kernels-same [] = refl
 kernels-same (empty ∷ ss) = kernels-same ss
 kernels-same (full k fit p ∷ ss) = ap (λ (l : List Kernel). unsigned k ∷ l) (kernels-same ss)
 
 module _ (m : Mesh) where
-  afresh-same : (ss : List Slot) (r : Reading)
-      → readSaid r (workedAfresh m (map unsignedSlot ss) r) ≡ readSaid r (workedAfresh m ss r)
+  afresh-same : (ss : List Place) (r : Reading)
+      → readSaid r (workedAfresh m (map unsignedPlace ss) r) ≡ readSaid r (workedAfresh m ss r)
   unfolding workedAfresh
   afresh-same ss r =
       let ks = kernelsOf ss in
@@ -247,44 +247,44 @@ module _ (m : Mesh) where
       let R = m .radius in
       sym (mass-same m (piecesOf R (unsigned k))) ∙ (ap (massOf m) (pieces-same R k) ∙ mass-same m (piecesOf R k))
 
-  row-same : (i : ℕ) (s : Slot) → freshRow m i (unsignedSlot s) ≡ freshRow m i s
+  row-same : (i : ℕ) (s : Place) → freshRow m i (unsignedPlace s) ≡ freshRow m i s
   row-same i empty = refl
   row-same i (full k fit p) =
       ap (λ (f : Pieces). row i (f .count) (massOf m (piecesOf (m .radius) (unsigned k))) ∷ []) (fit-even k (m .radius))
       ∙ ap (λ (x : Float). row i (decomposed k (m .radius) .count) x ∷ []) (mass-alike k)
 
-  rows-same : (i : ℕ) (ss : List Slot) → freshRows m i (map unsignedSlot ss) ≡ freshRows m i ss
+  rows-same : (i : ℕ) (ss : List Place) → freshRows m i (map unsignedPlace ss) ≡ freshRows m i ss
   rows-same i [] = refl
   rows-same i (s ∷ ss) = rw (row-same i s, rows-same (suc i) ss) refl
 
-  page-same : (ss : List Slot) (bs : List ℕ) → pageAfresh m (map unsignedSlot ss) bs ≡ pageAfresh m ss bs
+  page-same : (ss : List Place) (bs : List ℕ) → pageAfresh m (map unsignedPlace ss) bs ≡ pageAfresh m ss bs
   unfolding pageAfresh
   page-same ss bs = ap (λ (rs : List Row). pageAnswer rs bs) (rows-same 0 ss)
 
-  left-same : (s : Slot) → leftSlot m (unsignedSlot s) ≡ leftSlot m s
+  left-same : (s : Place) → leftPlace m (unsignedPlace s) ≡ leftPlace m s
   left-same empty = refl
   left-same (full k fit p) = refl
 
-  left-sum-same : (ss : List Slot) → leftSum m (map unsignedSlot ss) ≡ leftSum m ss
+  left-sum-same : (ss : List Place) → leftSum m (map unsignedPlace ss) ≡ leftSum m ss
   left-sum-same [] = refl
   left-sum-same (s ∷ ss) = rw (left-same s, left-sum-same ss) refl
 
-  adv-same : (u : ℕ) (s : Slot) → adv u (unsignedSlot s) ≡ unsignedSlot (adv u s)
+  adv-same : (u : ℕ) (s : Place) → adv u (unsignedPlace s) ≡ unsignedPlace (adv u s)
   adv-same u empty = refl
   adv-same u (full k fit p) = refl
 
-  bump-same : (ss : List Slot) → bump m (map unsignedSlot ss) ≡ map unsignedSlot (bump m ss)
+  bump-same : (ss : List Place) → bump m (map unsignedPlace ss) ≡ map unsignedPlace (bump m ss)
   bump-same [] = refl
-  bump-same (s ∷ ss) = rw (left-same s, bump-same ss, adv-same 1 s) (go (eqb (leftSlot m s) 0))
+  bump-same (s ∷ ss) = rw (left-same s, bump-same ss, adv-same 1 s) (go (eqb (leftPlace m s) 0))
     where
       go : (b : Bool)
-          → cond b (unsignedSlot s ∷ map unsignedSlot (bump m ss)) (unsignedSlot (adv 1 s) ∷ map unsignedSlot ss)
-          ≡ map unsignedSlot (cond b (s ∷ bump m ss) (adv 1 s ∷ ss))
+          → cond b (unsignedPlace s ∷ map unsignedPlace (bump m ss)) (unsignedPlace (adv 1 s) ∷ map unsignedPlace ss)
+          ≡ map unsignedPlace (cond b (s ∷ bump m ss) (adv 1 s ∷ ss))
       go true = refl
       go false = refl
 
-  bumps-same : (n : ℕ) (ss : List Slot)
-      → iterate (bump m) n (map unsignedSlot ss) ≡ map unsignedSlot (iterate (bump m) n ss)
+  bumps-same : (n : ℕ) (ss : List Place)
+      → iterate (bump m) n (map unsignedPlace ss) ≡ map unsignedPlace (iterate (bump m) n ss)
   bumps-same zero ss = refl
   bumps-same (suc n) ss = ap (bump m) (bumps-same n ss) ∙ bump-same (iterate (bump m) n ss)
 
@@ -313,8 +313,8 @@ module _ (m : Mesh) (k : Kernel) (fit : Pieces) where
       let e : 3 * suc j + 2 ≡ suc (suc (suc (3 * j + 2))) = omega arith in
       rw e (cells-same n (suc i) j (t - m .faces))
 
-held-same : (m : Mesh) (s : Slot) (j : ℕ)
-    → getD (sixteen m (unsignedSlot s)) (3 * j + 2) nan ≡ getD (sixteen m s) (3 * j + 2) nan
+held-same : (m : Mesh) (s : Place) (j : ℕ)
+    → getD (sixteen m (unsignedPlace s)) (3 * j + 2) nan ≡ getD (sixteen m s) (3 * j + 2) nan
 held-same m empty j = refl
 held-same m (full k fit p) j = cells-same m k fit 16 0 j p
 
@@ -323,7 +323,7 @@ abbrev unsignedMachine : Machine → Machine
 unsignedMachine m =
     record {
       mesh = m .mesh;
-      slots = map unsignedSlot (m .slots);
+      places = map unsignedPlace (m .places);
       charged = m .charged;
       dropped = m .dropped;
       freed = m .freed;
@@ -354,7 +354,7 @@ refused-same r false x y z h = h
 
 unseen : (m : Machine) (c : Call) → Unseen m c
 unfolding machine
-unseen m (put i k) = by-turn m (put i k) (λ o. refl) (lift (ltb i slotLimit))
+unseen m (put i k) = by-turn m (put i k) (λ o. refl) (lift (ltb i placeLimit))
   where
     r : Float
     r = m .mesh .radius
@@ -366,48 +366,48 @@ unseen m (put i k) = by-turn m (put i k) (λ o. refl) (lift (ltb i slotLimit))
     lift true =
         rw (
           fit-even k r,
-          slot-at (m .slots) i,
-          left-same (m .mesh) (getD (m .slots) i empty),
-          map-set unsignedSlot (m .slots) i (full k (decomposed k r) 0),
+          place-at (m .places) i,
+          left-same (m .mesh) (getD (m .places) i empty),
+          map-set unsignedPlace (m .places) i (full k (decomposed k r) 0),
         ) refl
     lift false = refl
 unseen m (clear i) =
-    by-turn m (clear i) (λ o. refl) (rw (slot-at (m .slots) i) (lift (ltb i slotLimit) (getD (m .slots) i empty)))
+    by-turn m (clear i) (λ o. refl) (rw (place-at (m .places) i) (lift (ltb i placeLimit) (getD (m .places) i empty)))
   where
-    lift : (b : Bool) (s : Slot)
-        → cond b (clearTurn (unsignedMachine m) i (unsignedSlot s)) (turn (unsignedMachine m) (refused NoPlace))
+    lift : (b : Bool) (s : Place)
+        → cond b (clearTurn (unsignedMachine m) i (unsignedPlace s)) (turn (unsignedMachine m) (refused NoPlace))
         ≡ unsignedTurn (cond b (clearTurn m i s) (turn m (refused NoPlace)))
     lift true empty = refl
-    lift true (full k fit p) = rw (map-set unsignedSlot (m .slots) i empty) refl
+    lift true (full k fit p) = rw (map-set unsignedPlace (m .places) i empty) refl
     lift false s = refl
 unseen m (reweigh i x) =
-    by-turn m (reweigh i x) (λ o. refl) (rw (slot-at (m .slots) i) (lift (ltb i slotLimit) (getD (m .slots) i empty)))
+    by-turn m (reweigh i x) (λ o. refl) (rw (place-at (m .places) i) (lift (ltb i placeLimit) (getD (m .places) i empty)))
   where
-    lift : (b : Bool) (s : Slot)
-        → cond b (reweighTurn (unsignedMachine m) i x (unsignedSlot s)) (turn (unsignedMachine m) (refused NoPlace))
+    lift : (b : Bool) (s : Place)
+        → cond b (reweighTurn (unsignedMachine m) i x (unsignedPlace s)) (turn (unsignedMachine m) (refused NoPlace))
         ≡ unsignedTurn (cond b (reweighTurn m i x s) (turn m (refused NoPlace)))
     lift true empty = refl
-    lift true (full k fit p) = rw (map-set unsignedSlot (m .slots) i (full (weighed k x) fit p)) refl
+    lift true (full k fit p) = rw (map-set unsignedPlace (m .places) i (full (weighed k x) fit p)) refl
     lift false s = refl
 unseen m (advance n) =
-    let ss = iterate (bump (m .mesh)) (stepsOf m n) (m .slots) in
+    let ss = iterate (bump (m .mesh)) (stepsOf m n) (m .places) in
     by-turn m (advance n) (λ o. refl)
     (rw (
-      left-sum-same (m .mesh) (m .slots),
-      bumps-same (m .mesh) (stepsOf m n) (m .slots),
+      left-sum-same (m .mesh) (m .places),
+      bumps-same (m .mesh) (stepsOf m n) (m .places),
       left-sum-same (m .mesh) ss,
     ) refl)
 unseen m squeeze = by-turn m squeeze (λ o. refl) refl
 unseen m (read r) =
-    let ss = m .slots in
+    let ss = m .places in
     record {
       same = rw (left-sum-same (m .mesh) ss)
           (refused-same r (needs r && ltb 0 (leftSum (m .mesh) ss)) (refusing r Unfinished)
-          (workedAfresh (m .mesh) (map unsignedSlot ss) r) (workedAfresh (m .mesh) ss r) (afresh-same (m .mesh) ss r));
+          (workedAfresh (m .mesh) (map unsignedPlace ss) r) (workedAfresh (m .mesh) ss r) (afresh-same (m .mesh) ss r));
       next = refl;
     }
 unseen m (page bs) =
-    by-turn m (page bs) (λ o. refl) (rw (left-sum-same (m .mesh) (m .slots), page-same (m .mesh) (m .slots) bs) refl)
+    by-turn m (page bs) (λ o. refl) (rw (left-sum-same (m .mesh) (m .places), page-same (m .mesh) (m .places) bs) refl)
 
 -- ---- a list of calls
 abbrev saidBy : Machine → List Call → List Heard
@@ -430,7 +430,7 @@ after-same (c ∷ cs) m =
 
 -- ---- the store
 module _ (exF : List Float) (exW : List ℕ) where
-  store-said : (cs : List Call) (m : Machine) → Valid (m .mesh) (m .slots)
+  store-said : (cs : List Call) (m : Machine) → Valid (m .mesh) (m .places)
       → said width (holding m exF exW) cs ≡ saidBy m cs
   store-said [] m v = refl
   store-said (c ∷ cs) m v =
@@ -441,17 +441,17 @@ module _ (exF : List Float) (exW : List ℕ) where
   volumeAt s i j = getD (s .floats) (pieceFrom i j + 2) nan
 
   abbrev placeVolume : Machine → ℕ → ℕ → Float
-  placeVolume m i j = getD (sixteen (m .mesh) (getD (m .slots) i empty)) (3 * j + 2) nan
+  placeVolume m i j = getD (sixteen (m .mesh) (getD (m .places) i empty)) (3 * j + 2) nan
 
-  volume-held : (m : Machine) → Valid (m .mesh) (m .slots) → (i j : ℕ) → i < 32 → j < 16
+  volume-held : (m : Machine) → Valid (m .mesh) (m .places) → (i j : ℕ) → i < 32 → j < 16
       → volumeAt (holding m exF exW) i j ≡ placeVolume (unsignedMachine m) i j
   volume-held m v i j h g =
       let e : pieceFrom i j + 2 ≡ 225 + (48 * i + (3 * j + 2)) = omega arith in
-      rw (e, laid-out (m .mesh) (m .slots) v (past m exF), slot-at (m .slots) i)
-      (get48 width width3 (m .mesh) (m .slots) (v .slots) (past m exF) i h (3 * j + 2) (omega arith)
-      ∙ sym (held-same (m .mesh) (getD (m .slots) i empty) j))
+      rw (e, laid-out (m .mesh) (m .places) v (past m exF), place-at (m .places) i)
+      (get48 width width3 (m .mesh) (m .places) (v .places) (past m exF) i h (3 * j + 2) (omega arith)
+      ∙ sym (held-same (m .mesh) (getD (m .places) i empty) j))
 
-  same-said : (m : Machine) → Valid (m .mesh) (m .slots) → (cs ds : List Call)
+  same-said : (m : Machine) → Valid (m .mesh) (m .places) → (cs ds : List Call)
       → map unsignedCall cs ≡ map unsignedCall ds → SameSaid width (holding m exF exW) cs ds
   same-said m v cs ds h =
       let a = last width width3 exF exW cs m v in

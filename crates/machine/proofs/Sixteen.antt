@@ -14,7 +14,7 @@ use Rattle.kernel.specs.declared.kernel.Kernel.{Kernel}
 use Rattle.pieces.specs.declared.pieces.Pieces.{Pieces}
 use Rattle.pieces.specs.Pieces.{decomposed}
 use Rattle.pieces.specs.PieceLaws.{Clean, clean, at-most-16}
-use Rattle.machine.specs.Machine.{Mesh, Slot, empty, full, need}
+use Rattle.machine.specs.Machine.{Mesh, Place, empty, full, need}
 use Rattle.machine.specs.Holding.{triangles, cells, flat, floats7, floats48, floatsOf}
 use Rattle.machine.specs.Valid.{Okay, Within, Valid}
 
@@ -46,14 +46,14 @@ pub okay : (m : Mesh) (k : Kernel) (fit : Pieces) (p : ℕ) → fit ≡ decompos
 okay m k fit p f h = record { fitted = f; few = subst (λ (x : Pieces). x .count ≤ 16) (sym f) (at-most-16 k (m .radius)); steps = h }
 
 -- ---- a place's floats by sixteen pieces, as the calls write them
-abbrev pub sixteen : Mesh → Slot → List Float
+abbrev pub sixteen : Mesh → Place → List Float
 sixteen m empty = replicate 48 +0
 sixteen m (full k fit p) = cells m k fit 16 0 p
 
-unfoldable pub laidOut : Mesh → List Slot → List Float → List Float
+unfoldable pub laidOut : Mesh → List Place → List Float → List Float
 laidOut m ss xs = m .radius ∷ (flat (map floats7 ss) ++ (flat (map (sixteen m) ss) ++ (m .coords ++ xs)))
 
-place-laid : (m : Mesh) (s : Slot) → Within m s → floats48 m s ≡ sixteen m s
+place-laid : (m : Mesh) (s : Place) → Within m s → floats48 m s ≡ sixteen m s
 place-laid m empty w = refl
 place-laid m (full k fit p) w =
     let n = fit .count in
@@ -66,10 +66,10 @@ place-laid m (full k fit p) w =
     (sym (cells-zero m k fit c (16 - n) (0 + n) (p - n * m .faces) (omega arith) (omega arith) z ∙ ap (λ (j : ℕ). replicate j +0) q))
     ∙ (sym (cells-split m k fit n (16 - n) 0 p) ∙ ap (λ (j : ℕ). cells m k fit j 0 p) e)
 
-places-laid : (m : Mesh) (ss : List Slot) → ((i : ℕ) → Within m (getD ss i empty)) → map (floats48 m) ss ≡ map (sixteen m) ss
+places-laid : (m : Mesh) (ss : List Place) → ((i : ℕ) → Within m (getD ss i empty)) → map (floats48 m) ss ≡ map (sixteen m) ss
 places-laid m [] w = refl
 places-laid m (s ∷ ss) w = rw (place-laid m s (w zero), places-laid m ss (λ i. w (suc i))) refl
 
-pub laid-out : (m : Mesh) (ss : List Slot) → Valid m ss → (xs : List Float) → floatsOf m ss xs ≡ laidOut m ss xs
+pub laid-out : (m : Mesh) (ss : List Place) → Valid m ss → (xs : List Float) → floatsOf m ss xs ≡ laidOut m ss xs
 unfolding floatsOf laidOut
 laid-out m ss v xs = rw (places-laid m ss (v .within)) refl

@@ -23,7 +23,7 @@ use Rattle.store.specs.Marks.{Below}
 use Rattle.store.specs.MarkLaws.{rank-le}
 use Rattle.store.specs.SqueezeLaws.{kept-length, squeezed-length}
 use Rattle.store.specs.TriangleLaws.{same-triangle, still-below}
-use Rattle.machine.specs.Machine.{Mesh, Slot, empty, full, leftSlot, leftSum, slim, freedBy}
+use Rattle.machine.specs.Machine.{Mesh, Place, empty, full, leftPlace, leftSum, slim, freedBy}
 use Rattle.machine.specs.Holding.{triangles, flat, floats7, cells, placeRow, wordsOf}
 use Rattle.machine.specs.Valid.{Within, Shape, Valid}
 use Rattle.machine.proofs.Sixteen.{sixteen, laidOut, okay}
@@ -44,15 +44,15 @@ abbrev pub remesh : Mesh → List Float → List ℕ → ℕ → Mesh
 remesh m xs ks w = record { radius = m .radius; coords = xs; corners = ks; verts = w; faces = m .faces }
 
 module _ (m : Mesh) (xs : List Float) (ks : List ℕ) (w : ℕ) where
-  pub left-same : (s : Slot) → leftSlot (remesh m xs ks w) s ≡ leftSlot m s
+  pub left-same : (s : Place) → leftPlace (remesh m xs ks w) s ≡ leftPlace m s
   left-same empty = refl
   left-same (full k fit p) = refl
 
-  pub left-sum-same : (ss : List Slot) → leftSum (remesh m xs ks w) ss ≡ leftSum m ss
+  pub left-sum-same : (ss : List Place) → leftSum (remesh m xs ks w) ss ≡ leftSum m ss
   left-sum-same [] = refl
   left-sum-same (s ∷ ss) = rw (left-same s, left-sum-same ss) refl
 
-  row-same : (s : Slot) → placeRow (remesh m xs ks w) s ≡ placeRow m s
+  row-same : (s : Place) → placeRow (remesh m xs ks w) s ≡ placeRow m s
   row-same empty = refl
   row-same (full k fit p) = refl
 
@@ -64,7 +64,7 @@ module _ (m : Mesh) (xs : List Float) (ks : List ℕ) (w : ℕ) where
     cells-same k fit zero j t = refl
     cells-same k fit (suc n) j t = rw (volume-same (centreOf k) (getD (fit .sigma) j nan) (min (m .faces) t) (omega arith), cells-same k fit n (suc j) (t - m .faces)) refl
 
-    sixteen-same : (s : Slot) → sixteen (remesh m xs ks w) s ≡ sixteen m s
+    sixteen-same : (s : Place) → sixteen (remesh m xs ks w) s ≡ sixteen m s
     sixteen-same empty = refl
     sixteen-same (full k fit p) = cells-same k fit 16 0 p
 
@@ -80,10 +80,10 @@ squeezed-shape m xs ks w g =
     }
 
 -- ---- the mesh of a machine, squeezed
-left-thin : (m : Mesh) (ss : List Slot) → leftSum (thinned m) ss ≡ leftSum m ss
+left-thin : (m : Mesh) (ss : List Place) → leftSum (thinned m) ss ≡ leftSum m ss
 left-thin m ss = left-sum-same m (keptTo (m .corners) (m .coords) (m .verts)) (renumbered (m .corners)) (rank (m .corners) (m .verts)) ss
 
-module _ (m : Mesh) (ss : List Slot) (v : Valid m ss) where
+module _ (m : Mesh) (ss : List Place) (v : Valid m ss) where
   abbrev kept : List Float
   kept = keptTo (m .corners) (m .coords) (m .verts)
 
@@ -96,7 +96,7 @@ module _ (m : Mesh) (ss : List Slot) (v : Valid m ss) where
   thin-triangles : (f : ℕ) → f < m .faces → triangleAt kept (renumbered (m .corners)) f ≡ triangles m f
   thin-triangles f h = same-triangle (m .corners) (m .coords) (m .verts) below f (omega (arith, v .mesh .corners))
 
-  within-thin : (s : Slot) → Within m s → Within (thinned m) s
+  within-thin : (s : Place) → Within m s → Within (thinned m) s
   within-thin empty h = h
   within-thin (full k fit p) h = okay (thinned m) k fit p (h .fitted) (h .steps)
 
@@ -104,7 +104,7 @@ module _ (m : Mesh) (ss : List Slot) (v : Valid m ss) where
   thin-valid =
       record {
         mesh = squeezed-shape m (m .coords) (m .corners) (m .verts) (v .mesh);
-        slots = v .slots;
+        places = v .places;
         within = λ i. within-thin (getD ss i empty) (v .within i);
       }
 
@@ -117,7 +117,7 @@ module _ (m : Mesh) (ss : List Slot) (v : Valid m ss) where
   pub left-slim : leftSum (slim m) ss ≡ leftSum m ss
   left-slim = rw same-mesh (left-thin m ss)
 
-module _ (wd : ℕ) (fm : Width wd) (m : Mesh) (ss : List Slot) (v : Valid m ss) where
+module _ (wd : ℕ) (fm : Width wd) (m : Mesh) (ss : List Place) (v : Valid m ss) where
   regroup : (a : List Float) (n g : ℕ) (xs : List Float) → (a ++ replicate n +0) ++ (replicate g +0 ++ xs) ≡ a ++ (replicate (n + g) +0 ++ xs)
   regroup a n g xs =
       append-assoc a (replicate n +0) (replicate g +0 ++ xs)
@@ -134,7 +134,7 @@ module _ (wd : ℕ) (fm : Width wd) (m : Mesh) (ss : List Slot) (v : Valid m ss)
       let vs = squeezed (m .corners) (m .coords) (m .verts) in
       let k = kept m ss v in
       let past = replicate (freedOf (m .corners) (m .verts) + g) +0 ++ xs in
-      let n : length p ≡ coordsFrom = rw (length-append, flat-length 7 (map floats7 ss) (each7 wd fm m ss), flat-length 48 (map (sixteen m) ss) (each48 wd fm m ss), length-map, length-map, v .slots) refl in
+      let n : length p ≡ coordsFrom = rw (length-append, flat-length 7 (map floats7 ss) (each7 wd fm m ss), flat-length 48 (map (sixteen m) ss) (each48 wd fm m ss), length-map, length-map, v .places) refl in
       let l : length vs ≡ length (m .coords) = squeezed-length (m .corners) (m .coords) (m .verts) ∙ sym (v .mesh .coords) in
       let s : map (sixteen (thinned m)) ss ≡ map (sixteen m) ss = map-congr-left {l = ss} (λ t h. sixteen-same m k (renumbered (m .corners)) (fewer m ss v) (thin-triangles m ss v) t) in
       ap (λ (t : List Float). write t coordsFrom vs) (sym (append-assoc a b (m .coords ++ rest)))
@@ -146,7 +146,7 @@ module _ (wd : ℕ) (fm : Width wd) (m : Mesh) (ss : List Slot) (v : Valid m ss)
   unfolding wordsOf
   words-thinned ys =
       let p = m .verts ∷ m .faces ∷ flat (map (placeRow m) ss) in
-      let n : length p ≡ cornersFrom wd = rw (flat-length wd (map (placeRow m) ss) (each3 wd fm m ss), length-map, v .slots) (omega arith) in
+      let n : length p ≡ cornersFrom wd = rw (flat-length wd (map (placeRow m) ss) (each3 wd fm m ss), length-map, v .places) (omega arith) in
       let s : map (placeRow (thinned m)) ss ≡ map (placeRow m) ss = map-congr-left {l = ss} (λ t h. row-same m (kept m ss v) (renumbered (m .corners)) (fewer m ss v) t) in
       ap (λ (t : List ℕ). set t 0 (rank (m .corners) (m .verts))) (write-mid p (m .corners) (renumbered (m .corners)) ys (cornersFrom wd) n (length-map (m .corners) (rank (m .corners))))
       ∙ ap (λ (r : List (List ℕ)). rank (m .corners) (m .verts) ∷ m .faces ∷ (flat r ++ (renumbered (m .corners) ++ ys))) (sym s)

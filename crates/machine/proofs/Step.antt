@@ -19,7 +19,7 @@ use Rattle.kernel.specs.Field.{centreOf}
 use Rattle.kernel.specs.declared.kernel.Kernel.{Kernel}
 use Rattle.pieces.specs.declared.pieces.Pieces.{Pieces}
 use Rattle.advance.specs.Steps.{Work, work, oneFace}
-use Rattle.machine.specs.Machine.{Mesh, Slot, empty, full, need}
+use Rattle.machine.specs.Machine.{Mesh, Place, empty, full, need}
 use Rattle.machine.specs.Holding.{triangles, finished, cells}
 use Rattle.machine.proofs.Sixteen.{laidOut}
 use Rattle.machine.proofs.Rows.{Width, set-append-add}
@@ -96,7 +96,7 @@ module _ (q f : ℕ) (hf : 0 < f) where
           (sym (n .0), sym (n .1))
 
 module _ (wd : ℕ) (fm : Width wd) where
-  module _ (m : Mesh) (ss : List Slot) (hs : length ss ≡ 32) (xs : List Float) (i : ℕ) (h : i < 32) (k : Kernel) (fit : Pieces) (fw : fit .count ≤ 16) where
+  module _ (m : Mesh) (ss : List Place) (hs : length ss ≡ 32) (xs : List Float) (i : ℕ) (h : i < 32) (k : Kernel) (fit : Pieces) (fw : fit .count ≤ 16) where
     abbrev stepAt : Work → Work
     stepAt = oneFace (triangles m) (centreOf k) (m .faces) (225 + 48 * i) (fit .count)
 
@@ -142,7 +142,7 @@ module _ (wd : ℕ) (fm : Width wd) where
         go true e = refl
         go false e = let z = eqb-false (m .faces) 0 e in next (need m fit) (m .faces) (fit .count) 0 (add-zero (need m fit)) (omega arith) .0
 
-  module _ (m : Mesh) (ss : List Slot) (hs : length ss ≡ 32) (xs : List Float) (i : ℕ) (h : i < 32) (k : Kernel) (fit : Pieces) (p : ℕ) (e : getD ss i empty ≡ full k fit p) (fw : fit .count ≤ 16) (hp : p ≤ need m fit) (n : ℕ) where
+  module _ (m : Mesh) (ss : List Place) (hs : length ss ≡ 32) (xs : List Float) (i : ℕ) (h : i < 32) (k : Kernel) (fit : Pieces) (p : ℕ) (e : getD ss i empty ≡ full k fit p) (fw : fit .count ≤ 16) (hp : p ≤ need m fit) (n : ℕ) where
     abbrev at : ℕ → Work
     at u = work (laidOut m (set ss i (full k fit (p + u))) xs) (finished m fit (p + u)) ((p + u) % m .faces) (n - u)
 

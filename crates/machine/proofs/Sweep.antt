@@ -16,10 +16,10 @@ use Rattle.kernel.specs.Field.{centreOf}
 use Rattle.kernel.specs.declared.kernel.Kernel.{Kernel}
 use Rattle.pieces.specs.declared.pieces.Pieces.{Pieces}
 use Rattle.layout.specs.Layout.{centreAt}
-use Rattle.advance.specs.Steps.{work, Whole, whole, slotWork, stored, slotsRun}
+use Rattle.advance.specs.Steps.{work, Whole, whole, placeWork, stored, placesRun}
 use Rattle.layout.specs.Left.{leftOf}
 use Rattle.advance.proofs.Steps.{idle}
-use Rattle.machine.specs.Machine.{Mesh, Slot, empty, full, need, leftSlot, leftSum, adv, bump}
+use Rattle.machine.specs.Machine.{Mesh, Place, empty, full, need, leftPlace, leftSum, adv, bump}
 use Rattle.machine.specs.Holding.{triangles, finished, placeRow, wordsOf}
 use Rattle.machine.specs.Valid.{Within, Valid}
 use Rattle.machine.proofs.Rows.{Width}
@@ -28,12 +28,12 @@ use Rattle.machine.proofs.Step.{run-steps}
 use Rattle.machine.proofs.Sixteen.{laidOut, okay}
 
 -- n steps, the first places first
-abbrev pub spread : Mesh → ℕ → List Slot → List Slot
+abbrev pub spread : Mesh → ℕ → List Place → List Place
 spread m n [] = []
-spread m n (s ∷ ss) = adv (min n (leftSlot m s)) s ∷ spread m (n - leftSlot m s) ss
+spread m n (s ∷ ss) = adv (min n (leftPlace m s)) s ∷ spread m (n - leftPlace m s) ss
 
 module _ (wd : ℕ) (fm : Width wd) where
-  module _ (m : Mesh) (ss : List Slot) (hs : length ss ≡ 32) (xs : List Float) (ys : List ℕ) (i : ℕ) (h : i < 32) where
+  module _ (m : Mesh) (ss : List Place) (hs : length ss ≡ 32) (xs : List Float) (ys : List ℕ) (i : ℕ) (h : i < 32) where
     pub centre-held : (k : Kernel) (fit : Pieces) (p : ℕ) → getD ss i empty ≡ full k fit p → centreAt (laidOut m ss xs) i ≡ centreOf k
     unfolding centreOf
     centre-held k fit p e =
@@ -43,13 +43,13 @@ module _ (wd : ℕ) (fm : Width wd) where
         rw (a, b, z, get7 wd fm m ss hs xs i h 0 (omega arith), get7 wd fm m ss hs xs i h 1 (omega arith), get7 wd fm m ss hs xs i h 2 (omega arith), e) refl
 
     abbrev spent : ℕ → Whole
-    spent n = stored wd (wordsOf m ss ys) i (slotWork wd (triangles m) (m .faces) i (whole (laidOut m ss xs) (wordsOf m ss ys) n))
+    spent n = stored wd (wordsOf m ss ys) i (placeWork wd (triangles m) (m .faces) i (whole (laidOut m ss xs) (wordsOf m ss ys) n))
 
-    abbrev moved : ℕ → Slot → Whole
-    moved n s = whole (laidOut m (set ss i (adv (min n (leftSlot m s)) s)) xs) (wordsOf m (set ss i (adv (min n (leftSlot m s)) s)) ys) (n - leftSlot m s)
+    abbrev moved : ℕ → Place → Whole
+    moved n s = whole (laidOut m (set ss i (adv (min n (leftPlace m s)) s)) xs) (wordsOf m (set ss i (adv (min n (leftPlace m s)) s)) ys) (n - leftPlace m s)
 
-    place : (n : ℕ) (s : Slot) → getD ss i empty ≡ s → Within m s → spent n ≡ moved n s
-    unfolding slotWork
+    place : (n : ℕ) (s : Place) → getD ss i empty ≡ s → Within m s → spent n ≡ moved n s
+    unfolding placeWork
     place n empty e w =
         let z : set ss i empty ≡ ss = ap (set ss i) (sym e) ∙ set-getD ss i empty in
         let d : n - 0 ≡ n = omega arith in
@@ -84,64 +84,64 @@ module _ (wd : ℕ) (fm : Width wd) where
     place-held n w = place n (getD ss i empty) refl w
 
   module _ (m : Mesh) where
-    pub spread-length : (n : ℕ) (l : List Slot) → length (spread m n l) ≡ length l
+    pub spread-length : (n : ℕ) (l : List Place) → length (spread m n l) ≡ length l
     spread-length n [] = refl
-    spread-length n (s ∷ l) = ap suc (spread-length (n - leftSlot m s) l)
+    spread-length n (s ∷ l) = ap suc (spread-length (n - leftPlace m s) l)
 
-    spread-snoc : (n : ℕ) (l : List Slot) (s : Slot) → spread m n (l ++ (s ∷ [])) ≡ spread m n l ++ (adv (min (n - leftSum m l) (leftSlot m s)) s ∷ [])
+    spread-snoc : (n : ℕ) (l : List Place) (s : Place) → spread m n (l ++ (s ∷ [])) ≡ spread m n l ++ (adv (min (n - leftSum m l) (leftPlace m s)) s ∷ [])
     spread-snoc n [] s = let e : n - 0 ≡ n = omega arith in rw e refl
     spread-snoc n (x ∷ l) s =
-        let e : n - leftSlot m x - leftSum m l ≡ n - (leftSlot m x + leftSum m l) = omega arith in
-        rw (spread-snoc (n - leftSlot m x) l s, e) refl
+        let e : n - leftPlace m x - leftSum m l ≡ n - (leftPlace m x + leftSum m l) = omega arith in
+        rw (spread-snoc (n - leftPlace m x) l s, e) refl
 
-    pub left-snoc : (l : List Slot) (s : Slot) → leftSum m (l ++ (s ∷ [])) ≡ leftSum m l + leftSlot m s
+    pub left-snoc : (l : List Place) (s : Place) → leftSum m (l ++ (s ∷ [])) ≡ leftSum m l + leftPlace m s
     left-snoc [] s = omega arith
     left-snoc (x ∷ l) s = omega (arith, left-snoc l s)
 
-    module _ (ss : List Slot) (v : Valid m ss) (xs : List Float) (ys : List ℕ) (n : ℕ) where
-      abbrev prefix : ℕ → List Slot
+    module _ (ss : List Place) (v : Valid m ss) (xs : List Float) (ys : List ℕ) (n : ℕ) where
+      abbrev prefix : ℕ → List Place
       prefix k = spread m n (take k ss) ++ drop k ss
 
       abbrev swept : ℕ → Whole
       swept k = whole (laidOut m (prefix k) xs) (wordsOf m (prefix k) ys) (n - leftSum m (take k ss))
 
       prefix-split : (k : ℕ) → k < 32 → prefix k ≡ spread m n (take k ss) ++ (getD ss k empty ∷ drop (suc k) ss)
-      prefix-split k h = ap (λ (t : List Slot). spread m n (take k ss) ++ t) (drop-cons ss k empty (rw (v .slots) h))
+      prefix-split k h = ap (λ (t : List Place). spread m n (take k ss) ++ t) (drop-cons ss k empty (rw (v .places) h))
 
       head-length : (k : ℕ) → k ≤ 32 → length (spread m n (take k ss)) ≡ k
-      head-length k h = spread-length n (take k ss) ∙ length-take-le k ss (rw (v .slots) h)
+      head-length k h = spread-length n (take k ss) ∙ length-take-le k ss (rw (v .places) h)
 
       prefix-length : (k : ℕ) → k < 32 → length (prefix k) ≡ 32
       prefix-length k h =
           ap length (prefix-split k h)
           ∙ (length-append (spread m n (take k ss)) (getD ss k empty ∷ drop (suc k) ss)
-          ∙ rw (head-length k (omega arith), length-drop (suc k) ss, v .slots) (omega arith))
+          ∙ rw (head-length k (omega arith), length-drop (suc k) ss, v .places) (omega arith))
 
-      prefix-next : (k : ℕ) → k < 32 → set (prefix k) k (adv (min (n - leftSum m (take k ss)) (leftSlot m (getD ss k empty))) (getD ss k empty)) ≡ prefix (suc k)
+      prefix-next : (k : ℕ) → k < 32 → set (prefix k) k (adv (min (n - leftSum m (take k ss)) (leftPlace m (getD ss k empty))) (getD ss k empty)) ≡ prefix (suc k)
       prefix-next k h =
           let s = getD ss k empty in
-          let a = adv (min (n - leftSum m (take k ss)) (leftSlot m s)) s in
-          rw (prefix-split k h, set-at (spread m n (take k ss)) s (drop (suc k) ss) a k (head-length k (omega arith)), take-suc ss k empty (rw (v .slots) h), spread-snoc n (take k ss) s, append-assoc) refl
+          let a = adv (min (n - leftSum m (take k ss)) (leftPlace m s)) s in
+          rw (prefix-split k h, set-at (spread m n (take k ss)) s (drop (suc k) ss) a k (head-length k (omega arith)), take-suc ss k empty (rw (v .places) h), spread-snoc n (take k ss) s, append-assoc) refl
 
-      pub run-held : (k : ℕ) → k ≤ 32 → slotsRun wd (triangles m) (m .faces) k (whole (laidOut m ss xs) (wordsOf m ss ys) n) ≡ swept k
-      unfolding slotsRun
+      pub run-held : (k : ℕ) → k ≤ 32 → placesRun wd (triangles m) (m .faces) k (whole (laidOut m ss xs) (wordsOf m ss ys) n) ≡ swept k
+      unfolding placesRun
       run-held zero h = let e : n - 0 ≡ n = omega arith in rw e refl
       run-held (suc k) h =
           let s = getD ss k empty in
-          let g : getD (prefix k) k empty ≡ s = ap (λ (t : List Slot). getD t k empty) (prefix-split k h) ∙ getD-at (spread m n (take k ss)) s (drop (suc k) ss) empty k (head-length k (omega arith)) in
-          let q : n - leftSum m (take k ss) - leftSlot m s ≡ n - leftSum m (take (suc k) ss) = rw (take-suc ss k empty (rw (v .slots) h), left-snoc (take k ss) s) (omega arith) in
+          let g : getD (prefix k) k empty ≡ s = ap (λ (t : List Place). getD t k empty) (prefix-split k h) ∙ getD-at (spread m n (take k ss)) s (drop (suc k) ss) empty k (head-length k (omega arith)) in
+          let q : n - leftSum m (take k ss) - leftPlace m s ≡ n - leftSum m (take (suc k) ss) = rw (take-suc ss k empty (rw (v .places) h), left-snoc (take k ss) s) (omega arith) in
           rw (run-held k (omega arith))
           (place-held m (prefix k) (prefix-length k h) xs ys k h (n - leftSum m (take k ss)) (rw g (v .within k)) ∙ rw (g, prefix-next k h, q) refl)
 
-      pub all-held : slotsRun wd (triangles m) (m .faces) 32 (whole (laidOut m ss xs) (wordsOf m ss ys) n) ≡ whole (laidOut m (spread m n ss) xs) (wordsOf m (spread m n ss) ys) (n - leftSum m ss)
+      pub all-held : placesRun wd (triangles m) (m .faces) 32 (whole (laidOut m ss xs) (wordsOf m ss ys) n) ≡ whole (laidOut m (spread m n ss) xs) (wordsOf m (spread m n ss) ys) (n - leftSum m ss)
       all-held =
-          let t : take 32 ss ≡ ss = take-all 32 ss (rw (v .slots) (omega arith)) in
-          let d : drop 32 ss ≡ [] = drop-of-length-le ss {i = 32} (rw (v .slots) (omega arith)) in
+          let t : take 32 ss ≡ ss = take-all 32 ss (rw (v .places) (omega arith)) in
+          let d : drop 32 ss ≡ [] = drop-of-length-le ss {i = 32} (rw (v .places) (omega arith)) in
           run-held 32 (omega arith) ∙ rw (t, d, append-nil) refl
 
   -- ---- the work left
-  slot-left : (n f p : ℕ) → p ≤ n * f → (1 + n - 1 - cond (eqb f 0) n (p / f)) * f - p % f ≡ n * f - p
-  slot-left n f p h = go (eqb f 0) refl
+  place-left : (n f p : ℕ) → p ≤ n * f → (1 + n - 1 - cond (eqb f 0) n (p / f)) * f - p % f ≡ n * f - p
+  place-left n f p h = go (eqb f 0) refl
     where
       go : (b : Bool) → eqb f 0 ≡ b → (1 + n - 1 - cond b n (p / f)) * f - p % f ≡ n * f - p
       go true e = let z : f ≡ 0 = eqb-true f 0 e in rw (z, mul-zero, mul-zero) (omega arith)
@@ -150,27 +150,27 @@ module _ (wd : ℕ) (fm : Width wd) where
           let b : (n - p / f) * f ≡ n * f - p / f * f = mul-comm (n - p / f) f ∙ (mul-sub f n (p / f) ∙ rw (mul-comm f n, mul-comm f (p / f)) refl) in
           rw (a, b) (omega (arith, div-add-mod' p f))
 
-  pub word-left : (m : Mesh) (s : Slot) → Within m s → (getD (placeRow m s) 0 0 - 1 - getD (placeRow m s) 1 0) * m .faces - getD (placeRow m s) 2 0 ≡ leftSlot m s
+  pub word-left : (m : Mesh) (s : Place) → Within m s → (getD (placeRow m s) 0 0 - 1 - getD (placeRow m s) 1 0) * m .faces - getD (placeRow m s) 2 0 ≡ leftPlace m s
   word-left m empty h = let e : 0 - 1 - 0 ≡ 0 = omega arith in rw e (omega arith)
-  word-left m (full k fit p) h = slot-left (fit .count) (m .faces) p (h .steps)
+  word-left m (full k fit p) h = place-left (fit .count) (m .faces) p (h .steps)
 
-  module _ (m : Mesh) (ss : List Slot) (v : Valid m ss) (ys : List ℕ) where
+  module _ (m : Mesh) (ss : List Place) (v : Valid m ss) (ys : List ℕ) where
     left-to : (k : ℕ) → k ≤ 32 → leftOf wd (wordsOf m ss ys) (m .faces) k ≡ leftSum m (take k ss)
     unfolding leftOf
     left-to zero h = refl
     left-to (suc k) h =
         rw (
           left-to k (omega arith),
-          status-held wd fm m ss (v .slots) ys k h,
-          finished-held wd fm m ss (v .slots) ys k h,
-          done-held wd fm m ss (v .slots) ys k h,
+          status-held wd fm m ss (v .places) ys k h,
+          finished-held wd fm m ss (v .places) ys k h,
+          done-held wd fm m ss (v .places) ys k h,
           word-left m (getD ss k empty) (v .within k),
-          take-suc ss k empty (rw (v .slots) h),
+          take-suc ss k empty (rw (v .places) h),
           left-snoc m (take k ss) (getD ss k empty),
         ) refl
 
     pub left-held : leftOf wd (wordsOf m ss ys) (m .faces) 32 ≡ leftSum m ss
-    left-held = left-to 32 (omega arith) ∙ ap (leftSum m) (take-all 32 ss (rw (v .slots) (omega arith)))
+    left-held = left-to 32 (omega arith) ∙ ap (leftSum m) (take-all 32 ss (rw (v .places) (omega arith)))
 
 -- ---- one step at a time, the lowest unfinished place first
 shift : (p n l : ℕ) → p + min (suc n) (suc l) ≡ p + 1 + min n l
@@ -186,20 +186,20 @@ both-left : (n a s : ℕ) → a - n + (s - (n - a)) ≡ a + s - n
 both-left n a s = omega arith
 
 module _ (m : Mesh) where
-  spread-none : (n : ℕ) (ss : List Slot) → min n (leftSum m ss) ≡ 0 → spread m n ss ≡ ss
+  spread-none : (n : ℕ) (ss : List Place) → min n (leftSum m ss) ≡ 0 → spread m n ss ≡ ss
   spread-none n [] e = refl
-  spread-none n (empty ∷ ss) e = ap (λ (t : List Slot). empty ∷ t) (spread-none (n - 0) ss (omega arith))
+  spread-none n (empty ∷ ss) e = ap (λ (t : List Place). empty ∷ t) (spread-none (n - 0) ss (omega arith))
   spread-none n (full k fit p ∷ ss) e =
       let a : p + min n (need m fit - p) ≡ p = omega arith in
-      rw a (ap (λ (t : List Slot). full k fit p ∷ t) (spread-none (n - (need m fit - p)) ss (omega arith)))
+      rw a (ap (λ (t : List Place). full k fit p ∷ t) (spread-none (n - (need m fit - p)) ss (omega arith)))
 
-  bump-spread : (n : ℕ) (ss : List Slot) → 0 < leftSum m ss → (spread m (suc n) ss ≡ spread m n (bump m ss)) × (leftSum m (bump m ss) + 1 ≡ leftSum m ss)
+  bump-spread : (n : ℕ) (ss : List Place) → 0 < leftSum m ss → (spread m (suc n) ss ≡ spread m n (bump m ss)) × (leftSum m (bump m ss) + 1 ≡ leftSum m ss)
   bump-spread n [] h = absurd (omega arith)
   bump-spread n (empty ∷ ss) h =
       let i = bump-spread n ss (omega arith) in
       let a : suc n - 0 ≡ suc n = omega arith in
       let b : n - 0 ≡ n = omega arith in
-      (rw (a, b) (ap (λ (t : List Slot). empty ∷ t) (i .0)), omega (arith, i .1))
+      (rw (a, b) (ap (λ (t : List Place). empty ∷ t) (i .0)), omega (arith, i .1))
   bump-spread n (full k fit p ∷ ss) h = go (eqb (need m fit - p) 0) refl (λ (z : 0 < leftSum m ss). bump-spread n ss z)
     where
       go : (b : Bool) → eqb (need m fit - p) 0 ≡ b → (0 < leftSum m ss → (spread m (suc n) ss ≡ spread m n (bump m ss)) × (leftSum m (bump m ss) + 1 ≡ leftSum m ss))
@@ -210,7 +210,7 @@ module _ (m : Mesh) where
           let a : suc n - (need m fit - p) ≡ suc n = omega arith in
           let b : n - (need m fit - p) ≡ n = omega arith in
           let x : min (suc n) (need m fit - p) ≡ min n (need m fit - p) = omega arith in
-          (rw (a, b, x) (ap (λ (t : List Slot). full k fit (p + min n (need m fit - p)) ∷ t) (i .0)), omega (arith, i .1))
+          (rw (a, b, x) (ap (λ (t : List Place). full k fit (p + min n (need m fit - p)) ∷ t) (i .0)), omega (arith, i .1))
       go false e ih =
           let z = eqb-false (need m fit - p) 0 e in
           let a : suc n - (need m fit - p) ≡ n - (need m fit - (p + 1)) = omega arith in
@@ -218,7 +218,7 @@ module _ (m : Mesh) where
           let x : p + min (suc n) (need m fit - p) ≡ p + 1 + min n (need m fit - (p + 1)) = rw l (shift p n (need m fit - (p + 1))) in
           (rw (a, x) refl, rw l (omega arith))
 
-  pub lowest-first : (t n : ℕ) (ss : List Slot) → t ≡ min n (leftSum m ss) → iterate (bump m) t ss ≡ spread m n ss
+  pub lowest-first : (t n : ℕ) (ss : List Place) → t ≡ min n (leftSum m ss) → iterate (bump m) t ss ≡ spread m n ss
   lowest-first zero n ss e = sym (spread-none n ss (sym e))
   lowest-first (suc t) zero ss e = absurd (omega arith)
   lowest-first (suc t) (suc n) ss e =
@@ -226,7 +226,7 @@ module _ (m : Mesh) where
       iterate-inner (bump m) t ss ∙ (lowest-first t n (bump m ss) (omega (arith, i .1)) ∙ sym (i .0))
 
   -- what an advance leaves
-  pub left-spread : (n : ℕ) (ss : List Slot) → leftSum m (spread m n ss) ≡ leftSum m ss - min n (leftSum m ss)
+  pub left-spread : (n : ℕ) (ss : List Place) → leftSum m (spread m n ss) ≡ leftSum m ss - min n (leftSum m ss)
   left-spread n [] = omega arith
   left-spread n (empty ∷ ss) = omega (arith, left-spread (n - 0) ss)
   left-spread n (full k fit p ∷ ss) =
@@ -234,8 +234,8 @@ module _ (m : Mesh) where
       let r = leftSum m ss in
       rw (left-spread (n - a) ss, sub-add (need m fit) p (min n a), sub-min n a, sub-min (n - a) r, sub-min n (a + r)) (both-left n a r)
 
-  pub within-spread : (n : ℕ) (ss : List Slot) → ((i : ℕ) → Within m (getD ss i empty)) → (i : ℕ) → Within m (getD (spread m n ss) i empty)
+  pub within-spread : (n : ℕ) (ss : List Place) → ((i : ℕ) → Within m (getD ss i empty)) → (i : ℕ) → Within m (getD (spread m n ss) i empty)
   within-spread n [] h i = h i
   within-spread n (empty ∷ ss) h zero = h zero
   within-spread n (full k fit p ∷ ss) h zero = let z = h zero in okay m k fit (p + min n (need m fit - p)) (z .fitted) (omega arith)
-  within-spread n (s ∷ ss) h (suc i) = within-spread (n - leftSlot m s) ss (λ j. h (suc j)) i
+  within-spread n (s ∷ ss) h (suc i) = within-spread (n - leftPlace m s) ss (λ j. h (suc j)) i

@@ -18,7 +18,7 @@ use Rattle.kernel.specs.declared.kernel.Kernel.{Kernel}
 use Rattle.pieces.specs.declared.pieces.Pieces.{Pieces}
 use Rattle.pieces.specs.Pieces.{decomposed}
 use Rattle.pieces.specs.PieceLaws.{same-pieces}
-use Rattle.machine.specs.Machine.{Mesh, Slot, empty, full, leftSlot, adv, bump, stepsOf, Machine, Turn, turn, clearTurn, weighed, reweighTurn, slim}
+use Rattle.machine.specs.Machine.{Mesh, Place, empty, full, leftPlace, adv, bump, stepsOf, Machine, Turn, turn, clearTurn, weighed, reweighTurn, slim}
 use Rattle.machine.specs.Fresh.{kernelOf, kernelsOf, piecesOf, allPieces}
 use Rattle.machine.specs.Calls.{Call, put, clear, reweigh, advance, squeeze, read, page, machine, after-all, holding, chargedBy, chargedIn}
 use Rattle.machine.specs.Valid.{Valid}
@@ -46,47 +46,47 @@ sum-reordered f (then r s) = sum-reordered f r ∙ sum-reordered f s
 abbrev pub fits : Float → Kernel → ℕ
 fits radius k = decomposed k radius .count
 
-abbrev heldOne : Float → Slot → ℕ
+abbrev heldOne : Float → Place → ℕ
 heldOne radius empty = 0
 heldOne radius (full k fit p) = fits radius k
 
-abbrev pub heldIn : Float → List Slot → ℕ
+abbrev pub heldIn : Float → List Place → ℕ
 heldIn radius [] = 0
 heldIn radius (s ∷ ss) = heldOne radius s + heldIn radius ss
 
-pub pieces-held : (radius : Float) (ss : List Slot) → length (allPieces radius (kernelsOf ss)) ≡ heldIn radius ss
+pub pieces-held : (radius : Float) (ss : List Place) → length (allPieces radius (kernelsOf ss)) ≡ heldIn radius ss
 pieces-held radius [] = refl
 pieces-held radius (empty ∷ ss) = omega (arith, pieces-held radius ss)
 pieces-held radius (full k fit p ∷ ss) =
     let n = pieces-length k (decomposed k radius) (decomposed k radius .count) in
     length-append (piecesOf radius k) (allPieces radius (kernelsOf ss)) ∙ omega (arith, n, pieces-held radius ss)
 
-held-set : (radius : Float) (ss : List Slot) (i : ℕ) (s : Slot) → i < length ss
+held-set : (radius : Float) (ss : List Place) (i : ℕ) (s : Place) → i < length ss
     → heldIn radius (set ss i s) + heldOne radius (getD ss i empty) ≡ heldIn radius ss + heldOne radius s
 held-set radius [] i s h = absurd (omega arith)
 held-set radius (x ∷ ss) zero s h = omega arith
 held-set radius (x ∷ ss) (suc i) s h = omega (arith, held-set radius ss i s (omega arith))
 
 -- ---- a step of work keeps what a place holds, and empty places empty
-held-adv : (radius : Float) (u : ℕ) (s : Slot) → heldOne radius (adv u s) ≡ heldOne radius s
+held-adv : (radius : Float) (u : ℕ) (s : Place) → heldOne radius (adv u s) ≡ heldOne radius s
 held-adv radius u empty = refl
 held-adv radius u (full k fit p) = refl
 
-held-bump : (radius : Float) (m : Mesh) (ss : List Slot) → heldIn radius (bump m ss) ≡ heldIn radius ss
+held-bump : (radius : Float) (m : Mesh) (ss : List Place) → heldIn radius (bump m ss) ≡ heldIn radius ss
 held-bump radius m [] = refl
-held-bump radius m (s ∷ ss) = go (eqb (leftSlot m s) 0) (held-bump radius m ss)
+held-bump radius m (s ∷ ss) = go (eqb (leftPlace m s) 0) (held-bump radius m ss)
   where
     go : (b : Bool) → heldIn radius (bump m ss) ≡ heldIn radius ss
         → heldIn radius (cond b (s ∷ bump m ss) (adv 1 s ∷ ss)) ≡ heldIn radius (s ∷ ss)
     go true h = omega (arith, h)
     go false h = omega (arith, held-adv radius 1 s)
 
-empty-adv : (u : ℕ) (s : Slot) → s ≡ empty → adv u s ≡ empty
+empty-adv : (u : ℕ) (s : Place) → s ≡ empty → adv u s ≡ empty
 empty-adv u s e = rw e refl
 
-empty-bump : (m : Mesh) (ss : List Slot) (j : ℕ) → getD ss j empty ≡ empty → getD (bump m ss) j empty ≡ empty
+empty-bump : (m : Mesh) (ss : List Place) (j : ℕ) → getD ss j empty ≡ empty → getD (bump m ss) j empty ≡ empty
 empty-bump m [] j e = refl
-empty-bump m (s ∷ ss) j e = go (eqb (leftSlot m s) 0) (λ i. empty-bump m ss i) j e
+empty-bump m (s ∷ ss) j e = go (eqb (leftPlace m s) 0) (λ i. empty-bump m ss i) j e
   where
     go : (b : Bool) → ((i : ℕ) → getD ss i empty ≡ empty → getD (bump m ss) i empty ≡ empty)
         → (j : ℕ) → getD (s ∷ ss) j empty ≡ empty → getD (cond b (s ∷ bump m ss) (adv 1 s ∷ ss)) j empty ≡ empty
@@ -95,7 +95,7 @@ empty-bump m (s ∷ ss) j e = go (eqb (leftSlot m s) 0) (λ i. empty-bump m ss i
     go false h zero e = empty-adv 1 s e
     go false h (suc j) e = e
 
-module _ (radius : Float) (m : Mesh) (ss : List Slot) where
+module _ (radius : Float) (m : Mesh) (ss : List Place) where
   held-work : (n : ℕ) → heldIn radius (iterate (bump m) n ss) ≡ heldIn radius ss
   held-work zero = refl
   held-work (suc n) = held-bump radius m (iterate (bump m) n ss) ∙ held-work n
@@ -110,10 +110,10 @@ module _ (radius : Float) (m : Mesh) (ss : List Slot) where
 abbrev pub fitsIn : Machine → List Kernel → ℕ
 fitsIn m ks = sumOf (fits (m .mesh .radius)) ks
 
-abbrev pub heldBy : Machine → List Slot → ℕ
+abbrev pub heldBy : Machine → List Place → ℕ
 heldBy m ss = heldIn (m .mesh .radius) ss
 
-abbrev Vacancy : List Slot → ℕ → Type 0
+abbrev Vacancy : List Place → ℕ → Type 0
 Vacancy ss i = getD ss i empty ≡ empty
 
 record Step (m : Machine) (c : Call) (t : Turn) : Type 0 where
@@ -121,15 +121,15 @@ record Step (m : Machine) (c : Call) (t : Turn) : Type 0 where
   faces : t .next .mesh .faces ≡ m .mesh .faces
   -- what it charges, and the pieces then held: at most those of the kernel it puts
   charge : chargedBy c (t .reply) ≤ fitsIn m (putBy c) * m .mesh .faces
-  pieces : heldBy m (t .next .slots) ≤ heldBy m (m .slots) + fitsIn m (putBy c)
+  pieces : heldBy m (t .next .places) ≤ heldBy m (m .places) + fitsIn m (putBy c)
   -- just those, where its place is one of the store's; the pieces where that is empty
   charge-all : InStore (placeBy c) → chargedBy c (t .reply) ≡ fitsIn m (putBy c) * m .mesh .faces
-  pieces-all : InStore (placeBy c) → Every (Vacancy (m .slots)) (placeBy c)
-      → heldBy m (t .next .slots) ≡ heldBy m (m .slots) + fitsIn m (putBy c)
+  pieces-all : InStore (placeBy c) → Every (Vacancy (m .places)) (placeBy c)
+      → heldBy m (t .next .places) ≡ heldBy m (m .places) + fitsIn m (putBy c)
   -- other places that are empty stay so
-  still : (j : ℕ) → Every (λ i. i ≡ j → ⊥) (placeBy c) → Vacancy (m .slots) j → Vacancy (t .next .slots) j
+  still : (j : ℕ) → Every (λ i. i ≡ j → ⊥) (placeBy c) → Vacancy (m .places) j → Vacancy (t .next .places) j
 
-module _ (m : Machine) (l : length (m .slots) ≡ 32) where
+module _ (m : Machine) (l : length (m .places) ≡ 32) where
   abbrev R : Float
   R = m .mesh .radius
 
@@ -140,7 +140,7 @@ module _ (m : Machine) (l : length (m .slots) ≡ 32) where
       go : Dec (i < 32) → Step m (put i k) (machine m (put i k))
       go (yes h) =
           let fit = decomposed k R in
-          let w = held-set R (m .slots) i (full k fit 0) (rw l h) in
+          let w = held-set R (m .places) i (full k fit 0) (rw l h) in
           let n : fits R k + 0 ≡ fits R k = omega arith in
           let e = ap (λ (a : ℕ). a * m .mesh .faces) n in
           rw (lt-ltb i 32 h)
@@ -151,7 +151,7 @@ module _ (m : Machine) (l : length (m .slots) ≡ 32) where
             pieces = omega (arith, w);
             charge-all = λ s. sym e;
             pieces-all = λ s v. omega (arith, w, ap (heldOne R) (v .0));
-            still = λ j a v. getD-set-other (m .slots) i j (full k fit 0) empty (λ z. a .0 (sym z)) ∙ v;
+            still = λ j a v. getD-set-other (m .places) i j (full k fit 0) empty (λ z. a .0 (sym z)) ∙ v;
           })
       go (no h) =
           rw (le-ltb i 32 (omega arith))
@@ -167,8 +167,8 @@ module _ (m : Machine) (l : length (m .slots) ≡ 32) where
 
   -- a call that puts nothing, and after which the places hold as many pieces and are empty where they were
   quiet : (c : Call) → putBy c ≡ [] → (t : Turn) → t .next .mesh .radius ≡ R → t .next .mesh .faces ≡ m .mesh .faces
-      → chargedBy c (t .reply) ≡ 0 → heldBy m (t .next .slots) ≡ heldBy m (m .slots)
-      → ((j : ℕ) → Vacancy (m .slots) j → Vacancy (t .next .slots) j) → Step m c t
+      → chargedBy c (t .reply) ≡ 0 → heldBy m (t .next .places) ≡ heldBy m (m .places)
+      → ((j : ℕ) → Vacancy (m .places) j → Vacancy (t .next .places) j) → Step m c t
   quiet c e t r f z h u =
       let a = ap (sumOf (fits R)) e in
       let g = ap (λ (x : ℕ). x * m .mesh .faces) a in
@@ -186,12 +186,12 @@ module _ (m : Machine) (l : length (m .slots) ≡ 32) where
   idle : (c : Call) → putBy c ≡ [] → (t : Turn) → t .next ≡ m → chargedBy c (t .reply) ≡ 0 → Step m c t
   idle c e t n z =
       quiet c e t (ap (λ (x : Machine). x .mesh .radius) n) (ap (λ (x : Machine). x .mesh .faces) n) z
-      (ap (λ (x : Machine). heldIn R (x .slots)) n) (λ j v. ap (λ (x : Machine). getD (x .slots) j empty) n ∙ v)
+      (ap (λ (x : Machine). heldIn R (x .places)) n) (λ j v. ap (λ (x : Machine). getD (x .places) j empty) n ∙ v)
 
-  clear-at : (i : ℕ) → i < 32 → (s : Slot) → getD (m .slots) i empty ≡ s → Step m (clear i) (clearTurn m i s)
+  clear-at : (i : ℕ) → i < 32 → (s : Place) → getD (m .places) i empty ≡ s → Step m (clear i) (clearTurn m i s)
   clear-at i h empty e = idle (clear i) refl (turn m (refused Vacant)) refl refl
   clear-at i h (full k fit p) e =
-      let w = held-set R (m .slots) i empty (rw l h) in
+      let w = held-set R (m .places) i empty (rw l h) in
       record {
         radius = refl;
         faces = refl;
@@ -199,28 +199,28 @@ module _ (m : Machine) (l : length (m .slots) ≡ 32) where
         pieces = omega (arith, w);
         charge-all = λ s. omega arith;
         pieces-all = λ s v. omega (arith, w, ap (heldOne R) (v .0));
-        still = λ j a v. getD-set-other (m .slots) i j empty empty (λ z. a .0 (sym z)) ∙ v;
+        still = λ j a v. getD-set-other (m .places) i j empty empty (λ z. a .0 (sym z)) ∙ v;
       }
 
-  reweigh-at : (i : ℕ) (v : Float) → i < 32 → (s : Slot) → getD (m .slots) i empty ≡ s
+  reweigh-at : (i : ℕ) (v : Float) → i < 32 → (s : Place) → getD (m .places) i empty ≡ s
       → Step m (reweigh i v) (reweighTurn m i v s)
   reweigh-at i v h empty e = idle (reweigh i v) refl (turn m (refused Vacant)) refl refl
   reweigh-at i v h (full k fit p) e =
-      let w = held-set R (m .slots) i (full (weighed k v) fit p) (rw l h) in
+      let w = held-set R (m .places) i (full (weighed k v) fit p) (rw l h) in
       let o = ap (heldOne R) e in
       let q = ap (λ (f : Pieces). f .count) (same-pieces (k .c) (k .c) (k .sigma) (k .w) v (k .alpha) R) in
       quiet (reweigh i v) refl (reweighTurn m i v (full k fit p)) refl refl refl (omega (arith, w, o, q)) other
     where
-      moved : Slot
+      moved : Place
       moved = full (weighed k v) fit p
 
-      other : (j : ℕ) → Vacancy (m .slots) j → Vacancy (set (m .slots) i moved) j
-      other j u = getD-set-other (m .slots) i j moved empty apart ∙ u
+      other : (j : ℕ) → Vacancy (m .places) j → Vacancy (set (m .places) i moved) j
+      other j u = getD-set-other (m .places) i j moved empty apart ∙ u
         where
           apart : j ≡ i → ⊥
           apart z =
-              let x = sym e ∙ (ap (λ (n : ℕ). getD (m .slots) n empty) (sym z) ∙ u) in
-              let y : _≡_ {A = ℕ} 1 0 = ap (λ (s : Slot). length (kernelOf s)) x in
+              let x = sym e ∙ (ap (λ (n : ℕ). getD (m .places) n empty) (sym z) ∙ u) in
+              let y : _≡_ {A = ℕ} 1 0 = ap (λ (s : Place). length (kernelOf s)) x in
               omega arith
 
   step : (c : Call) → Step m c (machine m c)
@@ -229,17 +229,17 @@ module _ (m : Machine) (l : length (m .slots) ≡ 32) where
   step (clear i) = go (decLt i 32)
     where
       go : Dec (i < 32) → Step m (clear i) (machine m (clear i))
-      go (yes h) = rw (lt-ltb i 32 h) (clear-at i h (getD (m .slots) i empty) refl)
+      go (yes h) = rw (lt-ltb i 32 h) (clear-at i h (getD (m .places) i empty) refl)
       go (no h) = rw (le-ltb i 32 (omega arith)) (idle (clear i) refl (turn m (refused NoPlace)) refl refl)
   step (reweigh i v) = go (decLt i 32)
     where
       go : Dec (i < 32) → Step m (reweigh i v) (machine m (reweigh i v))
-      go (yes h) = rw (lt-ltb i 32 h) (reweigh-at i v h (getD (m .slots) i empty) refl)
+      go (yes h) = rw (lt-ltb i 32 h) (reweigh-at i v h (getD (m .places) i empty) refl)
       go (no h) = rw (le-ltb i 32 (omega arith)) (idle (reweigh i v) refl (turn m (refused NoPlace)) refl refl)
   step (advance n) =
       let u = stepsOf m n in
-      quiet (advance n) refl (machine m (advance n)) refl refl refl (held-work R (m .mesh) (m .slots) u)
-      (empty-work R (m .mesh) (m .slots) u)
+      quiet (advance n) refl (machine m (advance n)) refl refl refl (held-work R (m .mesh) (m .places) u)
+      (empty-work R (m .mesh) (m .places) u)
   step squeeze = quiet squeeze refl (machine m squeeze) refl refl refl refl (λ j v. v)
   step (read r) = idle (read r) refl (machine m (read r)) refl refl
   step (page bs) = idle (page bs) refl (machine m (page bs)) refl refl
@@ -267,15 +267,15 @@ apart-rest [] js a = a
 apart-rest (i ∷ is) js a = apart-rest is js (a .1)
 
 -- ---- a list of calls
-module _ (m : Machine) (v : Valid (m .mesh) (m .slots)) (c : Call) where
+module _ (m : Machine) (v : Valid (m .mesh) (m .places)) (c : Call) where
   abbrev next : Machine
   next = machine m c .next
 
   s : Step m c (machine m c)
-  s = step m (v .slots) c
+  s = step m (v .places) c
 
-  still-vacant : (js : List ℕ) → Apart (placeBy c ++ js) → Every (Vacancy (m .slots)) js
-      → Every (Vacancy (next .slots)) js
+  still-vacant : (js : List ℕ) → Apart (placeBy c ++ js) → Every (Vacancy (m .places)) js
+      → Every (Vacancy (next .places)) js
   still-vacant [] a e = tt {0}
   still-vacant (j ∷ js) a e =
       let t = apart-each (placeBy c) j js a in
@@ -295,18 +295,18 @@ module _ (m : Machine) (v : Valid (m .mesh) (m .slots)) (c : Call) where
       ∙ ap (λ (n : ℕ). fitsIn m (putBy c) * m .mesh .faces + fitsIn next (putIn cs) * n) (sym (s .faces)))
 
   -- what places hold is the same by the radius of either machine
-  same-held : (ss : List Slot) → heldBy next ss ≡ heldBy m ss
+  same-held : (ss : List Place) → heldBy next ss ≡ heldBy m ss
   same-held ss = ap (λ (r : Float). heldIn r ss) (s .radius)
 
 module _ (wd : ℕ) (fm : Width wd) (exF : List Float) (exW : List ℕ) where
-  pub charged-within : (cs : List Call) (m : Machine) → Valid (m .mesh) (m .slots)
+  pub charged-within : (cs : List Call) (m : Machine) → Valid (m .mesh) (m .places)
       → chargedIn wd (holding m exF exW) cs ≤ fitsIn m (putIn cs) * m .mesh .faces
   charged-within [] m v = omega arith
   charged-within (c ∷ cs) m v =
       let i = charged-within cs (machine m c .next) (kept m v c .valid) in
       rw (one-call wd fm m v exF exW c) (omega (arith, i, s m v c .charge, all-charge m v c cs))
 
-  pub charged-all : (cs : List Call) (m : Machine) → Valid (m .mesh) (m .slots) → InStore (placesIn cs)
+  pub charged-all : (cs : List Call) (m : Machine) → Valid (m .mesh) (m .places) → InStore (placesIn cs)
       → chargedIn wd (holding m exF exW) cs ≡ fitsIn m (putIn cs) * m .mesh .faces
   charged-all [] m v p = omega arith
   charged-all (c ∷ cs) m v p =
@@ -314,31 +314,31 @@ module _ (wd : ℕ) (fm : Width wd) (exF : List Float) (exW : List ℕ) where
       let i = charged-all cs (machine m c .next) (kept m v c .valid) (t .1) in
       rw (one-call wd fm m v exF exW c) (omega (arith, i, s m v c .charge-all (t .0), all-charge m v c cs))
 
-pub radius-after : (cs : List Call) (m : Machine) → Valid (m .mesh) (m .slots)
+pub radius-after : (cs : List Call) (m : Machine) → Valid (m .mesh) (m .places)
     → after-all m cs .mesh .radius ≡ m .mesh .radius
 radius-after [] m v = refl
 radius-after (c ∷ cs) m v = radius-after cs (machine m c .next) (kept m v c .valid) ∙ s m v c .radius
 
-pub held-within : (cs : List Call) (m : Machine) → Valid (m .mesh) (m .slots)
-    → heldBy m (after-all m cs .slots) ≤ heldBy m (m .slots) + fitsIn m (putIn cs)
+pub held-within : (cs : List Call) (m : Machine) → Valid (m .mesh) (m .places)
+    → heldBy m (after-all m cs .places) ≤ heldBy m (m .places) + fitsIn m (putIn cs)
 held-within [] m v = omega arith
 held-within (c ∷ cs) m v =
     let n = machine m c .next in
     let i = held-within cs n (kept m v c .valid) in
-    let a = same-held m v c (after-all n cs .slots) in
-    let b = same-held m v c (n .slots) in
+    let a = same-held m v c (after-all n cs .places) in
+    let b = same-held m v c (n .places) in
     omega (arith, i, a, b, s m v c .pieces, all-fits m v c cs)
 
-pub held-all : (cs : List Call) (m : Machine) → Valid (m .mesh) (m .slots)
-    → InStore (placesIn cs) → Apart (placesIn cs) → Every (Vacancy (m .slots)) (placesIn cs)
-    → heldBy m (after-all m cs .slots) ≡ heldBy m (m .slots) + fitsIn m (putIn cs)
+pub held-all : (cs : List Call) (m : Machine) → Valid (m .mesh) (m .places)
+    → InStore (placesIn cs) → Apart (placesIn cs) → Every (Vacancy (m .places)) (placesIn cs)
+    → heldBy m (after-all m cs .places) ≡ heldBy m (m .places) + fitsIn m (putIn cs)
 held-all [] m v p o e = omega arith
 held-all (c ∷ cs) m v p o e =
     let n = machine m c .next in
     let t = every-split (λ j. j < 32) (placeBy c) (placesIn cs) p in
-    let u = every-split (Vacancy (m .slots)) (placeBy c) (placesIn cs) e in
+    let u = every-split (Vacancy (m .places)) (placeBy c) (placesIn cs) e in
     let w = still-vacant m v c (placesIn cs) o (u .1) in
     let i = held-all cs n (kept m v c .valid) (t .1) (apart-rest (placeBy c) (placesIn cs) o) w in
-    let a = same-held m v c (after-all n cs .slots) in
-    let b = same-held m v c (n .slots) in
+    let a = same-held m v c (after-all n cs .places) in
+    let b = same-held m v c (n .places) in
     omega (arith, i, a, b, s m v c .pieces-all (t .0) (u .0), all-fits m v c cs)

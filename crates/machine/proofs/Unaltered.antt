@@ -18,20 +18,20 @@ use Rattle.kernel.specs.Field.{centreOf}
 use Rattle.kernel.specs.declared.kernel.Kernel.{Kernel}
 use Rattle.pieces.specs.declared.pieces.Pieces.{Pieces}
 use Rattle.pieces.specs.Pieces.{decomposed}
-use Rattle.layout.specs.Layout.{slotLimit}
+use Rattle.layout.specs.Layout.{placeLimit}
 use Rattle.readings.specs.Readings.{Reading, rawMass, answerOf}
 use Rattle.page.specs.Page.{Row, row, pageAnswer}
 use Rattle.store.specs.Squeeze.{rank, renumbered, keptTo}
 use Rattle.store.specs.Marks.{Below}
 use Rattle.store.specs.TriangleLaws.{same-triangle}
-use Rattle.machine.specs.Machine.{Mesh, Slot, empty, full, bump, Machine, Turn, turn, freedBy, stepsOf, putTurn, clearTurn, reweighTurn}
+use Rattle.machine.specs.Machine.{Mesh, Place, empty, full, bump, Machine, Turn, turn, freedBy, stepsOf, putTurn, clearTurn, reweighTurn}
 use Rattle.machine.specs.Holding.{triangles}
 use Rattle.machine.specs.Fresh.{freshRow, freshRows, workedAfresh, pageAfresh}
 use Rattle.machine.specs.Calls.{Call, put, clear, reweigh, advance, squeeze, read, page, machine, holding, without, Heard, others, heard}
 use Rattle.machine.specs.Valid.{Shape, Valid}
 use Rattle.machine.proofs.Rows.{Width}
-use Rattle.machine.proofs.Parts.{freshPart, freshAt, freshSlot, freshAll, freshSeen}
-use Rattle.machine.proofs.Afresh.{slot-mass, joined}
+use Rattle.machine.proofs.Parts.{freshPart, freshAt, freshPlace, freshAll, freshSeen}
+use Rattle.machine.proofs.Afresh.{place-mass, joined}
 use Rattle.machine.proofs.Slim.{slim-is}
 use Rattle.machine.proofs.Look.{same-seen}
 use Rattle.machine.proofs.Squeezing.{remesh, squeezed-shape, left-same, left-sum-same, volume-same}
@@ -42,11 +42,11 @@ module _ (m : Mesh) (xs : List Float) (ks : List ℕ) (w : ℕ) where
   abbrev n : Mesh
   n = remesh m xs ks w
 
-  bump-same : (ss : List Slot) → bump n ss ≡ bump m ss
+  bump-same : (ss : List Place) → bump n ss ≡ bump m ss
   bump-same [] = refl
   bump-same (s ∷ ss) = rw (left-same m xs ks w s, bump-same ss) refl
 
-  bumps-same : (k : ℕ) (ss : List Slot) → iterate (bump n) k ss ≡ iterate (bump m) k ss
+  bumps-same : (k : ℕ) (ss : List Place) → iterate (bump n) k ss ≡ iterate (bump m) k ss
   bumps-same zero ss = refl
   bumps-same (suc k) ss = ap (bump n) (bumps-same k ss) ∙ bump-same (iterate (bump m) k ss)
 
@@ -58,39 +58,39 @@ module _ (m : Mesh) (xs : List Float) (ks : List ℕ) (w : ℕ) where
     parts-same k fit zero = refl
     parts-same k fit (suc j) = rw (parts-same k fit j, part-same k fit j) refl
 
-    slot-same : (s : Slot) → freshSlot n s ≡ freshSlot m s
-    slot-same empty = refl
-    slot-same (full k fit p) = parts-same k (decomposed k (m .radius)) (decomposed k (m .radius) .count)
+    place-same : (s : Place) → freshPlace n s ≡ freshPlace m s
+    place-same empty = refl
+    place-same (full k fit p) = parts-same k (decomposed k (m .radius)) (decomposed k (m .radius) .count)
 
-    all-same : (ss : List Slot) → freshAll n ss ≡ freshAll m ss
+    all-same : (ss : List Place) → freshAll n ss ≡ freshAll m ss
     all-same [] = refl
-    all-same (s ∷ ss) = rw (slot-same s, all-same ss) refl
+    all-same (s ∷ ss) = rw (place-same s, all-same ss) refl
 
-    seen-same : (ss : List Slot) → freshSeen n ss ≡ freshSeen m ss
+    seen-same : (ss : List Place) → freshSeen n ss ≡ freshSeen m ss
     unfolding freshSeen
     seen-same ss = same-seen (all-same ss) (volume-same m xs ks w same origin +0 (m .faces) (omega arith)) refl refl
 
-    pub afresh-same : Shape n → Shape m → (ss : List Slot) (r : Reading) → workedAfresh n ss r ≡ workedAfresh m ss r
+    pub afresh-same : Shape n → Shape m → (ss : List Place) (r : Reading) → workedAfresh n ss r ≡ workedAfresh m ss r
     afresh-same g h ss r = sym (joined n g ss r) ∙ (ap (answerOf r) (seen-same ss) ∙ joined m h ss r)
 
     module _ (g : Shape n) (h : Shape m) where
-      row-same : (i : ℕ) (s : Slot) → freshRow n i s ≡ freshRow m i s
+      row-same : (i : ℕ) (s : Place) → freshRow n i s ≡ freshRow m i s
       row-same i empty = refl
       row-same i (full k fit p) =
           ap (λ (x : Float). row i (decomposed k (m .radius) .count) x ∷ [])
-          (sym (slot-mass n g k fit p) ∙ (ap rawMass (slot-same (full k fit p)) ∙ slot-mass m h k fit p))
+          (sym (place-mass n g k fit p) ∙ (ap rawMass (place-same (full k fit p)) ∙ place-mass m h k fit p))
 
-      rows-same : (i : ℕ) (ss : List Slot) → freshRows n i ss ≡ freshRows m i ss
+      rows-same : (i : ℕ) (ss : List Place) → freshRows n i ss ≡ freshRows m i ss
       rows-same i [] = refl
       rows-same i (s ∷ ss) = rw (row-same i s, rows-same (suc i) ss) refl
 
-      pub page-same : (ss : List Slot) (bs : List ℕ) → pageAfresh n ss bs ≡ pageAfresh m ss bs
+      pub page-same : (ss : List Place) (bs : List ℕ) → pageAfresh n ss bs ≡ pageAfresh m ss bs
       unfolding pageAfresh
       page-same ss bs = ap (λ (rs : List Row). pageAnswer rs bs) (rows-same 0 ss)
 
 -- ---- a machine on another mesh
 abbrev pub remade : Machine → List Float → List ℕ → ℕ → ℕ → Machine
-remade m xs ks w g = record { mesh = remesh (m .mesh) xs ks w; slots = m .slots; charged = m .charged; dropped = m .dropped; freed = g }
+remade m xs ks w g = record { mesh = remesh (m .mesh) xs ks w; places = m .places; charged = m .charged; dropped = m .dropped; freed = g }
 
 abbrev pub lifted : Turn → List Float → List ℕ → ℕ → ℕ → Turn
 lifted t xs ks w g = record { next = remade (t .next) xs ks w g; reply = t .reply; out = t .out; page = t .page }
@@ -109,13 +109,13 @@ pub record Goes (m : Machine) (c : Call) (xs : List Float) (ks : List ℕ) (w g 
 module _ (m : Machine) (xs : List Float) (ks : List ℕ) (w g : ℕ) where
   pub put-goes : (i : ℕ) (k : Kernel) → Goes m (put i k) xs ks w g
   unfolding machine
-  put-goes i k = record { lift = lift (ltb i slotLimit); mesh = stays (ltb i slotLimit) }
+  put-goes i k = record { lift = lift (ltb i placeLimit); mesh = stays (ltb i placeLimit) }
     where
       fit : Pieces
       fit = decomposed k (m .mesh .radius)
 
       lift : (b : Bool) → cond b (putTurn (remade m xs ks w g) i k fit) (turn (remade m xs ks w g) (refused NoPlace)) ≡ lifted (cond b (putTurn m i k fit) (turn m (refused NoPlace))) xs ks w g
-      lift true = rw (left-same (m .mesh) xs ks w (getD (m .slots) i empty)) refl
+      lift true = rw (left-same (m .mesh) xs ks w (getD (m .places) i empty)) refl
       lift false = refl
 
       stays : (b : Bool) → cond b (putTurn m i k fit) (turn m (refused NoPlace)) .next .mesh ≡ m .mesh
@@ -124,28 +124,28 @@ module _ (m : Machine) (xs : List Float) (ks : List ℕ) (w g : ℕ) where
 
   pub clear-goes : (i : ℕ) → Goes m (clear i) xs ks w g
   unfolding machine
-  clear-goes i = record { lift = lift (ltb i slotLimit) (getD (m .slots) i empty); mesh = stays (ltb i slotLimit) (getD (m .slots) i empty) }
+  clear-goes i = record { lift = lift (ltb i placeLimit) (getD (m .places) i empty); mesh = stays (ltb i placeLimit) (getD (m .places) i empty) }
     where
-      lift : (b : Bool) (s : Slot) → cond b (clearTurn (remade m xs ks w g) i s) (turn (remade m xs ks w g) (refused NoPlace)) ≡ lifted (cond b (clearTurn m i s) (turn m (refused NoPlace))) xs ks w g
+      lift : (b : Bool) (s : Place) → cond b (clearTurn (remade m xs ks w g) i s) (turn (remade m xs ks w g) (refused NoPlace)) ≡ lifted (cond b (clearTurn m i s) (turn m (refused NoPlace))) xs ks w g
       lift true empty = refl
       lift true (full k fit p) = refl
       lift false s = refl
 
-      stays : (b : Bool) (s : Slot) → cond b (clearTurn m i s) (turn m (refused NoPlace)) .next .mesh ≡ m .mesh
+      stays : (b : Bool) (s : Place) → cond b (clearTurn m i s) (turn m (refused NoPlace)) .next .mesh ≡ m .mesh
       stays true empty = refl
       stays true (full k fit p) = refl
       stays false s = refl
 
   pub reweigh-goes : (i : ℕ) (x : Float) → Goes m (reweigh i x) xs ks w g
   unfolding machine
-  reweigh-goes i x = record { lift = lift (ltb i slotLimit) (getD (m .slots) i empty); mesh = stays (ltb i slotLimit) (getD (m .slots) i empty) }
+  reweigh-goes i x = record { lift = lift (ltb i placeLimit) (getD (m .places) i empty); mesh = stays (ltb i placeLimit) (getD (m .places) i empty) }
     where
-      lift : (b : Bool) (s : Slot) → cond b (reweighTurn (remade m xs ks w g) i x s) (turn (remade m xs ks w g) (refused NoPlace)) ≡ lifted (cond b (reweighTurn m i x s) (turn m (refused NoPlace))) xs ks w g
+      lift : (b : Bool) (s : Place) → cond b (reweighTurn (remade m xs ks w g) i x s) (turn (remade m xs ks w g) (refused NoPlace)) ≡ lifted (cond b (reweighTurn m i x s) (turn m (refused NoPlace))) xs ks w g
       lift true empty = refl
       lift true (full k fit p) = refl
       lift false s = refl
 
-      stays : (b : Bool) (s : Slot) → cond b (reweighTurn m i x s) (turn m (refused NoPlace)) .next .mesh ≡ m .mesh
+      stays : (b : Bool) (s : Place) → cond b (reweighTurn m i x s) (turn m (refused NoPlace)) .next .mesh ≡ m .mesh
       stays true empty = refl
       stays true (full k fit p) = refl
       stays false s = refl
@@ -153,19 +153,19 @@ module _ (m : Machine) (xs : List Float) (ks : List ℕ) (w g : ℕ) where
   pub advance-goes : (k : ℕ) → Goes m (advance k) xs ks w g
   unfolding machine
   advance-goes k =
-      let ss = iterate (bump (m .mesh)) (stepsOf m k) (m .slots) in
+      let ss = iterate (bump (m .mesh)) (stepsOf m k) (m .places) in
       record {
-        lift = rw (left-sum-same (m .mesh) xs ks w (m .slots), bumps-same (m .mesh) xs ks w (stepsOf m k) (m .slots), left-sum-same (m .mesh) xs ks w ss) refl;
+        lift = rw (left-sum-same (m .mesh) xs ks w (m .places), bumps-same (m .mesh) xs ks w (stepsOf m k) (m .places), left-sum-same (m .mesh) xs ks w ss) refl;
         mesh = refl;
       }
 
   pub read-goes : Alike (m .mesh) xs ks w → (r : Reading) → Goes m (read r) xs ks w g
   unfolding machine
-  read-goes a r = record { lift = rw (left-sum-same (m .mesh) xs ks w (m .slots), afresh-same (m .mesh) xs ks w (a .same) (a .shape) (a .was) (m .slots) r) refl; mesh = refl }
+  read-goes a r = record { lift = rw (left-sum-same (m .mesh) xs ks w (m .places), afresh-same (m .mesh) xs ks w (a .same) (a .shape) (a .was) (m .places) r) refl; mesh = refl }
 
   pub page-goes : Alike (m .mesh) xs ks w → (bs : List ℕ) → Goes m (page bs) xs ks w g
   unfolding machine
-  page-goes a bs = record { lift = rw (left-sum-same (m .mesh) xs ks w (m .slots), page-same (m .mesh) xs ks w (a .same) (a .shape) (a .was) (m .slots) bs) refl; mesh = refl }
+  page-goes a bs = record { lift = rw (left-sum-same (m .mesh) xs ks w (m .places), page-same (m .mesh) xs ks w (a .same) (a .shape) (a .was) (m .places) bs) refl; mesh = refl }
 
 -- ---- a list of calls
 abbrev pub told : Turn → Heard
@@ -237,23 +237,23 @@ module _ (o m : Mesh) (f : From o m) where
       ap (λ (x : Float). record { radius = x; coords = m .coords; corners = m .corners; verts = m .verts; faces = m .faces }) (f .radius)
       ∙ ap (λ (n : ℕ). record { radius = o .radius; coords = m .coords; corners = m .corners; verts = m .verts; faces = n }) (f .faces)
 
-  pub on-opened : (ss : List Slot) (r : Reading) → workedAfresh m ss r ≡ workedAfresh o ss r
+  pub on-opened : (ss : List Place) (r : Reading) → workedAfresh m ss r ≡ workedAfresh o ss r
   on-opened ss r =
       ap (λ (x : Mesh). workedAfresh x ss r) mesh-is
       ∙ afresh-same o (m .coords) (m .corners) (m .verts) (f .alike .same) (f .alike .shape) (f .alike .was) ss r
 
-  pub page-opened : (ss : List Slot) (bs : List ℕ) → pageAfresh m ss bs ≡ pageAfresh o ss bs
+  pub page-opened : (ss : List Place) (bs : List ℕ) → pageAfresh m ss bs ≡ pageAfresh o ss bs
   page-opened ss bs =
       ap (λ (x : Mesh). pageAfresh x ss bs) mesh-is
       ∙ page-same o (m .coords) (m .corners) (m .verts) (f .alike .same) (f .alike .shape) (f .alike .was) ss bs
 
 module _ (wd : ℕ) (fm : Width wd) (exF : List Float) (exW : List ℕ) where
-  store-heard : (cs : List Call) (m : Machine) → Valid (m .mesh) (m .slots) → heard wd (holding m exF exW) cs ≡ heardBy m cs
+  store-heard : (cs : List Call) (m : Machine) → Valid (m .mesh) (m .places) → heard wd (holding m exF exW) cs ≡ heardBy m cs
   store-heard [] m v = refl
   store-heard (c ∷ cs) m v =
       rw (one-call wd fm m v exF exW c) (ap (others c (told (machine m c))) (store-heard cs (machine m c .next) (kept m v c .valid)))
 
-  pub unaltered : (m : Machine) → Valid (m .mesh) (m .slots) → (cs : List Call) → heard wd (holding m exF exW) cs ≡ heard wd (holding m exF exW) (without cs)
+  pub unaltered : (m : Machine) → Valid (m .mesh) (m .places) → (cs : List Call) → heard wd (holding m exF exW) cs ≡ heard wd (holding m exF exW) (without cs)
   unaltered m v cs =
       let a : Alike (m .mesh) (m .mesh .coords) (m .mesh .corners) (m .mesh .verts)
       = record { shape = v .mesh; was = v .mesh; same = λ f h. refl } in

@@ -11,7 +11,7 @@ use Rattle.base.specs.Answers.{Answer, refused, Outcome}
 use Rattle.base.specs.declared.refusal.Refusal.the-variants.{NoPlace, Unfinished}
 use Rattle.kernel.specs.declared.kernel.Kernel.{Kernel}
 use Rattle.pieces.specs.Pieces.{decomposed}
-use Rattle.layout.specs.Layout.{slotLimit}
+use Rattle.layout.specs.Layout.{placeLimit}
 use Rattle.layout.specs.After.{After}
 use Rattle.store.specs.Calls.{clearStep, reweighStep}
 use Rattle.advance.specs.Steps.{advanceStep}
@@ -40,7 +40,7 @@ pub data Call : Type 0 where
 
 -- row 6: "place ≥ 32"
 abbrev pub inPlace : Machine → ℕ → Turn → Turn
-inPlace m i t = cond (ltb i slotLimit) t (turn m (refused NoPlace))
+inPlace m i t = cond (ltb i placeLimit) t (turn m (refused NoPlace))
 
 -- row 8: "left > 0, for report, or density and list by mass with target > 0"; 02: "for 8 a track counts as a density"
 abbrev pub byTarget : Convention → Bool
@@ -56,22 +56,22 @@ needs (track v points out) = byTarget v
 
 -- any other reading is worked afresh; no reading changes the machine
 abbrev pub readTurn : Machine → Reading → Outcome
-readTurn m r = cond (needs r && ltb 0 (workLeft m)) (refusing r Unfinished) (workedAfresh (m .mesh) (m .slots) r)
+readTurn m r = cond (needs r && ltb 0 (workLeft m)) (refusing r Unfinished) (workedAfresh (m .mesh) (m .places) r)
 
 abbrev pub given : Machine → Outcome → Turn
 given m a = record { next = m; reply = a .reply; out = a .out; page = [] }
 
 -- 02, L8: "It is given only when nothing is left to do, else 8"; a page changes the machine no more than a reading
 abbrev pub pageTurn : Machine → List ℕ → Paged
-pageTurn m bs = cond (ltb 0 (workLeft m)) (paged (refused Unfinished) bs) (pageAfresh (m .mesh) (m .slots) bs)
+pageTurn m bs = cond (ltb 0 (workLeft m)) (paged (refused Unfinished) bs) (pageAfresh (m .mesh) (m .places) bs)
 
 abbrev pub posted : Machine → Paged → Turn
 posted m a = record { next = m; reply = a .reply; out = []; page = a .page }
 
 unfoldable pub machine : Machine → Call → Turn
 machine m (put i k) = inPlace m i (putTurn m i k (decomposed k (m .mesh .radius)))
-machine m (clear i) = inPlace m i (clearTurn m i (getD (m .slots) i empty))
-machine m (reweigh i v) = inPlace m i (reweighTurn m i v (getD (m .slots) i empty))
+machine m (clear i) = inPlace m i (clearTurn m i (getD (m .places) i empty))
+machine m (reweigh i v) = inPlace m i (reweighTurn m i v (getD (m .places) i empty))
 machine m (advance n) = advanceTurn m n
 machine m squeeze = squeezeTurn m
 machine m (read r) = given m (readTurn m r)
@@ -126,7 +126,7 @@ past m xs = replicate (m .freed) +0 ++ xs
 
 abbrev pub holding : Machine → List Float → List ℕ → Store
 holding m xs ys =
-    record { floats = floatsOf (m .mesh) (m .slots) (past m xs); words = wordsOf (m .mesh) (m .slots) ys }
+    record { floats = floatsOf (m .mesh) (m .places) (past m xs); words = wordsOf (m .mesh) (m .places) ys }
 
 -- ---- the sums: "charged is the need summed over accepted puts' answers"; a refused call answers no count
 abbrev pub chargedBy : Call → Answer → ℕ

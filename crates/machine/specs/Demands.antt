@@ -47,8 +47,8 @@ pub record Read (q : ℕ) (mesh : Mesh) (m : Machine) (s : Store) (r : Reading) 
   -- "Any other reading, its run long enough, answers and writes what demand 2's functions give, worked afresh on the
   -- mesh opened and the kernels then in the machine's places"; both give 9 where a list's run is too short, and 14 of a track
   pub afresh : (store q s (read r) .reply ≡ refused Unfinished → ⊥)
-      → (store q s (read r) .reply ≡ workedAfresh mesh (m .slots) r .reply)
-      × (store q s (read r) .out ≡ workedAfresh mesh (m .slots) r .out)
+      → (store q s (read r) .reply ≡ workedAfresh mesh (m .places) r .reply)
+      × (store q s (read r) .out ≡ workedAfresh mesh (m .places) r .out)
   -- "no reading alters a kept weight", nor any other word of the store
   pub kept : store q s (read r) .left ≡ s
 
@@ -61,8 +61,8 @@ pub record Post (q : ℕ) (mesh : Mesh) (m : Machine) (s : Store) (bs : List ℕ
   -- the machine's places; both give 17 and 18. "demand 3 leaves out a page to which 17 applies and 8 doesn't": it is not
   -- left out here
   pub afresh : (store q s (page bs) .reply ≡ refused Unfinished → ⊥)
-      → (store q s (page bs) .reply ≡ pageAfresh mesh (m .slots) bs .reply)
-      × (store q s (page bs) .page ≡ pageAfresh mesh (m .slots) bs .page)
+      → (store q s (page bs) .reply ≡ pageAfresh mesh (m .places) bs .reply)
+      × (store q s (page bs) .page ≡ pageAfresh mesh (m .places) bs .page)
   -- a page alters no word of the store
   pub kept : store q s (page bs) .left ≡ s
 
@@ -89,8 +89,8 @@ pub record Follows (q : ℕ) (exF : List Float) (exW : List ℕ) (m : Machine) (
   pub calls : Each q exF exW (m .mesh) m s cs
   -- the machine after the list, and so after each part of it: the pieces in its places, which the runs hold, are those
   -- of its kernels, and no place has more steps than its need
-  pub valid : Valid (after-all m cs .mesh) (after-all m cs .slots)
-  pub pieces : Decomposed (m .mesh .radius) (kernelsOf (after-all m cs .slots))
+  pub valid : Valid (after-all m cs .mesh) (after-all m cs .places)
+  pub pieces : Decomposed (m .mesh .radius) (kernelsOf (after-all m cs .places))
   -- "After the list, with charged summed over the puts' answers and done over the advances', done + left + dropped =
   -- charged": left "is what an advance of 0 then answers", dropped is the machine's
   pub sums : doneIn q s cs + leftIn (store q (leaves q s cs) (advance 0) .reply) + after-all m cs .dropped

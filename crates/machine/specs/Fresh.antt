@@ -21,14 +21,14 @@ use Rattle.density.specs.Reports.{reportOf}
 use Rattle.readings.specs.Along.{along}
 use Rattle.readings.specs.Readings.{Reading, density, report, list, track, origin, rescaled, sixes, reported, trackCheck}
 use Rattle.page.specs.Page.{Row, row, Paged, pageAnswer}
-use Rattle.machine.specs.Machine.{Mesh, Slot, empty, full}
+use Rattle.machine.specs.Machine.{Mesh, Place, empty, full}
 
 -- ---- "the machine's filled places in order": their kernels
-abbrev pub kernelOf : Slot → List Kernel
+abbrev pub kernelOf : Place → List Kernel
 kernelOf empty = []
 kernelOf (full k fit p) = k ∷ []
 
-abbrev pub kernelsOf : List Slot → List Kernel
+abbrev pub kernelsOf : List Place → List Kernel
 kernelsOf [] = []
 kernelsOf (s ∷ ss) = kernelOf s ++ kernelsOf ss
 
@@ -83,21 +83,21 @@ readingOn m ks filled worst (track v points out) =
     guardedRun (trackCheck (length points) (length out)) out
     (outcome (counted (count ∷ [])) (write out 0 (along (λ x. valueOf (densitized (scaledList v m ks) x)) points count)))
 
-unfoldable pub workedAfresh : Mesh → List Slot → Reading → Outcome
+unfoldable pub workedAfresh : Mesh → List Place → Reading → Outcome
 workedAfresh m ss r =
     let ks = kernelsOf ss in
     readingOn m (allPieces (m .radius) ks) (length ks) (worstFrom (m .radius) +0 ks) r
 
 -- ---- 02, L8, the wall page: "One line per filled place shows its number [..], its pieces [..] and its raw mass"; "The mass
 -- is the place's own field mass": `kernel_field_mass` of its pieces alone. Place i, and the places from i on
-abbrev pub freshRow : Mesh → ℕ → Slot → List Row
+abbrev pub freshRow : Mesh → ℕ → Place → List Row
 freshRow m i empty = []
 freshRow m i (full k fit p) = row i (decomposed k (m .radius) .count) (massOf m (piecesOf (m .radius) k)) ∷ []
 
-abbrev pub freshRows : Mesh → ℕ → List Slot → List Row
+abbrev pub freshRows : Mesh → ℕ → List Place → List Row
 freshRows m i [] = []
 freshRows m i (s ∷ ss) = freshRow m i s ++ freshRows m (suc i) ss
 
 -- the page of those rows into lent bytes, rows 17 and 18
-unfoldable pub pageAfresh : Mesh → List Slot → List ℕ → Paged
+unfoldable pub pageAfresh : Mesh → List Place → List ℕ → Paged
 pageAfresh m ss bs = pageAnswer (freshRows m 0 ss) bs

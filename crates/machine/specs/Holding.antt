@@ -13,12 +13,12 @@ use Rattle.kernel.specs.Field.{centreOf}
 use Rattle.kernel.specs.declared.kernel.Kernel.{Kernel}
 use Rattle.pieces.specs.declared.pieces.Pieces.{Pieces}
 use Rattle.layout.specs.Layout.{coordsFrom, cornersFrom}
-use Rattle.machine.specs.Machine.{Mesh, Slot, empty, full}
+use Rattle.machine.specs.Machine.{Mesh, Place, empty, full}
 
 -- ---- the float run
 
 -- "place i's c, sigma, w, alpha, error"; "Unused fields are zero"
-abbrev pub floats7 : Slot → List Float
+abbrev pub floats7 : Place → List Float
 floats7 empty = replicate 7 +0
 floats7 (full k fit p) =
     getD (k .c) 0 nan ∷ getD (k .c) 1 nan ∷ getD (k .c) 2 nan ∷ k .sigma ∷ k .w ∷ k .alpha ∷ fit .error ∷ []
@@ -38,7 +38,7 @@ cells m k fit (suc n) j t =
     ∷ cells m k fit n (suc j) (t - m .faces)
 
 -- "Unused fields are zero": those of the pieces past its last
-abbrev pub floats48 : Mesh → Slot → List Float
+abbrev pub floats48 : Mesh → Place → List Float
 floats48 m empty = replicate 48 +0
 floats48 m (full k fit p) = cells m k fit (fit .count) 0 p ++ replicate (48 - 3 * fit .count) +0
 
@@ -48,7 +48,7 @@ flat [] = []
 flat (r ∷ rs) = r ++ flat rs
 
 -- "[0] radius; from 1+7i ..; from 225+48i ..; from 1,761 coordinates", then what lies past the store's own floats
-unfoldable pub floatsOf : Mesh → List Slot → List Float → List Float
+unfoldable pub floatsOf : Mesh → List Place → List Float → List Float
 floatsOf m ss xs = m .radius ∷ (flat (map floats7 ss) ++ (flat (map (floats48 m) ss) ++ (m .coords ++ xs)))
 
 -- ---- the u32 run
@@ -58,12 +58,12 @@ floatsOf m ss xs = m .radius ∷ (flat (map floats7 ss) ++ (flat (map (floats48 
 abbrev pub finished : Mesh → Pieces → ℕ → ℕ
 finished m fit p = cond (eqb (m .faces) 0) (fit .count) (p / m .faces)
 
-abbrev pub placeRow : Mesh → Slot → List ℕ
+abbrev pub placeRow : Mesh → Place → List ℕ
 placeRow m empty = 0 ∷ 0 ∷ 0 ∷ []
 placeRow m (full k fit p) = (1 + fit .count) ∷ finished m fit p ∷ p % m .faces ∷ []
 
 -- "V, F; from 2+3i ..; from 98 corners", then what lies past the store's own words
-unfoldable pub wordsOf : Mesh → List Slot → List ℕ → List ℕ
+unfoldable pub wordsOf : Mesh → List Place → List ℕ → List ℕ
 wordsOf m ss ys = m .verts ∷ m .faces ∷ (flat (map (placeRow m) ss) ++ (m .corners ++ ys))
 
 -- ---- what an opening found past them

@@ -10,7 +10,7 @@ use Rattle.base.specs.Answers.{Answer, refused, counted, done}
 use Rattle.base.specs.declared.refusal.Refusal.the-variants.{Vacant}
 use Rattle.kernel.specs.declared.kernel.Kernel.{Kernel}
 use Rattle.pieces.specs.declared.pieces.Pieces.{Pieces}
-use Rattle.layout.specs.Layout.{slotLimit}
+use Rattle.layout.specs.Layout.{placeLimit}
 use Rattle.store.specs.Squeeze.{used, pointOf}
 
 -- the mesh and radius that an opening gave: V and F are the counts of vertices and faces
@@ -22,32 +22,32 @@ pub record Mesh : Type 0 where
   pub faces : ℕ
 
 -- "each place is empty or (kernel, steps p)"; a filled one keeps the pieces that its decomposition gave
-pub data Slot : Type 0 where
-  empty : Slot
-  full : Kernel → Pieces → ℕ → Slot
+pub data Place : Type 0 where
+  empty : Place
+  full : Kernel → Pieces → ℕ → Place
 
 -- "pieces is how many its decomposition gives, need = pieces times F"
 abbrev pub need : Mesh → Pieces → ℕ
 need m fit = fit .count * m .faces
 
 -- need - p, "0 for an empty place"
-abbrev pub leftSlot : Mesh → Slot → ℕ
-leftSlot m empty = 0
-leftSlot m (full k fit p) = need m fit - p
+abbrev pub leftPlace : Mesh → Place → ℕ
+leftPlace m empty = 0
+leftPlace m (full k fit p) = need m fit - p
 
 -- "left, the sum of need - p"
-abbrev pub leftSum : Mesh → List Slot → ℕ
+abbrev pub leftSum : Mesh → List Place → ℕ
 leftSum m [] = 0
-leftSum m (s ∷ ss) = leftSlot m s + leftSum m ss
+leftSum m (s ∷ ss) = leftPlace m s + leftSum m ss
 
 -- u steps more
-abbrev pub adv : ℕ → Slot → Slot
+abbrev pub adv : ℕ → Place → Place
 adv u empty = empty
 adv u (full k fit p) = full k fit (p + u)
 
 pub record Machine : Type 0 where
   pub mesh : Mesh
-  pub slots : List Slot
+  pub places : List Place
   pub charged : ℕ
   pub dropped : ℕ
   -- the coordinates that squeezes freed
@@ -55,7 +55,7 @@ pub record Machine : Type 0 where
 
 -- the work left in all places
 abbrev pub workLeft : Machine → ℕ
-workLeft m = leftSum (m .mesh) (m .slots)
+workLeft m = leftSum (m .mesh) (m .places)
 
 -- what a call does: the machine after it, the reply, and what is lent beside the store as it is then: a run of floats,
 -- or the bytes of a page ([] where none is lent)
@@ -69,11 +69,11 @@ abbrev pub turn : Machine → Answer → Turn
 turn m r = record { next = m; reply = r; out = []; page = [] }
 
 -- with other places, and so much more charged and dropped
-abbrev pub with-slots : Machine → List Slot → ℕ → ℕ → Machine
-with-slots m ss c d =
+abbrev pub with-places : Machine → List Place → ℕ → ℕ → Machine
+with-places m ss c d =
     record {
       mesh = m .mesh;
-      slots = ss;
+      places = ss;
       charged = m .charged + c;
       dropped = m .dropped + d;
       freed = m .freed;
@@ -85,7 +85,7 @@ meshOf r xs ks = record { radius = r; coords = xs; corners = ks; verts = length 
 
 abbrev pub opened : Float → List Float → List ℕ → Machine
 opened r xs ks =
-    record { mesh = meshOf r xs ks; slots = replicate slotLimit empty; charged = 0; dropped = 0; freed = 0 }
+    record { mesh = meshOf r xs ks; places = replicate placeLimit empty; charged = 0; dropped = 0; freed = 0 }
 
 -- "index ≥ V": some corner names no vertex
 abbrev pub looseIn : ℕ → List ℕ → Bool
@@ -110,36 +110,36 @@ openRow q xs ks a b =
 -- "Put: charged += need, dropped += the old need - p (0 for an empty place), p = 0. Answers pieces and need."
 abbrev pub putTurn : Machine → ℕ → Kernel → Pieces → Turn
 putTurn m i k fit =
-    let old = getD (m .slots) i empty in
-    turn (with-slots m (set (m .slots) i (full k fit 0)) (need (m .mesh) fit) (leftSlot (m .mesh) old))
+    let old = getD (m .places) i empty in
+    turn (with-places m (set (m .places) i (full k fit 0)) (need (m .mesh) fit) (leftPlace (m .mesh) old))
     (counted (fit .count ∷ need (m .mesh) fit ∷ []))
 
 -- "Clear: dropped += need - p; empty."
-abbrev pub clearTurn : Machine → ℕ → Slot → Turn
+abbrev pub clearTurn : Machine → ℕ → Place → Turn
 clearTurn m i empty = turn m (refused Vacant)
-clearTurn m i (full k fit p) = turn (with-slots m (set (m .slots) i empty) 0 (need (m .mesh) fit - p)) done
+clearTurn m i (full k fit p) = turn (with-places m (set (m .places) i empty) 0 (need (m .mesh) fit - p)) done
 
 -- "Reweigh: new w, p kept."
 abbrev pub weighed : Kernel → Float → Kernel
 weighed k v = record { c = k .c; sigma = k .sigma; w = v; alpha = k .alpha }
 
-abbrev pub reweighTurn : Machine → ℕ → Float → Slot → Turn
+abbrev pub reweighTurn : Machine → ℕ → Float → Place → Turn
 reweighTurn m i v empty = turn m (refused Vacant)
-reweighTurn m i v (full k fit p) = turn (with-slots m (set (m .slots) i (full (weighed k v) fit p)) 0 0) done
+reweighTurn m i v (full k fit p) = turn (with-places m (set (m .places) i (full (weighed k v) fit p)) 0 0) done
 
 -- "Advance(n, u64): does min(n, left) steps, lowest unfinished place first, one face of one piece each; the step count
 -- in its result is done, beside left"
-abbrev pub bump : Mesh → List Slot → List Slot
+abbrev pub bump : Mesh → List Place → List Place
 bump m [] = []
-bump m (s ∷ ss) = cond (eqb (leftSlot m s) 0) (s ∷ bump m ss) (adv 1 s ∷ ss)
+bump m (s ∷ ss) = cond (eqb (leftPlace m s) 0) (s ∷ bump m ss) (adv 1 s ∷ ss)
 
 abbrev pub stepsOf : Machine → ℕ → ℕ
 stepsOf m n = min n (workLeft m)
 
 abbrev pub advanceTurn : Machine → ℕ → Turn
 advanceTurn m n =
-    let ss = iterate (bump (m .mesh)) (stepsOf m n) (m .slots) in
-    turn (with-slots m ss 0 0) (counted (stepsOf m n ∷ leftSum (m .mesh) ss ∷ []))
+    let ss = iterate (bump (m .mesh)) (stepsOf m n) (m .places) in
+    turn (with-places m ss 0 0) (counted (stepsOf m n ∷ leftSum (m .mesh) ss ∷ []))
 
 -- ---- 02, L12, on the machine's mesh alone
 
@@ -181,7 +181,7 @@ squeezeTurn m =
     turn
     (record {
       mesh = slim (m .mesh);
-      slots = m .slots;
+      places = m .places;
       charged = m .charged;
       dropped = m .dropped;
       freed = n + m .freed;

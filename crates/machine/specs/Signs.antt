@@ -13,7 +13,7 @@ use Rattle.kernel.specs.Kernels.{turned}
 use Rattle.pieces.specs.Pieces.{stays}
 use Rattle.mass.specs.Calls.{kernelVolumeCall}
 use Rattle.density.specs.Densitize.{densitized}
-use Rattle.layout.specs.Layout.{width, slotLimit, pieceLimit, pieceFrom}
+use Rattle.layout.specs.Layout.{width, placeLimit, pieceLimit, pieceFrom}
 use Rattle.store.specs.Calls.{openStep}
 use Rattle.readings.specs.Readings.{density, report, list, track, six}
 use Rattle.machine.specs.Machine.{openRow}
@@ -64,7 +64,7 @@ said q s (c ∷ cs) = unsignedHeard c (hearing (store q s c)) ∷ said q (store 
 pub record SameSaid (q : ℕ) (s : Store) (cs ds : List Call) : Type 0 where
   pub calls : said q s cs ≡ said q s ds
   -- "volume so far" of each piece of each place, after the lists
-  pub volumes : (i j : ℕ) → i < slotLimit → j < pieceLimit
+  pub volumes : (i j : ℕ) → i < placeLimit → j < pieceLimit
       → getD (leaves q s cs .floats) (pieceFrom i j + 2) nan ≡ getD (leaves q s ds .floats) (pieceFrom i j + 2) nan
 
 -- ---- the statement: no premise looks at a value

@@ -8,7 +8,7 @@ use Rattle.mesh.specs.Checks.{vertexLimit, faceLimit, allBelow}
 use Rattle.kernel.specs.declared.kernel.Kernel.{Kernel}
 use Rattle.pieces.specs.declared.pieces.Pieces.{Pieces}
 use Rattle.pieces.specs.Pieces.{decomposed}
-use Rattle.machine.specs.Machine.{Mesh, Slot, empty, full, need}
+use Rattle.machine.specs.Machine.{Mesh, Place, empty, full, need}
 
 -- a filled place
 pub record Okay (m : Mesh) (k : Kernel) (fit : Pieces) (p : ℕ) : Type 0 where
@@ -18,7 +18,7 @@ pub record Okay (m : Mesh) (k : Kernel) (fit : Pieces) (p : ℕ) : Type 0 where
   -- its steps are within its need
   pub steps : p ≤ need m fit
 
-abbrev pub Within : Mesh → Slot → Type 0
+abbrev pub Within : Mesh → Place → Type 0
 Within m empty = Unit {0}
 Within m (full k fit p) = Okay m k fit p
 
@@ -31,7 +31,7 @@ pub record Shape (m : Mesh) : Type 0 where
   pub below : allBelow (m .verts) (m .corners) ≡ true
 
 -- and its 32 places
-pub record Valid (m : Mesh) (ss : List Slot) : Type 0 where
+pub record Valid (m : Mesh) (ss : List Place) : Type 0 where
   pub mesh : Shape m
-  pub slots : length ss ≡ 32
+  pub places : length ss ≡ 32
   pub within : (i : ℕ) → Within m (getD ss i empty)

@@ -11,7 +11,7 @@ use Rattle.base.specs.declared.refusal.Refusal.the-variants.{NoFigure, ShortPag
 use Rattle.base.specs.declared.refusal.Checked.{Checked}
 use Rattle.base.specs.declared.refusal.Checked.the-variants.{Passed, Failed}
 use Rattle.layout.specs.Runs.{write}
-use Rattle.layout.specs.Layout.{slotLimit, statusOf}
+use Rattle.layout.specs.Layout.{placeLimit, statusOf}
 use Rattle.readings.specs.Readings.{rawMass, heldAt}
 use Rattle.readings.specs.Checks.{readCheck}
 use Rattle.text.specs.Text.{bytes}
@@ -116,4 +116,4 @@ heldRows q fs ws (suc k) = heldRows q fs ws k ++ rowAt fs k (statusOf q ws k)
 
 -- the contract. "It is given only when nothing is left to do, else 8": 4, 5 and 8 as for a report
 unfoldable pub pageStep : ℕ → List Float → List ℕ → List ℕ → Paged
-pageStep q fs ws bs = guardedPage (readCheck q fs ws true) bs (pageAnswer (heldRows q fs ws slotLimit) bs)
+pageStep q fs ws bs = guardedPage (readCheck q fs ws true) bs (pageAnswer (heldRows q fs ws placeLimit) bs)

@@ -203,7 +203,7 @@ module _ (q : ℕ) (fs : List Float) (ws : List ℕ) where
     rows-fair zero h e = tt
     rows-fair (suc n) h e =
         let z = and-eq-true-iff (allPrintable (heldRows q fs ws n)) (allPrintable (at n)) .0 (sym (printable-append (heldRows q fs ws n) (at n)) ∙ e) in
-        fair-append (heldRows q fs ws n) (at n) (rows-fair n (omega arith) (z .0)) (row-fair n (statusOf q ws n) (omega arith) (w .slot n (omega arith) .pieces) (z .1))
+        fair-append (heldRows q fs ws n) (at n) (rows-fair n (omega arith) (z .0)) (row-fair n (statusOf q ws n) (omega arith) (w .place n (omega arith) .pieces) (z .1))
 
   pub rows-mono : (k n : ℕ) → k ≤ n → length (heldRows q fs ws k) ≤ length (heldRows q fs ws n)
   unfolding heldRows

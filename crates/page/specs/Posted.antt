@@ -17,7 +17,7 @@ use Rattle.base.specs.declared.refusal.Refusal.the-variants.{NoFigure, ShortPag
 use Rattle.base.specs.declared.refusal.Checked.{Checked}
 use Rattle.base.specs.declared.refusal.Checked.the-variants.{Passed, Failed}
 use Rattle.layout.specs.Runs.{write}
-use Rattle.layout.specs.Layout.{slotLimit, facesOf}
+use Rattle.layout.specs.Layout.{placeLimit, facesOf}
 use Rattle.layout.specs.SoundLaws.{fine}
 use Rattle.readings.specs.Readings.{heldFilled}
 use Rattle.readings.specs.Checks.{readCheck}
@@ -35,10 +35,10 @@ module _ (q : ℕ) (fs : List Float) (ws bs : List ℕ) where
   got = pageStep q fs ws bs
 
   abbrev pub rows : List Row
-  rows = heldRows q fs ws slotLimit
+  rows = heldRows q fs ws placeLimit
 
   abbrev pub size : ℕ
-  size = 65 * suc (heldFilled q ws slotLimit)
+  size = 65 * suc (heldFilled q ws placeLimit)
 
   abbrev pub wall : List ℕ
   wall = take size (got .page)
@@ -47,11 +47,11 @@ module _ (q : ℕ) (fs : List Float) (ws bs : List ℕ) where
     -- "it answers its byte count"
     pub reply : got .reply ≡ counted (size ∷ [])
     -- "Every line has 64 characters and a newline": one per filled place, and the last
-    pub lines : Lines wall (suc (heldFilled q ws slotLimit))
+    pub lines : Lines wall (suc (heldFilled q ws placeLimit))
     -- each place's number, pieces and rounded mass, as they are read
-    pub places : readLines (heldFilled q ws slotLimit) wall ≡ map shown rows
+    pub places : readLines (heldFilled q ws placeLimit) wall ≡ map shown rows
     -- "the sum of the printed masses"
-    pub total : readMass (drop (65 * heldFilled q ws slotLimit) wall) ≡ exactly (totalOf rows)
+    pub total : readMass (drop (65 * heldFilled q ws placeLimit) wall) ≡ exactly (totalOf rows)
     -- "bytes past that untouched"
     pub rest : drop size (got .page) ≡ drop size bs
 
@@ -80,9 +80,9 @@ module _ (q : ℕ) (fs : List Float) (ws bs : List ℕ) where
   posted h =
       let g = good h in
       let s = fine q fs ws (read-passed q fs ws true (g .sound)) in
-      let f : AllFair rows = rows-fair q fs ws (facesOf ws) (s .slots) slotLimit (omega arith) (g .figures) in
-      let k = rows-count q fs ws slotLimit in
-      let few : length rows ≤ 32 = rw k (filled-most q ws slotLimit) in
+      let f : AllFair rows = rows-fair q fs ws (facesOf ws) (s .places) placeLimit (omega arith) (g .figures) in
+      let k = rows-count q fs ws placeLimit in
+      let few : length rows ≤ 32 = rw k (filled-most q ws placeLimit) in
       let n : length (pageOf rows) ≡ size = page-length rows f few ∙ omega (arith, k) in
       let w : wall ≡ pageOf rows = ap (λ (p : Paged). take size (p .page)) (g .is) ∙ rw (← n) (take-append-seam (pageOf rows) (drop (length (pageOf rows)) bs)) in
       record {

@@ -4,18 +4,18 @@ ghost use mathlib.Core.Bool.{true};
 ghost use Prim.Native.Nat.{_+_, _*_, _≤_};
 ghost use lib.ListN.{length};
 ghost use Rattle.layout.specs.Runs.{write};
-ghost use Rattle.layout.specs.Layout.{width, slotLimit, coordsFrom};
+ghost use Rattle.layout.specs.Layout.{width, placeLimit, coordsFrom};
 ghost use Rattle.layout.specs.SoundLaws.{Worded};
 ghost use Rattle.page.specs.Page.{paged, allPrintable, heldRows, pageOf, pageAnswer, pageStep};
 ghost use Rattle.page.specs.PageAnswer.{pageRead};
 use crate::lines::write_total;
 use crate::masses::Sums;
 use crate::masses::all_printable;
-use crate::masses::slot_line;
+use crate::masses::place_line;
 use crate::masses::total;
 use base::refusal::Checked;
 use base::refusal::Refusal;
-use layout::offsets::SLOTS;
+use layout::offsets::PLACES;
 use layout::offsets::STATE;
 use layout::offsets::WIDTH;
 use layout::runs::word;
@@ -30,8 +30,8 @@ pub enum PageRead {
 
 // Writes the page of a sound store whose masses can be printed.
 fn write_page(out: &mut [u8], f: &[f64], w: &[u32], faces: usize)
-    requires { ⌜ coordsFrom ≤ length (now f) ⌝ ∗ ⌜ Worded width (now w) faces ⌝ ∗ ⌜ (allPrintable (heldRows width (now f) (now w) slotLimit) ≡ true) × (65 * length (heldRows width (now f) (now w) slotLimit) + 65 ≤ length (now out)) ⌝ }
-    ensures { λ _. ⌜ now (out .exit) ≡ write (now (out .entry)) 0 (pageOf (heldRows width (now (f .entry)) (now (w .entry)) slotLimit)) ⌝ }
+    requires { ⌜ coordsFrom ≤ length (now f) ⌝ ∗ ⌜ Worded width (now w) faces ⌝ ∗ ⌜ (allPrintable (heldRows width (now f) (now w) placeLimit) ≡ true) × (65 * length (heldRows width (now f) (now w) placeLimit) + 65 ≤ length (now out)) ⌝ }
+    ensures { λ _. ⌜ now (out .exit) ≡ write (now (out .entry)) 0 (pageOf (heldRows width (now (f .entry)) (now (w .entry)) placeLimit)) ⌝ }
 {
     let mut s = Sums {
         at: 0,
@@ -39,8 +39,8 @@ fn write_page(out: &mut [u8], f: &[f64], w: &[u32], faces: usize)
         less: 0,
     };
     let mut i: usize = 0;
-    while i < SLOTS {
-        s = slot_line(out, f, i, w[STATE + WIDTH * i], s);
+    while i < PLACES {
+        s = place_line(out, f, i, w[STATE + WIDTH * i], s);
         i += 1;
     }
     write_total(out, s.at, total(s.plus, s.less));
@@ -49,7 +49,7 @@ fn write_page(out: &mut [u8], f: &[f64], w: &[u32], faces: usize)
 // Refusal 17 or 18, or the page.
 fn page_of(f: &[f64], w: &[u32], faces: usize, out: &mut [u8]) -> PageRead
     requires { ⌜ coordsFrom ≤ length (now f) ⌝ ∗ ⌜ Worded width (now w) faces ⌝ }
-    ensures { λ r. ⌜ paged (pageRead r) (now (out .exit)) ≡ pageAnswer (heldRows width (now (f .entry)) (now (w .entry)) slotLimit) (now (out .entry)) ⌝ }
+    ensures { λ r. ⌜ paged (pageRead r) (now (out .exit)) ≡ pageAnswer (heldRows width (now (f .entry)) (now (w .entry)) placeLimit) (now (out .entry)) ⌝ }
 {
     if !all_printable(f, w, faces) {
         return PageRead::Refused(Refusal::NoFigure);

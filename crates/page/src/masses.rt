@@ -5,7 +5,7 @@ ghost use mathlib.Core.Bool.{true};
 ghost use Prim.Native.Nat.{_+_, _*_, _-_, _≤_, _<_};
 ghost use lib.IntN.{pos, _+ℤ_, _-ℤ_};
 ghost use lib.ListN.{length};
-ghost use Rattle.layout.specs.Layout.{width, slotLimit, pieceLimit, coordsFrom};
+ghost use Rattle.layout.specs.Layout.{width, placeLimit, pieceLimit, coordsFrom};
 ghost use Rattle.layout.specs.SoundLaws.{Worded};
 ghost use Rattle.text.specs.Print.{Wrote};
 ghost use Rattle.whole.specs.Whole.{signedWhole};
@@ -13,33 +13,33 @@ ghost use Rattle.page.specs.Page.{rowAt, heldRows, allPrintable, linesOf
 use crate::lines::write_line;
 use base::floats::abs;
 use layout::left::pieces;
-use layout::offsets::SLOTS;
+use layout::offsets::PLACES;
 use layout::offsets::STATE;
 use layout::offsets::WIDTH;
-use readings::sums::slot_mass;
+use readings::sums::place_mass;
 use whole::rounding::Whole;
 use whole::rounding::rounded;
 
 // Whether place i is empty or its mass can be printed.
-fn slot_printable(f: &[f64], i: usize, status: u32) -> bool
-    requires { ⌜ (coordsFrom ≤ length (now f)) × (i < slotLimit) × (status - 1 ≤ pieceLimit) ⌝ }
+fn place_printable(f: &[f64], i: usize, status: u32) -> bool
+    requires { ⌜ (coordsFrom ≤ length (now f)) × (i < placeLimit) × (status - 1 ≤ pieceLimit) ⌝ }
     ensures { λ r. ⌜ r ≡ allPrintable (rowAt (now (f .entry)) i status) ⌝ }
 {
     if status == 0 {
         return true;
     }
-    abs(slot_mass(f, i, pieces(status), 0.0)) <= 1e15
+    abs(place_mass(f, i, pieces(status), 0.0)) <= 1e15
 }
 
 // Whether the masses of all filled places can be printed.
 pub fn all_printable(f: &[f64], w: &[u32], faces: usize) -> bool
     requires { ⌜ coordsFrom ≤ length (now f) ⌝ ∗ ⌜ Worded width (now w) faces ⌝ }
-    ensures { λ r. ⌜ r ≡ allPrintable (heldRows width (now (f .entry)) (now (w .entry)) slotLimit) ⌝ }
+    ensures { λ r. ⌜ r ≡ allPrintable (heldRows width (now (f .entry)) (now (w .entry)) placeLimit) ⌝ }
 {
     let mut good = true;
     let mut i: usize = 0;
-    while i < SLOTS {
-        good = good & slot_printable(f, i, w[STATE + WIDTH * i]);
+    while i < PLACES {
+        good = good & place_printable(f, i, w[STATE + WIDTH * i]);
         i += 1;
     }
     good
@@ -90,8 +90,8 @@ pub fn total(plus: u64, less: u64) -> Whole
 }
 
 // The line of place i, if it is filled.
-pub fn slot_line(out: &mut [u8], f: &[f64], i: usize, status: u32, s: Sums) -> Sums
-    requires { ⌜ (coordsFrom ≤ length (now f)) × (i < slotLimit) × (status - 1 ≤ pieceLimit) ⌝ ∗ ⌜ allPrintable (rowAt (now f) i status) ≡ true ⌝ ∗ ⌜ (s .at + 65 * length (rowAt (now f) i status) ≤ length (now out)) × (s .plus ≤ 31000000000000000) × (s .less ≤ 31000000000000000) ⌝ }
+pub fn place_line(out: &mut [u8], f: &[f64], i: usize, status: u32, s: Sums) -> Sums
+    requires { ⌜ (coordsFrom ≤ length (now f)) × (i < placeLimit) × (status - 1 ≤ pieceLimit) ⌝ ∗ ⌜ allPrintable (rowAt (now f) i status) ≡ true ⌝ ∗ ⌜ (s .at + 65 * length (rowAt (now f) i status) ≤ length (now out)) × (s .plus ≤ 31000000000000000) × (s .less ≤ 31000000000000000) ⌝ }
     ensures { λ r. ⌜ (r .at ≡ s .at + 65 * length (rowAt (now (f .entry)) i status)) × Wrote (now (out .entry)) (s .at) (linesOf (rowAt (now (f .entry)) i status)) (r .at) (now (out .exit)) ⌝ }
     ensures { λ r. ⌜ (pos (r .plus) -ℤ pos (r .less) ≡ (pos (s .plus) -ℤ pos (s .less)) +ℤ totalOf (rowAt (now (f .entry)) i status)) × (r .plus ≤ s .plus + 1000000000000000) × (r .less ≤ s .less + 1000000000000000) ⌝ }
 {
@@ -99,7 +99,7 @@ pub fn slot_line(out: &mut [u8], f: &[f64], i: usize, status: u32, s: Sums) -> S
         return s;
     }
     let count = pieces(status);
-    let v = rounded(slot_mass(f, i, count, 0.0));
+    let v = rounded(place_mass(f, i, count, 0.0));
     let at = write_line(out, s.at, i as u64, count as u64, v);
     add(s, at, v)
 }

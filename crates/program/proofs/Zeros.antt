@@ -13,8 +13,8 @@ use Rattle.base.specs.Answers.{counted}
 use Rattle.base.specs.declared.refusal.Checked.the-variants.{Passed}
 use Rattle.layout.specs.Runs.{write}
 use Rattle.mesh.specs.Checks.{meshCheck, allBelow}
-use Rattle.layout.specs.Layout.{slotLimit, width, coordsFrom, cornersFrom}
-use Rattle.layout.specs.Soundness.{every, longEnough, slotSound, slotSoundAt, sound, storeCheck}
+use Rattle.layout.specs.Layout.{placeLimit, width, coordsFrom, cornersFrom}
+use Rattle.layout.specs.Soundness.{every, longEnough, placeSound, placeSoundAt, sound, storeCheck}
 use Rattle.layout.specs.After.{after}
 use Rattle.store.specs.Calls.{openCheck, openFloats, openWords, openStep}
 use Rattle.program.specs.Bench.{atFirst}
@@ -42,7 +42,7 @@ module _ (q a b : ℕ) (long : coordsFrom ≤ a) (wide : cornersFrom q ≤ b) wh
   unfolding openStep openCheck meshCheck allBelow
   zeros-opened =
       let n = coordsFrom - 1 in
-      let m = q * slotLimit in
+      let m = q * placeLimit in
       let f : write (replicate a +0) 0 (openFloats +0 []) ≡ replicate a +0 =
       ap (λ l. write (replicate a +0) 0 (+0 ∷ l)) (append-nil (replicate n +0)) ∙ write-same +0 (suc n) a (omega arith) in
       let w : write (replicate b 0) 0 (openWords q 0 0 []) ≡ replicate b 0 =
@@ -51,10 +51,10 @@ module _ (q a b : ℕ) (long : coordsFrom ≤ a) (wide : cornersFrom q ≤ b) wh
       (λ i. after (counted (0 ∷ 0 ∷ [])) (f i) (w i))
 
   pub zeros-sound : storeCheck q (replicate a +0) (replicate b 0) ≡ Passed
-  unfolding storeCheck longEnough sound slotSoundAt slotSound allBelow
+  unfolding storeCheck longEnough sound placeSoundAt placeSound allBelow
   zeros-sound =
-      let s : (i : ℕ) → slotSoundAt q (replicate b 0) i ≡ true = λ i. rw (word-zero b (2 + q * i), word-zero b (3 + q * i), word-zero b (4 + q * i)) in
-      rw (every-true (slotSoundAt q (replicate b 0)) slotLimit s, word-zero b 0, word-zero b 1, length-replicate a +0, length-replicate {A = ℕ} b 0, le-leb coordsFrom a long, le-leb (cornersFrom q + 0) b (omega arith))
+      let s : (i : ℕ) → placeSoundAt q (replicate b 0) i ≡ true = λ i. rw (word-zero b (2 + q * i), word-zero b (3 + q * i), word-zero b (4 + q * i)) in
+      rw (every-true (placeSoundAt q (replicate b 0)) placeLimit s, word-zero b 0, word-zero b 1, length-replicate a +0, length-replicate {A = ℕ} b 0, le-leb coordsFrom a long, le-leb (cornersFrom q + 0) b (omega arith))
 
 -- ---- the program's first store
 pub first-opened : openStep width (atFirst .floats) (atFirst .words) +0 [] [] ≡ after (counted (0 ∷ 0 ∷ [])) (atFirst .floats) (atFirst .words)

@@ -13,7 +13,7 @@ use Rattle.base.specs.Answers.{andThen, refused, counted, outcome}
 use Rattle.base.specs.declared.refusal.Refusal.the-variants.{Unfinished, ShortList}
 use Rattle.base.specs.declared.refusal.Checked.{Checked}
 use Rattle.base.specs.declared.refusal.Checked.the-variants.{Passed, Failed}
-use Rattle.layout.specs.Layout.{slotLimit, facesOf}
+use Rattle.layout.specs.Layout.{placeLimit, facesOf}
 use Rattle.layout.specs.Soundness.{storeCheck}
 use Rattle.layout.specs.SoundLaws.{passed-both}
 use Rattle.layout.specs.Left.{leftOf}
@@ -23,7 +23,7 @@ use Rattle.readings.specs.Checks.{readCheck}
 -- a reading is its check, then its answer
 pub read-as : (q : ℕ) (fs : List Float) (ws : List ℕ) (r : Reading) → readStep q fs ws r ≡ guardedRead (readCheck q fs ws (needsWork r)) r (answerOf r (heldSeen q fs ws))
 unfolding readStep readCheck
-read-as q fs ws r = go (storeCheck q fs ws) (needsWork r && ltb 0 (leftOf q ws (facesOf ws) slotLimit))
+read-as q fs ws r = go (storeCheck q fs ws) (needsWork r && ltb 0 (leftOf q ws (facesOf ws) placeLimit))
   where
     go : (a : Checked) (b : Bool) → guardedRead a r (cond b (refusing r Unfinished) (answerOf r (heldSeen q fs ws))) ≡ guardedRead (andThen a (cond b (Failed Unfinished) Passed)) r (answerOf r (heldSeen q fs ws))
     go Passed true = refl

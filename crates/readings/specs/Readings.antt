@@ -22,7 +22,7 @@ use Rattle.density.specs.declared.report.MassReport.{MassReport}
 use Rattle.density.specs.Densitize.{densitizeOf}
 use Rattle.density.specs.Conventions.{bulkOf, rho0Scale, appliedScale}
 use Rattle.density.specs.Reports.{reportValues, reportOf}
-use Rattle.layout.specs.Layout.{slotLimit, centreOf, weightOf, alphaOf, errorOf, pieceFrom, vertsOf, facesOf, statusOf}
+use Rattle.layout.specs.Layout.{placeLimit, centreOf, weightOf, alphaOf, errorOf, pieceFrom, vertsOf, facesOf, statusOf}
 use Rattle.layout.specs.Soundness.{storeCheck}
 use Rattle.layout.specs.Left.{held, leftOf}
 use Rattle.readings.specs.Along.{along}
@@ -184,7 +184,7 @@ heldWorst q fs ws (suc k) = cond (eqb (statusOf q ws k) 0) (heldWorst q fs ws k)
 
 unfoldable pub heldSeen : ℕ → List Float → List ℕ → Seen
 heldSeen q fs ws =
-    seeing (heldAll q fs ws slotLimit) (bodyVolume (held q fs ws (vertsOf ws) (facesOf ws)) (facesOf ws)) (heldFilled q ws slotLimit) (heldWorst q fs ws slotLimit)
+    seeing (heldAll q fs ws placeLimit) (bodyVolume (held q fs ws (vertsOf ws) (facesOf ws)) (facesOf ws)) (heldFilled q ws placeLimit) (heldWorst q fs ws placeLimit)
 
 -- the contract of the four readings; none changes the store
 abbrev pub guardedRead : Checked → Reading → Outcome → Outcome
@@ -192,4 +192,4 @@ guardedRead Passed r good = good
 guardedRead (Failed e) r good = refusing r e
 
 unfoldable pub readStep : ℕ → List Float → List ℕ → Reading → Outcome
-readStep q fs ws r = guardedRead (storeCheck q fs ws) r (readingOf r (leftOf q ws (facesOf ws) slotLimit) (heldSeen q fs ws))
+readStep q fs ws r = guardedRead (storeCheck q fs ws) r (readingOf r (leftOf q ws (facesOf ws) placeLimit) (heldSeen q fs ws))

@@ -18,7 +18,7 @@ use Rattle.base.specs.declared.refusal.Refusal.the-variants.{Unfinished}
 use Rattle.base.specs.declared.refusal.Checked.{Checked}
 use Rattle.base.specs.declared.refusal.Checked.the-variants.{Passed, Failed}
 use Rattle.density.specs.declared.convention.Convention.{Convention}
-use Rattle.layout.specs.Layout.{slotLimit, facesOf}
+use Rattle.layout.specs.Layout.{placeLimit, facesOf}
 use Rattle.layout.specs.Soundness.{storeCheck}
 use Rattle.layout.specs.Left.{leftOf}
 use Rattle.layout.specs.Runs.{write}
@@ -62,7 +62,7 @@ module _ (q : ℕ) (fs : List Float) (ws : List ℕ) (v : Convention) (points ou
   -- where the track is not refused, the density reading at each of its points is not, and answers the word that is written there
   pub each-point : (i : ℕ) → i < length points / 3 → got .reply .refusal ≡ 0 → readStep q fs ws (density v (pointAt points i)) ≡ outcome (accepted (getD (got .out) i nan ∷ [])) []
   unfolding readStep
-  each-point i l = go (storeCheck q fs ws) (byMass v && ltb 0 (leftOf q ws (facesOf ws) slotLimit)) (trackCheck (length points) (length out))
+  each-point i l = go (storeCheck q fs ws) (byMass v && ltb 0 (leftOf q ws (facesOf ws) placeLimit)) (trackCheck (length points) (length out))
     where
       word : getD W i nan ≡ F (pointAt points i)
       word = front (along F points (length points / 3)) out i nan (rw (stretch-length F points 0 (length points / 3)) l) ∙ (stretch-at F points 0 (length points / 3) i nan l ∙ ap (λ (n : ℕ). F (pointAt points n)) (zero-add i))
@@ -76,7 +76,7 @@ module _ (q : ℕ) (fs : List Float) (ws : List ℕ) (v : Convention) (points ou
   -- "a run's words past what a call writes stay untouched"
   pub rest-stays : drop (length points / 3) (got .out) ≡ drop (length points / 3) out
   unfolding readStep
-  rest-stays = go (storeCheck q fs ws) (byMass v && ltb 0 (leftOf q ws (facesOf ws) slotLimit)) (trackCheck (length points) (length out))
+  rest-stays = go (storeCheck q fs ws) (byMass v && ltb 0 (leftOf q ws (facesOf ws) placeLimit)) (trackCheck (length points) (length out))
     where
       go : (a : Checked) (b : Bool) (c : Checked) → drop (length points / 3) (all a b c .out) ≡ drop (length points / 3) out
       go (Failed e) b c = refl
@@ -89,7 +89,7 @@ module _ (q : ℕ) (fs : List Float) (ws : List ℕ) (v : Convention) (points ou
   -- "for 8 a track counts as a density": where the density reading is refused, the track is refused alike
   pub refused-alike : (x : List Float) → (readStep q fs ws (density v x) .reply .refusal ≡ 0 → ⊥) → got .reply ≡ readStep q fs ws (density v x) .reply
   unfolding readStep
-  refused-alike x = go (storeCheck q fs ws) (byMass v && ltb 0 (leftOf q ws (facesOf ws) slotLimit)) (trackCheck (length points) (length out))
+  refused-alike x = go (storeCheck q fs ws) (byMass v && ltb 0 (leftOf q ws (facesOf ws) placeLimit)) (trackCheck (length points) (length out))
     where
       go : (a : Checked) (b : Bool) (c : Checked) → (one a b x .reply .refusal ≡ 0 → ⊥) → all a b c .reply ≡ one a b x .reply
       go (Failed e) b c h = refl

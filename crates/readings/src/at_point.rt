@@ -6,7 +6,7 @@ ghost use Prim.Native.Nat.{_≤_};
 ghost use lib.ListN.{length};
 ghost use Rattle.base.specs.Answers.{measuredAs, outcome};
 ghost use Rattle.density.specs.declared.convention.Convention.the-variants.{Rho0, Mass};
-ghost use Rattle.layout.specs.Layout.{width, slotLimit, coordsFrom};
+ghost use Rattle.layout.specs.Layout.{width, placeLimit, coordsFrom};
 ghost use Rattle.layout.specs.SoundLaws.{Worded};
 ghost use Rattle.readings.specs.Readings.{byMass, applied, heldAll, readStep};
 ghost use Rattle.readings.specs.Readings;
@@ -58,7 +58,7 @@ pub fn check_read(f: &[f64], w: &[u32], needs: bool) -> Checked
 // The scale by rho0, which looks at no volume.
 fn scale_by_rho0(bulk: f64, f: &[f64], w: &[u32], faces: usize) -> f64
     requires { ⌜ coordsFrom ≤ length (now f) ⌝ ∗ ⌜ Worded width (now w) faces ⌝ }
-    ensures { λ r. ⌜ r ≡ applied (Rho0 bulk) (heldAll width (now (f .entry)) (now (w .entry)) slotLimit) ⌝ }
+    ensures { λ r. ⌜ r ≡ applied (Rho0 bulk) (heldAll width (now (f .entry)) (now (w .entry)) placeLimit) ⌝ }
 {
     rho0_scale(bulk_of(Convention::Rho0(bulk)), origin_density(f, w, faces))
 }
@@ -66,7 +66,7 @@ fn scale_by_rho0(bulk: f64, f: &[f64], w: &[u32], faces: usize) -> f64
 // The scale by mass. The density at the origin is summed only where there is no mass to scale.
 fn scale_by_mass(target: f64, bulk: f64, f: &[f64], w: &[u32], faces: usize) -> f64
     requires { ⌜ coordsFrom ≤ length (now f) ⌝ ∗ ⌜ Worded width (now w) faces ⌝ }
-    ensures { λ r. ⌜ r ≡ applied (Mass target bulk) (heldAll width (now (f .entry)) (now (w .entry)) slotLimit) ⌝ }
+    ensures { λ r. ⌜ r ≡ applied (Mass target bulk) (heldAll width (now (f .entry)) (now (w .entry)) placeLimit) ⌝ }
 {
     let aim = target_of(Convention::Mass(target, bulk));
     let mass = raw_mass(f, w, faces);
@@ -82,7 +82,7 @@ fn scale_by_mass(target: f64, bulk: f64, f: &[f64], w: &[u32], faces: usize) -> 
 // The scale that a convention puts on every weight.
 pub fn scale_of(v: Convention, f: &[f64], w: &[u32], faces: usize) -> f64
     requires { ⌜ coordsFrom ≤ length (now f) ⌝ ∗ ⌜ Worded width (now w) faces ⌝ }
-    ensures { λ r. ⌜ r ≡ applied v (heldAll width (now (f .entry)) (now (w .entry)) slotLimit) ⌝ }
+    ensures { λ r. ⌜ r ≡ applied v (heldAll width (now (f .entry)) (now (w .entry)) placeLimit) ⌝ }
 {
     match v {
         Convention::Raw => 1.0,

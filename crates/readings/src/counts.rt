@@ -6,7 +6,7 @@ ghost use lib.Dec.{eqb};
 ghost use Prim.Native.Nat.{_*_, _≤_};
 ghost use lib.ListN.{length};
 ghost use Rattle.base.specs.Floats.{greater};
-ghost use Rattle.layout.specs.Layout.{width, slotLimit, coordsFrom};
+ghost use Rattle.layout.specs.Layout.{width, placeLimit, coordsFrom};
 ghost use Rattle.layout.specs.SoundLaws.{Worded};
 ghost use Rattle.readings.specs.Readings.{heldFilled, heldWorst};
 ghost use Rattle.readings.specs.Counts.{pieceCount};
@@ -14,18 +14,18 @@ use base::floats::greater_of;
 use layout::left::pieces;
 use layout::offsets::KERNEL;
 use layout::offsets::KERNEL_SIZE;
-use layout::offsets::SLOTS;
+use layout::offsets::PLACES;
 use layout::offsets::STATE;
 use layout::offsets::WIDTH;
 
 // The pieces of all places.
 pub fn count_pieces(w: &[u32], faces: usize) -> usize
     requires { ⌜ Worded width (now w) faces ⌝ }
-    ensures { λ r. ⌜ (r ≡ pieceCount width (now (w .entry)) slotLimit) × (r ≤ 512) ⌝ }
+    ensures { λ r. ⌜ (r ≡ pieceCount width (now (w .entry)) placeLimit) × (r ≤ 512) ⌝ }
 {
     let mut sum: usize = 0;
     let mut i: usize = 0;
-    while i < SLOTS {
+    while i < PLACES {
         sum += pieces(w[STATE + WIDTH * i]);
         i += 1;
     }
@@ -42,11 +42,11 @@ fn filled_one(status: u32) -> usize
 // The filled places.
 pub fn count_filled(w: &[u32], faces: usize) -> usize
     requires { ⌜ Worded width (now w) faces ⌝ }
-    ensures { λ r. ⌜ (r ≡ heldFilled width (now (w .entry)) slotLimit) × (r ≤ 32) ⌝ }
+    ensures { λ r. ⌜ (r ≡ heldFilled width (now (w .entry)) placeLimit) × (r ≤ 32) ⌝ }
 {
     let mut sum: usize = 0;
     let mut i: usize = 0;
-    while i < SLOTS {
+    while i < PLACES {
         sum += filled_one(w[STATE + WIDTH * i]);
         i += 1;
     }
@@ -66,11 +66,11 @@ fn worse(status: u32, a: f64, b: f64) -> f64
 // The greatest error of the filled places, +0 with none.
 pub fn worst_error(f: &[f64], w: &[u32], faces: usize) -> f64
     requires { ⌜ coordsFrom ≤ length (now f) ⌝ ∗ ⌜ Worded width (now w) faces ⌝ }
-    ensures { λ r. ⌜ r ≡ heldWorst width (now (f .entry)) (now (w .entry)) slotLimit ⌝ }
+    ensures { λ r. ⌜ r ≡ heldWorst width (now (f .entry)) (now (w .entry)) placeLimit ⌝ }
 {
     let mut e = 0.0;
     let mut i: usize = 0;
-    while i < SLOTS {
+    while i < PLACES {
         e = worse(w[STATE + WIDTH * i], e, f[KERNEL + 6 + KERNEL_SIZE * i]);
         i += 1;
     }

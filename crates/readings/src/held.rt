@@ -4,7 +4,7 @@ ghost use mathlib.Core.Path.{_≡_};
 ghost use Prim.Native.Nat.{_≤_, _<_};
 ghost use lib.ListN.{length, getD};
 ghost use lib.Ieee.{nan};
-ghost use Rattle.layout.specs.Layout.{slotLimit, pieceLimit, coordsFrom, centreOf, alphaOf, pieceFrom};
+ghost use Rattle.layout.specs.Layout.{placeLimit, pieceLimit, coordsFrom, centreOf, alphaOf, pieceFrom};
 ghost use Rattle.pieces.specs.Pieces.{pieceAlpha};
 ghost use Rattle.readings.specs.Readings.{bare, heldPart, rescaled};
 use kernel::kernel::Kernel;
@@ -16,7 +16,7 @@ use pieces::pieces::piece_alpha;
 
 // Piece j of place i, with the weight w.
 fn piece_of_weight(f: &[f64], i: usize, j: usize, w: f64) -> Kernel
-    requires { ⌜ (coordsFrom ≤ length (now f)) × (i < slotLimit) × (j < pieceLimit) ⌝ }
+    requires { ⌜ (coordsFrom ≤ length (now f)) × (i < placeLimit) × (j < pieceLimit) ⌝ }
     ensures { λ r. ⌜ r ≡ record { c = centreOf (now (f .entry)) i; sigma = getD (now (f .entry)) (pieceFrom i j) nan; w = w; alpha = pieceAlpha (alphaOf (now (f .entry)) i) } ⌝ }
 {
     let at = KERNEL_SIZE * i;
@@ -31,7 +31,7 @@ fn piece_of_weight(f: &[f64], i: usize, j: usize, w: f64) -> Kernel
 
 // Piece j of place i.
 pub fn piece_at(f: &[f64], i: usize, j: usize) -> Kernel
-    requires { ⌜ (coordsFrom ≤ length (now f)) × (i < slotLimit) × (j < pieceLimit) ⌝ }
+    requires { ⌜ (coordsFrom ≤ length (now f)) × (i < placeLimit) × (j < pieceLimit) ⌝ }
     ensures { λ r. ⌜ r ≡ bare (heldPart (now (f .entry)) i j) ⌝ }
 {
     let weight = f[KERNEL + 4 + KERNEL_SIZE * i];
@@ -41,7 +41,7 @@ pub fn piece_at(f: &[f64], i: usize, j: usize) -> Kernel
 
 // Piece j of place i, its weight rescaled.
 pub fn rescaled_at(f: &[f64], i: usize, j: usize, s: f64) -> Kernel
-    requires { ⌜ (coordsFrom ≤ length (now f)) × (i < slotLimit) × (j < pieceLimit) ⌝ }
+    requires { ⌜ (coordsFrom ≤ length (now f)) × (i < placeLimit) × (j < pieceLimit) ⌝ }
     ensures { λ r. ⌜ r ≡ rescaled s (bare (heldPart (now (f .entry)) i j)) ⌝ }
 {
     let weight = f[KERNEL + 4 + KERNEL_SIZE * i];

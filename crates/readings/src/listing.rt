@@ -3,7 +3,7 @@ ghost use mathlib.Core.Path.{_≡_};
 ghost use mathlib.Core.List.{map};
 ghost use Prim.Native.Nat.{_≤_};
 ghost use lib.ListN.{length};
-ghost use Rattle.layout.specs.Layout.{width, slotLimit, coordsFrom};
+ghost use Rattle.layout.specs.Layout.{width, placeLimit, coordsFrom};
 ghost use Rattle.layout.specs.SoundLaws.{Worded};
 ghost use Rattle.base.specs.Answers.{outcome};
 ghost use Rattle.readings.specs.Readings.{bare, applied, heldAll, readStep};
@@ -28,7 +28,7 @@ pub enum ListRead {
 // Writes the pieces of a sound store, if the run has room for them.
 fn list_pieces(v: Convention, f: &[f64], w: &[u32], faces: usize, out: &mut [f64]) -> ListRead
     requires { ⌜ coordsFrom ≤ length (now f) ⌝ ∗ ⌜ Worded width (now w) faces ⌝ }
-    ensures { λ r. ⌜ outcome (listRead r) (now (out .exit)) ≡ Readings.listing (applied v (heldAll width (now (f .entry)) (now (w .entry)) slotLimit)) (map bare (heldAll width (now (f .entry)) (now (w .entry)) slotLimit)) (now (out .entry)) ⌝ }
+    ensures { λ r. ⌜ outcome (listRead r) (now (out .exit)) ≡ Readings.listing (applied v (heldAll width (now (f .entry)) (now (w .entry)) placeLimit)) (map bare (heldAll width (now (f .entry)) (now (w .entry)) placeLimit)) (now (out .entry)) ⌝ }
 {
     let count = count_pieces(w, faces);
     if 6 * count <= out.len() {

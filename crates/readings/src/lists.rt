@@ -4,7 +4,7 @@ ghost use mathlib.Core.Path.{_≡_};
 ghost use Prim.Native.Nat.{_+_, _*_, _≤_, _<_};
 ghost use lib.ListN.{length};
 ghost use Rattle.layout.specs.Runs.{write};
-ghost use Rattle.layout.specs.Layout.{width, slotLimit, pieceLimit, coordsFrom};
+ghost use Rattle.layout.specs.Layout.{width, placeLimit, pieceLimit, coordsFrom};
 ghost use Rattle.layout.specs.SoundLaws.{Worded};
 ghost use Rattle.readings.specs.Readings.{six, heldAt, heldAll};
 ghost use Rattle.readings.specs.Counts.{pieceCount};
@@ -12,7 +12,7 @@ ghost use Rattle.readings.specs.Lists.{rows};
 use crate::held::rescaled_at;
 use kernel::kernel::Kernel;
 use layout::left::pieces;
-use layout::offsets::SLOTS;
+use layout::offsets::PLACES;
 use layout::offsets::STATE;
 use layout::offsets::WIDTH;
 
@@ -31,8 +31,8 @@ fn write_six(out: &mut [f64], at: usize, k: Kernel)
 }
 
 // The first `count` pieces of place i, by a scale.
-fn slot_list(out: &mut [f64], at: usize, f: &[f64], i: usize, count: usize, s: f64)
-    requires { ⌜ (coordsFrom ≤ length (now f)) × (i < slotLimit) × (count ≤ pieceLimit) × (at + 6 * count ≤ length (now out)) ⌝ }
+fn place_list(out: &mut [f64], at: usize, f: &[f64], i: usize, count: usize, s: f64)
+    requires { ⌜ (coordsFrom ≤ length (now f)) × (i < placeLimit) × (count ≤ pieceLimit) × (at + 6 * count ≤ length (now out)) ⌝ }
     ensures { λ _. ⌜ now (out .exit) ≡ write (now (out .entry)) at (rows s (heldAt (now (f .entry)) i count)) ⌝ }
 {
     let mut j: usize = 0;
@@ -45,14 +45,14 @@ fn slot_list(out: &mut [f64], at: usize, f: &[f64], i: usize, count: usize, s: f
 
 // The pieces of all places, by a scale.
 pub fn write_list(out: &mut [f64], f: &[f64], w: &[u32], faces: usize, s: f64)
-    requires { ⌜ coordsFrom ≤ length (now f) ⌝ ∗ ⌜ Worded width (now w) faces ⌝ ∗ ⌜ 6 * pieceCount width (now w) slotLimit ≤ length (now out) ⌝ }
-    ensures { λ _. ⌜ now (out .exit) ≡ write (now (out .entry)) 0 (rows s (heldAll width (now (f .entry)) (now (w .entry)) slotLimit)) ⌝ }
+    requires { ⌜ coordsFrom ≤ length (now f) ⌝ ∗ ⌜ Worded width (now w) faces ⌝ ∗ ⌜ 6 * pieceCount width (now w) placeLimit ≤ length (now out) ⌝ }
+    ensures { λ _. ⌜ now (out .exit) ≡ write (now (out .entry)) 0 (rows s (heldAll width (now (f .entry)) (now (w .entry)) placeLimit)) ⌝ }
 {
     let mut at: usize = 0;
     let mut i: usize = 0;
-    while i < SLOTS {
+    while i < PLACES {
         let count = pieces(w[STATE + WIDTH * i]);
-        slot_list(out, at, f, i, count, s);
+        place_list(out, at, f, i, count, s);
         at += 6 * count;
         i += 1;
     }

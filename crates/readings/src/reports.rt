@@ -3,7 +3,7 @@ ghost use mathlib.Core.Path.{_≡_};
 ghost use mathlib.Core.List.{[], map};
 ghost use Rattle.volume.specs.Volume.{bodyVolume};
 ghost use Rattle.density.specs.Reports.{reportOf};
-ghost use Rattle.layout.specs.Layout.{width, slotLimit};
+ghost use Rattle.layout.specs.Layout.{width, placeLimit};
 ghost use Rattle.layout.specs.SoundLaws.{Meshed, Worded};
 ghost use Rattle.layout.specs.Left.{held};
 ghost use Rattle.base.specs.Answers.{outcome};
@@ -64,7 +64,7 @@ fn body_of(f: &[f64], w: &[u32], verts: usize, faces: usize) -> f64
 // The masses of a sound store.
 fn mass_report(v: Convention, f: &[f64], w: &[u32], verts: usize, faces: usize) -> MassReport
     requires { ⌜ Meshed width (now f) (now w) verts faces ⌝ ∗ ⌜ Worded width (now w) faces ⌝ }
-    ensures { λ r. ⌜ r ≡ reportOf v (rawMass (heldAll width (now (f .entry)) (now (w .entry)) slotLimit)) (densityAt (map bare (heldAll width (now (f .entry)) (now (w .entry)) slotLimit)) origin) (bodyVolume (held width (now (f .entry)) (now (w .entry)) verts faces) faces) ⌝ }
+    ensures { λ r. ⌜ r ≡ reportOf v (rawMass (heldAll width (now (f .entry)) (now (w .entry)) placeLimit)) (densityAt (map bare (heldAll width (now (f .entry)) (now (w .entry)) placeLimit)) origin) (bodyVolume (held width (now (f .entry)) (now (w .entry)) verts faces) faces) ⌝ }
 {
     let mass = raw_mass(f, w, faces);
     let rho0 = origin_density(f, w, faces);

@@ -4,7 +4,7 @@ ghost use mathlib.Core.Path.{_≡_};
 ghost use Prim.Native.Nat.{_-_, _≤_, _<_};
 ghost use lib.ListN.{length};
 ghost use Rattle.base.specs.Floats.{+0};
-ghost use Rattle.layout.specs.Layout.{width, slotLimit, pieceLimit, coordsFrom};
+ghost use Rattle.layout.specs.Layout.{width, placeLimit, pieceLimit, coordsFrom};
 ghost use Rattle.layout.specs.SoundLaws.{Worded};
 ghost use Rattle.readings.specs.Readings.{heldAt, heldAll};
 ghost use Rattle.readings.specs.Folds.{fold, scaledStep, originStep, massStep};
@@ -14,13 +14,13 @@ use density::densitize::density_of;
 use layout::left::pieces;
 use layout::offsets::PIECE;
 use layout::offsets::PIECES_SIZE;
-use layout::offsets::SLOTS;
+use layout::offsets::PLACES;
 use layout::offsets::STATE;
 use layout::offsets::WIDTH;
 
 // The density at x with the first `count` pieces of place i added, by a scale.
-fn slot_density(f: &[f64], i: usize, count: usize, s: f64, x: [f64; 3], start: f64) -> f64
-    requires { ⌜ (coordsFrom ≤ length (now f)) × (i < slotLimit) × (count ≤ pieceLimit) ⌝ }
+fn place_density(f: &[f64], i: usize, count: usize, s: f64, x: [f64; 3], start: f64) -> f64
+    requires { ⌜ (coordsFrom ≤ length (now f)) × (i < placeLimit) × (count ≤ pieceLimit) ⌝ }
     ensures { λ r. ⌜ r ≡ fold (scaledStep s x) (heldAt (now (f .entry)) i count) start ⌝ }
 {
     let mut rho = start;
@@ -35,20 +35,20 @@ fn slot_density(f: &[f64], i: usize, count: usize, s: f64, x: [f64; 3], start: f
 // The density at x of all pieces, by a scale.
 pub fn density_sum(f: &[f64], w: &[u32], faces: usize, s: f64, x: [f64; 3]) -> f64
     requires { ⌜ coordsFrom ≤ length (now f) ⌝ ∗ ⌜ Worded width (now w) faces ⌝ }
-    ensures { λ r. ⌜ r ≡ fold (scaledStep s x) (heldAll width (now (f .entry)) (now (w .entry)) slotLimit) +0 ⌝ }
+    ensures { λ r. ⌜ r ≡ fold (scaledStep s x) (heldAll width (now (f .entry)) (now (w .entry)) placeLimit) +0 ⌝ }
 {
     let mut rho = 0.0;
     let mut i: usize = 0;
-    while i < SLOTS {
-        rho = slot_density(f, i, pieces(w[STATE + WIDTH * i]), s, x, rho);
+    while i < PLACES {
+        rho = place_density(f, i, pieces(w[STATE + WIDTH * i]), s, x, rho);
         i += 1;
     }
     rho
 }
 
 // The density at the origin with the first `count` pieces of place i added, their weights as they are.
-fn slot_origin(f: &[f64], i: usize, count: usize, start: f64) -> f64
-    requires { ⌜ (coordsFrom ≤ length (now f)) × (i < slotLimit) × (count ≤ pieceLimit) ⌝ }
+fn place_origin(f: &[f64], i: usize, count: usize, start: f64) -> f64
+    requires { ⌜ (coordsFrom ≤ length (now f)) × (i < placeLimit) × (count ≤ pieceLimit) ⌝ }
     ensures { λ r. ⌜ r ≡ fold originStep (heldAt (now (f .entry)) i count) start ⌝ }
 {
     let mut rho = start;
@@ -63,20 +63,20 @@ fn slot_origin(f: &[f64], i: usize, count: usize, start: f64) -> f64
 // The density at the origin of all pieces.
 pub fn origin_density(f: &[f64], w: &[u32], faces: usize) -> f64
     requires { ⌜ coordsFrom ≤ length (now f) ⌝ ∗ ⌜ Worded width (now w) faces ⌝ }
-    ensures { λ r. ⌜ r ≡ fold originStep (heldAll width (now (f .entry)) (now (w .entry)) slotLimit) +0 ⌝ }
+    ensures { λ r. ⌜ r ≡ fold originStep (heldAll width (now (f .entry)) (now (w .entry)) placeLimit) +0 ⌝ }
 {
     let mut rho = 0.0;
     let mut i: usize = 0;
-    while i < SLOTS {
-        rho = slot_origin(f, i, pieces(w[STATE + WIDTH * i]), rho);
+    while i < PLACES {
+        rho = place_origin(f, i, pieces(w[STATE + WIDTH * i]), rho);
         i += 1;
     }
     rho
 }
 
 // The mass with the first `count` pieces of place i added.
-pub fn slot_mass(f: &[f64], i: usize, count: usize, start: f64) -> f64
-    requires { ⌜ (coordsFrom ≤ length (now f)) × (i < slotLimit) × (count ≤ pieceLimit) ⌝ }
+pub fn place_mass(f: &[f64], i: usize, count: usize, start: f64) -> f64
+    requires { ⌜ (coordsFrom ≤ length (now f)) × (i < placeLimit) × (count ≤ pieceLimit) ⌝ }
     ensures { λ r. ⌜ r ≡ fold massStep (heldAt (now (f .entry)) i count) start ⌝ }
 {
     let mut total = start;
@@ -92,12 +92,12 @@ pub fn slot_mass(f: &[f64], i: usize, count: usize, start: f64) -> f64
 // The mass of all pieces, by the volumes that the store holds.
 pub fn raw_mass(f: &[f64], w: &[u32], faces: usize) -> f64
     requires { ⌜ coordsFrom ≤ length (now f) ⌝ ∗ ⌜ Worded width (now w) faces ⌝ }
-    ensures { λ r. ⌜ r ≡ fold massStep (heldAll width (now (f .entry)) (now (w .entry)) slotLimit) +0 ⌝ }
+    ensures { λ r. ⌜ r ≡ fold massStep (heldAll width (now (f .entry)) (now (w .entry)) placeLimit) +0 ⌝ }
 {
     let mut total = 0.0;
     let mut i: usize = 0;
-    while i < SLOTS {
-        total = slot_mass(f, i, pieces(w[STATE + WIDTH * i]), total);
+    while i < PLACES {
+        total = place_mass(f, i, pieces(w[STATE + WIDTH * i]), total);
         i += 1;
     }
     total

@@ -4,7 +4,7 @@ ghost use mathlib.Core.List.{map};
 ghost use Prim.Native.Nat.{_*_, _≤_};
 ghost use lib.ListN.{length};
 ghost use Rattle.base.specs.Answers.{outcome};
-ghost use Rattle.layout.specs.Layout.{width, slotLimit, coordsFrom};
+ghost use Rattle.layout.specs.Layout.{width, placeLimit, coordsFrom};
 ghost use Rattle.layout.specs.SoundLaws.{Worded};
 ghost use Rattle.layout.specs.Runs.{write};
 ghost use Rattle.readings.specs.Along.{along};
@@ -53,7 +53,7 @@ fn side_by_side(
     out: &mut [f64],
 )
     requires { ⌜ coordsFrom ≤ length (now f) ⌝ ∗ ⌜ Worded width (now w) faces ⌝ ∗ ⌜ (3 * count ≤ length (now points)) × (count ≤ length (now out)) ⌝ }
-    ensures { λ _. ⌜ now (out .exit) ≡ write (now (out .entry)) 0 (along (densityAt (map (rescaled s) (map bare (heldAll width (now (f .entry)) (now (w .entry)) slotLimit)))) (now (points .entry)) count) ⌝ }
+    ensures { λ _. ⌜ now (out .exit) ≡ write (now (out .entry)) 0 (along (densityAt (map (rescaled s) (map bare (heldAll width (now (f .entry)) (now (w .entry)) placeLimit)))) (now (points .entry)) count) ⌝ }
 {
     let n = count_pieces(w, faces);
     let mut kernels = [0.0; 3072];
@@ -72,7 +72,7 @@ fn one_by_one(
     out: &mut [f64],
 )
     requires { ⌜ coordsFrom ≤ length (now f) ⌝ ∗ ⌜ Worded width (now w) faces ⌝ ∗ ⌜ (3 * count ≤ length (now points)) × (count ≤ length (now out)) ⌝ }
-    ensures { λ _. ⌜ now (out .exit) ≡ write (now (out .entry)) 0 (along (densityAt (map (rescaled s) (map bare (heldAll width (now (f .entry)) (now (w .entry)) slotLimit)))) (now (points .entry)) count) ⌝ }
+    ensures { λ _. ⌜ now (out .exit) ≡ write (now (out .entry)) 0 (along (densityAt (map (rescaled s) (map bare (heldAll width (now (f .entry)) (now (w .entry)) placeLimit)))) (now (points .entry)) count) ⌝ }
 {
     let mut i: usize = 0;
     while i < count {
@@ -85,7 +85,7 @@ fn one_by_one(
 // Writes the densities at the first `count` points, by a scale. For a few of them it does not pay to lay the pieces down.
 fn trace(f: &[f64], w: &[u32], faces: usize, s: f64, points: &[f64], count: usize, out: &mut [f64])
     requires { ⌜ coordsFrom ≤ length (now f) ⌝ ∗ ⌜ Worded width (now w) faces ⌝ ∗ ⌜ (3 * count ≤ length (now points)) × (count ≤ length (now out)) ⌝ }
-    ensures { λ _. ⌜ now (out .exit) ≡ write (now (out .entry)) 0 (along (densityAt (map (rescaled s) (map bare (heldAll width (now (f .entry)) (now (w .entry)) slotLimit)))) (now (points .entry)) count) ⌝ }
+    ensures { λ _. ⌜ now (out .exit) ≡ write (now (out .entry)) 0 (along (densityAt (map (rescaled s) (map bare (heldAll width (now (f .entry)) (now (w .entry)) placeLimit)))) (now (points .entry)) count) ⌝ }
 {
     if count < 8 {
         one_by_one(f, w, faces, s, points, count, out);
@@ -104,7 +104,7 @@ fn track_points(
     out: &mut [f64],
 ) -> TrackRead
     requires { ⌜ coordsFrom ≤ length (now f) ⌝ ∗ ⌜ Worded width (now w) faces ⌝ }
-    ensures { λ r. ⌜ outcome (trackRead r) (now (out .exit)) ≡ Readings.tracking s (map bare (heldAll width (now (f .entry)) (now (w .entry)) slotLimit)) (now (points .entry)) (now (out .entry)) ⌝ }
+    ensures { λ r. ⌜ outcome (trackRead r) (now (out .exit)) ≡ Readings.tracking s (map bare (heldAll width (now (f .entry)) (now (w .entry)) placeLimit)) (now (points .entry)) (now (out .entry)) ⌝ }
 {
     match check_track(points.len(), out.len()) {
         Checked::Failed(r) => TrackRead::Refused(r),

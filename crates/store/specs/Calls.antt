@@ -13,7 +13,7 @@ use Rattle.base.specs.declared.refusal.Checked.the-variants.{Passed, Failed}
 use Rattle.layout.specs.Runs.{write}
 use Rattle.mesh.specs.Checks.{meshCheck}
 use Rattle.layout.specs.After.{After, after, guarded}
-use Rattle.layout.specs.Layout.{slotLimit, kernelFrom, weightAt, piecesFrom, coordsFrom, stateFrom, cornersFrom}
+use Rattle.layout.specs.Layout.{placeLimit, kernelFrom, weightAt, piecesFrom, coordsFrom, stateFrom, cornersFrom}
 use Rattle.layout.specs.Soundness.{filledCheck}
 
 -- ---- "Open copies a mesh and radius; all empty", with rows 1 to 4: n coordinates, corners ks, runs of a floats and b words
@@ -24,7 +24,7 @@ abbrev pub openFloats : Float → List Float → List Float
 openFloats radius xs = radius ∷ (replicate (coordsFrom - 1) +0 ++ xs)
 
 abbrev pub openWords : ℕ → ℕ → ℕ → List ℕ → List ℕ
-openWords q verts faces ks = verts ∷ faces ∷ (replicate (q * slotLimit) 0 ++ ks)
+openWords q verts faces ks = verts ∷ faces ∷ (replicate (q * placeLimit) 0 ++ ks)
 
 unfoldable pub openStep : ℕ → List Float → List ℕ → Float → List Float → List ℕ → After
 openStep q fs ws radius xs ks =

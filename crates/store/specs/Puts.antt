@@ -12,7 +12,7 @@ use Rattle.kernel.specs.declared.kernel.Kernel.{Kernel}
 use Rattle.pieces.specs.declared.pieces.Pieces.{Pieces}
 use Rattle.pieces.specs.Pieces.{decomposed}
 use Rattle.layout.specs.Layout.{pieceLimit, radiusOf, kernelFrom, piecesFrom, stateFrom, facesOf}
-use Rattle.layout.specs.Soundness.{slotCheck}
+use Rattle.layout.specs.Soundness.{placeCheck}
 use Rattle.layout.specs.After.{After, after, guarded}
 
 -- "c, sigma, w, alpha, error"
@@ -39,4 +39,4 @@ putWords q ws i fit = write ws (stateFrom q i) ((1 + fit .count) ∷ atFirst (fa
 unfoldable pub putStep : ℕ → List Float → List ℕ → ℕ → Kernel → After
 putStep q fs ws i k =
     let fit = decomposed k (radiusOf fs) in
-    guarded (slotCheck q fs ws i) fs ws (after (counted (fit .count ∷ (fit .count * facesOf ws) ∷ [])) (putFloats fs i k fit) (putWords q ws i fit))
+    guarded (placeCheck q fs ws i) fs ws (after (counted (fit .count ∷ (fit .count * facesOf ws) ∷ [])) (putFloats fs i k fit) (putWords q ws i fit))

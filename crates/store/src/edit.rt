@@ -23,13 +23,13 @@ pub enum Edited {
 }
 
 // Empties a place: all its fields become zero.
-pub fn clear(f: &mut [f64], w: &mut [u32], slot: u32) -> Edited
-    ensures { λ r. ⌜ after (edited r) (now (f .exit)) (now (w .exit)) ≡ clearStep width (now (f .entry)) (now (w .entry)) slot ⌝ }
+pub fn clear(f: &mut [f64], w: &mut [u32], place: u32) -> Edited
+    ensures { λ r. ⌜ after (edited r) (now (f .exit)) (now (w .exit)) ≡ clearStep width (now (f .entry)) (now (w .entry)) place ⌝ }
 {
-    match check_filled(f, w, slot) {
+    match check_filled(f, w, place) {
         Checked::Failed(r) => Edited::Refused(r),
         Checked::Passed => {
-            let i = slot as usize;
+            let i = place as usize;
             zero_floats(f, KERNEL + KERNEL_SIZE * i, KERNEL_SIZE);
             zero_floats(f, PIECE + PIECES_SIZE * i, PIECES_SIZE);
             zero_words(w, STATE + WIDTH * i, WIDTH);
@@ -39,13 +39,13 @@ pub fn clear(f: &mut [f64], w: &mut [u32], slot: u32) -> Edited
 }
 
 // Gives the kernel of a place a new weight; the work done on it stays.
-pub fn reweigh(f: &mut [f64], w: &mut [u32], slot: u32, weight: f64) -> Edited
-    ensures { λ r. ⌜ after (edited r) (now (f .exit)) (now (w .exit)) ≡ reweighStep width (now (f .entry)) (now (w .entry)) slot weight ⌝ }
+pub fn reweigh(f: &mut [f64], w: &mut [u32], place: u32, weight: f64) -> Edited
+    ensures { λ r. ⌜ after (edited r) (now (f .exit)) (now (w .exit)) ≡ reweighStep width (now (f .entry)) (now (w .entry)) place weight ⌝ }
 {
-    match check_filled(f, w, slot) {
+    match check_filled(f, w, place) {
         Checked::Failed(r) => Edited::Refused(r),
         Checked::Passed => {
-            let i = slot as usize;
+            let i = place as usize;
             f[KERNEL + 4 + KERNEL_SIZE * i] = weight;
             Edited::Done
         }

@@ -4,14 +4,14 @@ ghost use mathlib.Core.List.{[], _∷_};
 ghost use Prim.Native.Nat.{_+_, _*_, _≤_, _<_};
 ghost use lib.ListN.{length};
 ghost use Rattle.layout.specs.Runs.{write};
-ghost use Rattle.layout.specs.Layout.{width, slotLimit, pieceLimit, coordsFrom, cornersFrom, facesOf};
+ghost use Rattle.layout.specs.Layout.{width, placeLimit, pieceLimit, coordsFrom, cornersFrom, facesOf};
 ghost use Rattle.layout.specs.After.{after};
 ghost use Rattle.store.specs.Puts.{seven, fresh, atFirst, putFloats, putWords, putStep};
 ghost use Rattle.store.specs.PutAnswer.{placed};
 use base::refusal::Checked;
 use base::refusal::Refusal;
 use kernel::kernel::Kernel;
-use layout::check::check_slot;
+use layout::check::check_place;
 use layout::offsets::KERNEL;
 use layout::offsets::KERNEL_SIZE;
 use layout::offsets::PIECE;
@@ -78,7 +78,7 @@ fn write_state(w: &mut [u32], at: usize, count: u32)
 
 // Fills place i with a kernel and its pieces.
 fn fill(f: &mut [f64], w: &mut [u32], i: usize, k: Kernel, fit: Pieces)
-    requires { ⌜ (i < slotLimit) × (coordsFrom ≤ length (now f)) × (cornersFrom width ≤ length (now w)) × (fit .count ≤ 16) ⌝ }
+    requires { ⌜ (i < placeLimit) × (coordsFrom ≤ length (now f)) × (cornersFrom width ≤ length (now w)) × (fit .count ≤ 16) ⌝ }
     ensures { λ _. ⌜ (now (f .exit) ≡ putFloats (now (f .entry)) i k fit) × (now (w .exit) ≡ putWords width (now (w .entry)) i fit) ⌝ }
 {
     write_kernel(f, KERNEL + KERNEL_SIZE * i, k, fit.error);
@@ -87,16 +87,16 @@ fn fill(f: &mut [f64], w: &mut [u32], i: usize, k: Kernel, fit: Pieces)
 }
 
 // Puts a kernel into a place, whatever it held: its pieces by the store's radius, none of their faces done.
-pub fn put(f: &mut [f64], w: &mut [u32], slot: u32, k: Kernel) -> Placed
-    ensures { λ r. ⌜ after (placed r) (now (f .exit)) (now (w .exit)) ≡ putStep width (now (f .entry)) (now (w .entry)) slot k ⌝ }
+pub fn put(f: &mut [f64], w: &mut [u32], place: u32, k: Kernel) -> Placed
+    ensures { λ r. ⌜ after (placed r) (now (f .exit)) (now (w .exit)) ≡ putStep width (now (f .entry)) (now (w .entry)) place k ⌝ }
 {
-    match check_slot(f, w, slot) {
+    match check_place(f, w, place) {
         Checked::Failed(r) => Placed::Refused(r),
         Checked::Passed => {
             let fit = decompose(k, f[0]);
             let count = fit.count as u32;
             let need = count * w[1];
-            fill(f, w, slot as usize, k, fit);
+            fill(f, w, place as usize, k, fit);
             Placed::Needs(count, need)
         }
     }

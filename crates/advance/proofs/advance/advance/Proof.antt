@@ -4,7 +4,7 @@ use mathlib.Core.List.{[], _∷_}
 use Prim.Native.Nat.{_-_}
 use native.Mathlib.Omega.{arith}
 use Rattle.base.specs.Answers.{counted}
-use Rattle.layout.specs.Layout.{width, slotLimit, facesOf}
+use Rattle.layout.specs.Layout.{width, placeLimit, facesOf}
 use Rattle.layout.specs.SoundLaws.{fine}
 use Rattle.layout.specs.After.{after}
 use Rattle.layout.specs.Left.{leftOf}
@@ -13,10 +13,10 @@ use borrow.Author.Needs.{needs}
 use Rattle.advance.proofs.advance.advance.Statement.{statement}
 use Rattle.advance.proofs.advance.advance.Tie as tie
 
-run-slots-requires : tie.Need-run-slots-requires
-run-slots-requires c κs =
+run-places-requires : tie.Need-run-places-requires
+run-places-requires c κs =
     let h = fine width _ _ (sym (c .before .before .before .before .before .before .before .before .before .before .check-store .ensures) ∙ c .before .before .before .before .before .before .before .before .enum-told .given .1) in
-    rw (c .before .before .before .before .before .before .word .ensures, c .before .before .before .before .word2 .ensures) (h .mesh, h .slots)
+    rw (c .before .before .before .before .before .before .word .ensures, c .before .before .before .before .word2 .ensures) (h .mesh, h .places)
 
 returns : tie.Need-returns
 unfolding advanceStep
@@ -26,10 +26,10 @@ returns-2 : tie.Need-returns-2
 unfolding advanceStep
 returns-2 c =
     let a = c .before .before .before .before .before .before .before .before .before .before .before .before .before .before .before .before .before .before .before .before .before .before .args in
-    let e : whole (c .before .before .before .before .before .before .run-slots .last .0) (c .before .before .before .before .before .before .run-slots .last .1 .0) (c .before .before .before .before .before .before .run-slots .result) ≡ spentAll width (a .f .now) (a .w .now) (a .budget) = rw (c .before .before .before .before .before .before .before .before .before .before .before .before .before .word .ensures, c .before .before .before .before .before .before .before .before .before .before .before .word2 .ensures) at (c .before .before .before .before .before .before .run-slots .ensures) in
-    let l : c .before .before .before .before .before .before .before .before .before .left .result ≡ leftOf width (a .w .now) (facesOf (a .w .now)) slotLimit = rw (c .before .before .before .before .before .before .before .before .before .before .before .word2 .ensures) at (c .before .before .before .before .before .before .before .before .before .left .ensures) in
+    let e : whole (c .before .before .before .before .before .before .run-places .last .0) (c .before .before .before .before .before .before .run-places .last .1 .0) (c .before .before .before .before .before .before .run-places .result) ≡ spentAll width (a .f .now) (a .w .now) (a .budget) = rw (c .before .before .before .before .before .before .before .before .before .before .before .before .before .word .ensures, c .before .before .before .before .before .before .before .before .before .before .before .word2 .ensures) at (c .before .before .before .before .before .before .run-places .ensures) in
+    let l : c .before .before .before .before .before .before .before .before .before .left .result ≡ leftOf width (a .w .now) (facesOf (a .w .now)) placeLimit = rw (c .before .before .before .before .before .before .before .before .before .before .before .word2 .ensures) at (c .before .before .before .before .before .before .before .before .before .left .ensures) in
     rw (← c .before .before .before .before .before .before .before .before .before .before .before .before .before .before .before .before .before .check-store .ensures, c .before .before .before .before .before .before .before .before .before .before .before .before .before .before .before .enum-told .given .1, c .less2 .ensures, c .before .less .ensures, l)
-    (ap (λ (s : Whole). after (counted ((a .budget - s .budget) ∷ (leftOf width (a .w .now) (facesOf (a .w .now)) slotLimit - (a .budget - s .budget)) ∷ [])) (s .floats) (s .words)) e)
+    (ap (λ (s : Whole). after (counted ((a .budget - s .budget) ∷ (leftOf width (a .w .now) (facesOf (a .w .now)) placeLimit - (a .budget - s .budget)) ∷ [])) (s .floats) (s .words)) e)
 
 pub advance-spec : {M : Type 1} → statement M
 advance-spec =
@@ -38,10 +38,10 @@ advance-spec =
     (λ c κs. search needs)
     (λ c. search needs)
     (λ c. search needs)
-    (λ c κs. omega (arith, fine width _ _ (sym (c .before .before .before .check-store .ensures) ∙ c .before .enum-told .given .1) .slots))
-    (λ c κs. omega (arith, fine width _ _ (sym (c .before .before .before .before .before .check-store .ensures) ∙ c .before .before .before .enum-told .given .1) .slots))
-    (λ c κs. rw (c .before .word2 .ensures) (fine width _ _ (sym (c .before .before .before .before .before .before .before .check-store .ensures) ∙ c .before .before .before .before .before .enum-told .given .1) .slots))
-    run-slots-requires
+    (λ c κs. omega (arith, fine width _ _ (sym (c .before .before .before .check-store .ensures) ∙ c .before .enum-told .given .1) .places))
+    (λ c κs. omega (arith, fine width _ _ (sym (c .before .before .before .before .before .check-store .ensures) ∙ c .before .before .before .enum-told .given .1) .places))
+    (λ c κs. rw (c .before .word2 .ensures) (fine width _ _ (sym (c .before .before .before .before .before .before .before .check-store .ensures) ∙ c .before .before .before .before .before .enum-told .given .1) .places))
+    run-places-requires
     (λ c κs. search needs)
     (λ c κs. search needs)
     (λ c. search needs)

@@ -3,21 +3,21 @@ use mathlib.Core.Path.{ap}
 use native.Mathlib.Omega.{arith}
 use lib.ListN.{length-set}
 use Rattle.layout.specs.Layout.{width}
-use Rattle.advance.specs.Steps.{slotWork, stored}
+use Rattle.advance.specs.Steps.{placeWork, stored}
 use borrow.Author.Needs.{needs}
 use Rattle.advance.proofs.work.spend.Statement.{statement}
 use Rattle.advance.proofs.work.spend.Tie as tie
 
-run-slot-requires : tie.Need-run-slot-requires
-run-slot-requires c κs =
+run-place-requires : tie.Need-run-place-requires
+run-place-requires c κs =
     let z = c .before .before .before .before .before .before .before .before .before .before in
     (z .pre .0, rw (c .before .before .before .before .before .before .pieces .ensures, c .before .before .before .before .word .ensures, c .before .before .word2 .ensures) (z .pre .1))
 
 returns : tie.Need-returns
-unfolding slotWork
+unfolding placeWork
 returns c =
     let a = c .before .before .before .before .before .before .before .before .before .before .before .before .before .before .before .args in
-    ap (stored width (a .w .now) (a .i)) (rw (c .before .before .before .before .before .before .before .before .before .before .before .pieces .ensures, c .before .before .before .before .before .before .before .before .before .word .ensures, c .before .before .before .before .before .before .before .word2 .ensures) at (c .before .before .before .before .run-slot .ensures .0))
+    ap (stored width (a .w .now) (a .i)) (rw (c .before .before .before .before .before .before .before .before .before .before .before .pieces .ensures, c .before .before .before .before .before .before .before .before .before .word .ensures, c .before .before .before .before .before .before .before .word2 .ensures) at (c .before .before .before .before .run-place .ensures .0))
 
 pub spend-spec : {M : Type 1} → statement M
 spend-spec =
@@ -34,7 +34,7 @@ spend-spec =
     (λ c. search needs)
     (λ c. search needs)
     (λ c κs. search needs)
-    run-slot-requires
+    run-place-requires
     (λ c. search needs)
     (λ c. search needs)
     (λ c. search needs)

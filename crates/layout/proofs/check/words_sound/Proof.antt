@@ -13,11 +13,11 @@ unfolding sound
 returns c =
     let w = c .before .before .before .before .before .before .before .before .args .w .now in
     let n : 98 + 3 * facesOf w - 98 ≡ 3 * facesOf w = omega arith in
-    rw (c .before .before .before .before .if1 .taken, ← c .before .before .before .slots-sound .ensures, c .before .before .if2 .taken) (rw n at (c .all-below .ensures))
+    rw (c .before .before .before .before .if1 .taken, ← c .before .before .before .places-sound .ensures, c .before .before .if2 .taken) (rw n at (c .all-below .ensures))
 
 returns-2 : tie.Need-returns-2
 unfolding sound
-returns-2 c = rw (c .before .before .if1 .taken, ← c .before .slots-sound .ensures, c .if2 .left)
+returns-2 c = rw (c .before .before .if1 .taken, ← c .before .places-sound .ensures, c .if2 .left)
 
 returns-3 : tie.Need-returns-3
 unfolding sound

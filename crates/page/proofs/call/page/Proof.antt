@@ -12,7 +12,7 @@ use Rattle.page.proofs.call.page.Tie as tie
 page-of-requires : tie.Need-page-of-requires
 page-of-requires c κs =
     let h = fine width _ _ (read-passed width _ _ _ (sym (c .before .before .before .before .check-read .ensures) ∙ c .before .before .enum-told .given .1)) in
-    (omega (arith, h .mesh .floats), rw (c .before .word .ensures) (h .slots))
+    (omega (arith, h .mesh .floats), rw (c .before .word .ensures) (h .places))
 
 returns : tie.Need-returns
 unfolding pageStep
@@ -29,7 +29,7 @@ page-spec =
     (λ c κs. search needs)
     (λ c. search needs)
     (λ c. search needs)
-    (λ c κs. omega (arith, fine width _ _ (read-passed width _ _ _ (sym (c .before .before .check-read .ensures) ∙ c .enum-told .given .1)) .slots))
+    (λ c κs. omega (arith, fine width _ _ (read-passed width _ _ _ (sym (c .before .before .check-read .ensures) ∙ c .enum-told .given .1)) .places))
     page-of-requires
     returns
     (λ c. search needs)

@@ -25,21 +25,21 @@ loop-holds : tie.Need-loop-holds Inv-loop μ-loop
 unfolding heldRows
 loop-holds c = (omega arith, refl, nothing, refl, omega arith, omega arith)
 
-slot-line-requires : tie.Need-slot-line-requires Inv-loop μ-loop
-slot-line-requires c κs =
+place-line-requires : tie.Need-place-line-requires Inv-loop μ-loop
+place-line-requires c κs =
     let z = c .before .before .before .before .before .before .before in
     let a = z .args in
     let l = c .before .before .before .loop in
     let h = c .before .before .loop-test .taken in
     let k = more-count width (a .f .now) (a .w .now) (l .i) in
     let m = rows-mono width (a .f .now) (a .w .now) (l .i + 1) 32 (omega arith) in
-    ((z .pre .0, h, z .pre .1 .0 .slot (l .i) h .pieces), (each-printable width (a .f .now) (a .w .now) 32 (l .i) h (z .pre .1 .1 .0), (omega (arith, k, m, l .inv .1, long (l .inv .2), z .pre .1 .1 .1), omega (arith, l .inv .4), omega (arith, l .inv .5))))
+    ((z .pre .0, h, z .pre .1 .0 .place (l .i) h .pieces), (each-printable width (a .f .now) (a .w .now) 32 (l .i) h (z .pre .1 .1 .0), (omega (arith, k, m, l .inv .1, long (l .inv .2), z .pre .1 .1 .1), omega (arith, l .inv .4), omega (arith, l .inv .5))))
 
 loop-again : tie.Need-loop-again Inv-loop μ-loop
 loop-again c =
     let a = c .before .before .before .before .before .before .before .before .before .before .args in
     let l = c .before .before .before .before .before .before .loop in
-    let r = c .before .before .slot-line in
+    let r = c .before .before .place-line in
     let k = more-count width (a .f .now) (a .w .now) (l .i) in
     (omega arith, omega (arith, k, l .inv .1, r .ensures .0 .0), more-written width (a .f .now) (a .w .now) (l .i) (l .inv .2) (r .ensures .0 .1), more-total width (a .f .now) (a .w .now) (l .i) _ _ (l .inv .3) (r .ensures .1 .0), omega (arith, l .inv .4, r .ensures .1 .1), omega (arith, l .inv .5, r .ensures .1 .2))
 
@@ -74,7 +74,7 @@ write-page-spec =
     (λ c. search needs)
     (λ c. search needs)
     (λ c. search needs)
-    slot-line-requires
+    place-line-requires
     (λ c. search needs)
     (λ c. search needs)
     loop-again

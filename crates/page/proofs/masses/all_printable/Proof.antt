@@ -19,17 +19,17 @@ loop-holds : tie.Need-loop-holds Inv-loop μ-loop
 unfolding heldRows
 loop-holds c = (omega arith, refl)
 
-slot-printable-requires : tie.Need-slot-printable-requires Inv-loop μ-loop
-slot-printable-requires c κs =
+place-printable-requires : tie.Need-place-printable-requires Inv-loop μ-loop
+place-printable-requires c κs =
     let z = c .before .before .before .before .before in
     let l = c .before .before .loop in
-    (z .pre .0, c .before .loop-test .taken, z .pre .1 .slot (l .i) (c .before .loop-test .taken) .pieces)
+    (z .pre .0, c .before .loop-test .taken, z .pre .1 .place (l .i) (c .before .loop-test .taken) .pieces)
 
 loop-again : tie.Need-loop-again Inv-loop μ-loop
 loop-again c =
     let a = c .before .before .before .before .before .before .args in
     let l = c .before .before .before .loop in
-    (omega arith, rw (rows-next width (a .f .now) (a .w .now) (l .i), printable-append (heldRows width (a .f .now) (a .w .now) (l .i)) (rowAt (a .f .now) (l .i) (statusOf width (a .w .now) (l .i))), ← l .inv .1, c .slot-printable .ensures) refl)
+    (omega arith, rw (rows-next width (a .f .now) (a .w .now) (l .i), printable-append (heldRows width (a .f .now) (a .w .now) (l .i)) (rowAt (a .f .now) (l .i) (statusOf width (a .w .now) (l .i))), ← l .inv .1, c .place-printable .ensures) refl)
 
 returns : tie.Need-returns Inv-loop μ-loop
 returns c =
@@ -48,7 +48,7 @@ all-printable-spec =
     (λ c. search needs)
     (λ c. search needs)
     (λ c. search needs)
-    slot-printable-requires
+    place-printable-requires
     (λ c. search needs)
     (λ c. search needs)
     loop-again

@@ -1,7 +1,7 @@
 -- `readings::at_point::check_read` meets its contract. Assumes nothing.
 use mathlib.Core.Path.{_≡_, sym, _∙_}
 use native.Mathlib.Omega.{arith}
-use Rattle.layout.specs.Layout.{width, slotLimit, facesOf}
+use Rattle.layout.specs.Layout.{width, placeLimit, facesOf}
 use Rattle.layout.specs.SoundLaws.{fine}
 use Rattle.layout.specs.Left.{leftOf}
 use Rattle.readings.specs.Checks.{readCheck}
@@ -17,14 +17,14 @@ returns-2 : tie.Need-returns-2
 unfolding readCheck
 returns-2 c =
     let w = c .before .before .before .before .before .before .before .before .args .w .now in
-    let l : c .before .left .result ≡ leftOf width w (facesOf w) slotLimit = rw (c .before .before .word .ensures) at (c .before .left .ensures) in
+    let l : c .before .left .result ≡ leftOf width w (facesOf w) placeLimit = rw (c .before .before .word .ensures) at (c .before .left .ensures) in
     rw (← c .before .before .before .before .before .check-store .ensures, c .before .before .before .enum-told .given .1, ← l, c .if1 .taken)
 
 returns-3 : tie.Need-returns-3
 unfolding readCheck
 returns-3 c =
     let w = c .before .before .before .before .before .before .before .before .args .w .now in
-    let l : c .before .left .result ≡ leftOf width w (facesOf w) slotLimit = rw (c .before .before .word .ensures) at (c .before .left .ensures) in
+    let l : c .before .left .result ≡ leftOf width w (facesOf w) placeLimit = rw (c .before .before .word .ensures) at (c .before .left .ensures) in
     rw (← c .before .before .before .before .before .check-store .ensures, c .before .before .before .enum-told .given .1, ← l, c .if1 .left)
 
 pub check-read-spec : {M : Type 1} → statement M
@@ -34,8 +34,8 @@ check-read-spec =
     (λ c κs. search needs)
     (λ c. search needs)
     (λ c. search needs)
-    (λ c κs. omega (arith, fine width _ _ (sym (c .before .before .check-store .ensures) ∙ c .enum-told .given .1) .slots))
-    (λ c κs. rw (c .word .ensures) (fine width _ _ (sym (c .before .before .before .check-store .ensures) ∙ c .before .enum-told .given .1) .slots))
+    (λ c κs. omega (arith, fine width _ _ (sym (c .before .before .check-store .ensures) ∙ c .enum-told .given .1) .places))
+    (λ c κs. rw (c .word .ensures) (fine width _ _ (sym (c .before .before .before .check-store .ensures) ∙ c .before .enum-told .given .1) .places))
     returns
     returns-2
     returns-3)

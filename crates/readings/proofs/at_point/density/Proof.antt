@@ -13,12 +13,12 @@ use Rattle.readings.proofs.at_point.density.Tie as tie
 scale-of-requires : tie.Need-scale-of-requires
 scale-of-requires c κs =
     let h = fine width _ _ (read-passed width _ _ _ (sym (c .before .before .before .check-read .ensures) ∙ c .before .enum-told .given .1)) in
-    (omega (arith, h .mesh .floats), rw (c .word .ensures) (h .slots))
+    (omega (arith, h .mesh .floats), rw (c .word .ensures) (h .places))
 
 density-sum-requires : tie.Need-density-sum-requires
 density-sum-requires c κs =
     let h = fine width _ _ (read-passed width _ _ _ (sym (c .before .before .before .before .check-read .ensures) ∙ c .before .before .enum-told .given .1)) in
-    (omega (arith, h .mesh .floats), rw (c .before .word .ensures) (h .slots))
+    (omega (arith, h .mesh .floats), rw (c .before .word .ensures) (h .places))
 
 returns : tie.Need-returns
 returns c =
@@ -40,7 +40,7 @@ density-spec =
     (λ c κs. search needs)
     (λ c. search needs)
     (λ c. search needs)
-    (λ c κs. omega (arith, fine width _ _ (read-passed width _ _ _ (sym (c .before .before .check-read .ensures) ∙ c .enum-told .given .1)) .slots))
+    (λ c κs. omega (arith, fine width _ _ (read-passed width _ _ _ (sym (c .before .before .check-read .ensures) ∙ c .enum-told .given .1)) .places))
     scale-of-requires
     density-sum-requires
     returns

@@ -12,7 +12,7 @@ use Rattle.readings.proofs.listing.list.Tie as tie
 list-pieces-requires : tie.Need-list-pieces-requires
 list-pieces-requires c κs =
     let h = fine width _ _ (read-passed width _ _ _ (sym (c .before .before .before .before .check-read .ensures) ∙ c .before .before .enum-told .given .1)) in
-    (omega (arith, h .mesh .floats), rw (c .before .word .ensures) (h .slots))
+    (omega (arith, h .mesh .floats), rw (c .before .word .ensures) (h .places))
 
 returns : tie.Need-returns
 returns c =
@@ -33,7 +33,7 @@ list-spec =
     (λ c κs. search needs)
     (λ c. search needs)
     (λ c. search needs)
-    (λ c κs. omega (arith, fine width _ _ (read-passed width _ _ _ (sym (c .before .before .check-read .ensures) ∙ c .enum-told .given .1)) .slots))
+    (λ c κs. omega (arith, fine width _ _ (read-passed width _ _ _ (sym (c .before .before .check-read .ensures) ∙ c .enum-told .given .1)) .places))
     list-pieces-requires
     returns
     (λ c. search needs)

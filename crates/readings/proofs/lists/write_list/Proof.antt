@@ -20,18 +20,18 @@ loop-holds : tie.Need-loop-holds Inv-loop μ-loop
 unfolding heldAll pieceCount
 loop-holds c = (omega arith, refl, none-listed _ _)
 
-slot-list-requires : tie.Need-slot-list-requires Inv-loop μ-loop
-slot-list-requires c κs =
+place-list-requires : tie.Need-place-list-requires Inv-loop μ-loop
+place-list-requires c κs =
     let z = c .before .before .before .before .before .before .before .before in
     let l = c .before .before .before .before .loop in
-    let h = z .pre .1 .0 .slot (l .i) (c .before .before .before .loop-test .taken) in
+    let h = z .pre .1 .0 .place (l .i) (c .before .before .before .loop-test .taken) in
     let m = count-mono width (z .args .w .now) (l .i + 1) 32 (omega arith) in
     let n = count-next width (z .args .w .now) (l .i) in
     (z .pre .0, c .before .before .before .loop-test .taken, omega (arith, c .before .pieces .ensures, h .pieces), omega (arith, c .before .pieces .ensures, l .inv .1, l .inv .2 .long, z .pre .1 .1))
 
 mul-at : tie.Need-mul-at Inv-loop μ-loop
 mul-at c =
-    let h = c .before .before .before .before .before .before .before .before .before .before .before .pre .1 .0 .slot (c .before .before .before .before .before .before .before .loop .i) (c .before .before .before .before .before .before .loop-test .taken) in
+    let h = c .before .before .before .before .before .before .before .before .before .before .before .pre .1 .0 .place (c .before .before .before .before .before .before .before .loop .i) (c .before .before .before .before .before .before .loop-test .taken) in
     omega (arith, c .before .before .before .before .pieces .ensures, h .pieces)
 
 add-at : tie.Need-add-at Inv-loop μ-loop
@@ -49,7 +49,7 @@ loop-again c =
     let l = c .before .before .before .before .before .before .before .loop in
     let m = count-mono width (z .args .w .now) (l .i + 1) 32 (omega arith) in
     let n = count-next width (z .args .w .now) (l .i) in
-    (omega arith, omega (arith, c .before .before .before .before .pieces .ensures, l .inv .1), place-listed (a .out .now) (a .s) width (a .f .now) (a .w .now) (l .i) (l .out) (c .before .before .slot-list .last .0) (l .inv .2) (omega (arith, z .pre .1 .1)) (rw (l .inv .1, c .before .before .before .before .pieces .ensures) at (c .before .before .slot-list .ensures)))
+    (omega arith, omega (arith, c .before .before .before .before .pieces .ensures, l .inv .1), place-listed (a .out .now) (a .s) width (a .f .now) (a .w .now) (l .i) (l .out) (c .before .before .place-list .last .0) (l .inv .2) (omega (arith, z .pre .1 .1)) (rw (l .inv .1, c .before .before .before .before .pieces .ensures) at (c .before .before .place-list .ensures)))
 
 returns : tie.Need-returns Inv-loop μ-loop
 returns c =
@@ -69,7 +69,7 @@ write-list-spec =
     (λ c. search needs)
     (λ c. search needs)
     (λ c κs. search needs)
-    slot-list-requires
+    place-list-requires
     mul-at
     add-at
     (λ c. search needs)

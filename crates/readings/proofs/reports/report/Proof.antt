@@ -17,22 +17,22 @@ use Rattle.readings.proofs.reports.report.Tie as tie
 mass-report-requires : tie.Need-mass-report-requires
 mass-report-requires c κs =
     let h = fine width _ _ (read-passed width _ _ _ (sym (c .before .before .before .before .check-read .ensures) ∙ c .before .before .enum-told .given .1)) in
-    rw (c .word2 .ensures, c .before .word .ensures) (h .mesh, h .slots)
+    rw (c .word2 .ensures, c .before .word .ensures) (h .mesh, h .places)
 
 count-filled-requires : tie.Need-count-filled-requires
 count-filled-requires c κs =
     let h = fine width _ _ (read-passed width _ _ _ (sym (c .before .before .before .before .before .check-read .ensures) ∙ c .before .before .before .enum-told .given .1)) in
-    rw (c .before .before .word .ensures) (h .slots)
+    rw (c .before .before .word .ensures) (h .places)
 
 count-pieces-requires : tie.Need-count-pieces-requires
 count-pieces-requires c κs =
     let h = fine width _ _ (read-passed width _ _ _ (sym (c .before .before .before .before .before .before .check-read .ensures) ∙ c .before .before .before .before .enum-told .given .1)) in
-    rw (c .before .before .before .word .ensures) (h .slots)
+    rw (c .before .before .before .word .ensures) (h .places)
 
 worst-error-requires : tie.Need-worst-error-requires
 worst-error-requires c κs =
     let h = fine width _ _ (read-passed width _ _ _ (sym (c .before .before .before .before .before .before .before .check-read .ensures) ∙ c .before .before .before .before .before .enum-told .given .1)) in
-    (omega (arith, h .mesh .floats), rw (c .before .before .before .before .word .ensures) (h .slots))
+    (omega (arith, h .mesh .floats), rw (c .before .before .before .before .word .ensures) (h .places))
 
 returns : tie.Need-returns
 returns c =
@@ -56,8 +56,8 @@ report-spec =
     (λ c κs. search needs)
     (λ c. search needs)
     (λ c. search needs)
-    (λ c κs. omega (arith, fine width _ _ (read-passed width _ _ _ (sym (c .before .before .check-read .ensures) ∙ c .enum-told .given .1)) .slots))
-    (λ c κs. omega (arith, fine width _ _ (read-passed width _ _ _ (sym (c .before .before .before .check-read .ensures) ∙ c .before .enum-told .given .1)) .slots))
+    (λ c κs. omega (arith, fine width _ _ (read-passed width _ _ _ (sym (c .before .before .check-read .ensures) ∙ c .enum-told .given .1)) .places))
+    (λ c κs. omega (arith, fine width _ _ (read-passed width _ _ _ (sym (c .before .before .before .check-read .ensures) ∙ c .before .enum-told .given .1)) .places))
     mass-report-requires
     count-filled-requires
     (λ c. search needs)

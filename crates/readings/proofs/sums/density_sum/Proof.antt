@@ -21,16 +21,16 @@ loop-holds : tie.Need-loop-holds Inv-loop μ-loop
 unfolding heldAll
 loop-holds c = (omega arith, refl)
 
-slot-density-requires : tie.Need-slot-density-requires Inv-loop μ-loop
-slot-density-requires c κs =
-    let h = c .before .before .before .before .before .before .pre .1 .slot (c .before .before .before .loop .i) (c .before .before .loop-test .taken) in
+place-density-requires : tie.Need-place-density-requires Inv-loop μ-loop
+place-density-requires c κs =
+    let h = c .before .before .before .before .before .before .pre .1 .place (c .before .before .before .loop .i) (c .before .before .loop-test .taken) in
     (c .before .before .before .before .before .before .pre .0, c .before .before .loop-test .taken, omega (arith, c .pieces .ensures, h .pieces))
 
 loop-again : tie.Need-loop-again Inv-loop μ-loop
 loop-again c =
     let a = c .before .before .before .before .before .before .before .args in
     let l = c .before .before .before .before .loop in
-    (omega arith, rw (place-more (scaledStep (a .s) (a .x)) width (a .f .now) (a .w .now) (l .i) +0, ← l .inv .1, ← c .before .pieces .ensures) (c .slot-density .ensures))
+    (omega arith, rw (place-more (scaledStep (a .s) (a .x)) width (a .f .now) (a .w .now) (l .i) +0, ← l .inv .1, ← c .before .pieces .ensures) (c .place-density .ensures))
 
 returns : tie.Need-returns Inv-loop μ-loop
 returns c =
@@ -50,7 +50,7 @@ density-sum-spec =
     (λ c. search needs)
     (λ c. search needs)
     (λ c κs. search needs)
-    slot-density-requires
+    place-density-requires
     (λ c. search needs)
     (λ c. search needs)
     loop-again

@@ -21,16 +21,16 @@ loop-holds : tie.Need-loop-holds Inv-loop μ-loop
 unfolding heldAll
 loop-holds c = (omega arith, refl)
 
-slot-mass-requires : tie.Need-slot-mass-requires Inv-loop μ-loop
-slot-mass-requires c κs =
-    let h = c .before .before .before .before .before .before .pre .1 .slot (c .before .before .before .loop .i) (c .before .before .loop-test .taken) in
+place-mass-requires : tie.Need-place-mass-requires Inv-loop μ-loop
+place-mass-requires c κs =
+    let h = c .before .before .before .before .before .before .pre .1 .place (c .before .before .before .loop .i) (c .before .before .loop-test .taken) in
     (c .before .before .before .before .before .before .pre .0, c .before .before .loop-test .taken, omega (arith, c .pieces .ensures, h .pieces))
 
 loop-again : tie.Need-loop-again Inv-loop μ-loop
 loop-again c =
     let a = c .before .before .before .before .before .before .before .args in
     let l = c .before .before .before .before .loop in
-    (omega arith, rw (place-more (massStep) width (a .f .now) (a .w .now) (l .i) +0, ← l .inv .1, ← c .before .pieces .ensures) (c .slot-mass .ensures))
+    (omega arith, rw (place-more (massStep) width (a .f .now) (a .w .now) (l .i) +0, ← l .inv .1, ← c .before .pieces .ensures) (c .place-mass .ensures))
 
 returns : tie.Need-returns Inv-loop μ-loop
 returns c =
@@ -50,7 +50,7 @@ raw-mass-spec =
     (λ c. search needs)
     (λ c. search needs)
     (λ c κs. search needs)
-    slot-mass-requires
+    place-mass-requires
     (λ c. search needs)
     (λ c. search needs)
     loop-again

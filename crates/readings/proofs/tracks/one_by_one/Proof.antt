@@ -3,7 +3,7 @@ use mathlib.Core.Path.{_≡_, sym, _∙_}
 use mathlib.Core.List.{map}
 use Prim.Native.Nat.{_-_, _≤_}
 use native.Mathlib.Omega.{arith}
-use Rattle.layout.specs.Layout.{width, slotLimit}
+use Rattle.layout.specs.Layout.{width, placeLimit}
 use Rattle.readings.specs.AlongLaws.{Traced, none-traced, one-traced}
 use Rattle.readings.specs.Readings.{bare, rescaled, densityAt, heldAll}
 use Rattle.readings.specs.FoldLaws.{scaled-sum}
@@ -13,7 +13,7 @@ use Rattle.readings.proofs.tracks.one_by_one.Tie as tie
 
 abbrev Inv-loop : tie.InvT-loop
 Inv-loop f w faces s points count out₀ i₀ out i =
-    (i ≤ count) × Traced (densityAt (map (rescaled s) (map bare (heldAll width f w slotLimit)))) points out₀ i out
+    (i ≤ count) × Traced (densityAt (map (rescaled s) (map bare (heldAll width f w placeLimit)))) points out₀ i out
 
 abbrev μ-loop : tie.MeasureT-loop
 μ-loop f w faces s points count out₀ i₀ out i = count - i

@@ -12,12 +12,12 @@ use Rattle.readings.proofs.tracks.track.Tie as tie
 scale-of-requires : tie.Need-scale-of-requires
 scale-of-requires c κs =
     let h = fine width _ _ (read-passed width _ _ _ (sym (c .before .before .before .check-read .ensures) ∙ c .before .enum-told .given .1)) in
-    (omega (arith, h .mesh .floats), rw (c .word .ensures) (h .slots))
+    (omega (arith, h .mesh .floats), rw (c .word .ensures) (h .places))
 
 track-points-requires : tie.Need-track-points-requires
 track-points-requires c κs =
     let h = fine width _ _ (read-passed width _ _ _ (sym (c .before .before .before .before .before .check-read .ensures) ∙ c .before .before .before .enum-told .given .1)) in
-    (omega (arith, h .mesh .floats), rw (c .before .before .word .ensures) (h .slots))
+    (omega (arith, h .mesh .floats), rw (c .before .before .word .ensures) (h .places))
 
 returns : tie.Need-returns
 returns c =
@@ -38,7 +38,7 @@ track-spec =
     (λ c κs. search needs)
     (λ c. search needs)
     (λ c. search needs)
-    (λ c κs. omega (arith, fine width _ _ (read-passed width _ _ _ (sym (c .before .before .check-read .ensures) ∙ c .enum-told .given .1)) .slots))
+    (λ c κs. omega (arith, fine width _ _ (read-passed width _ _ _ (sym (c .before .before .check-read .ensures) ∙ c .enum-told .given .1)) .places))
     scale-of-requires
     track-points-requires
     returns

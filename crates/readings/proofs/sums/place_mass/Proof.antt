@@ -1,4 +1,4 @@
--- `readings::sums::slot_mass` meets its contract. Assumes nothing.
+-- `readings::sums::place_mass` meets its contract. Assumes nothing.
 use mathlib.Core.Path.{_≡_, refl}
 use Prim.Native.Nat.{_-_, _≤_}
 use native.Mathlib.Omega.{arith}
@@ -6,8 +6,8 @@ use Rattle.readings.specs.Readings.{heldAt}
 use Rattle.readings.specs.Folds.{fold, massStep}
 use Rattle.readings.specs.FoldLaws.{piece-more}
 use borrow.Author.Needs.{needs}
-use Rattle.readings.proofs.sums.slot_mass.Statement.{statement}
-use Rattle.readings.proofs.sums.slot_mass.Tie as tie
+use Rattle.readings.proofs.sums.place_mass.Statement.{statement}
+use Rattle.readings.proofs.sums.place_mass.Tie as tie
 
 abbrev Inv-loop : tie.InvT-loop
 Inv-loop f i count start total₀ j₀ total j = (j ≤ count) × (total ≡ fold massStep (heldAt f i j) start)
@@ -27,8 +27,8 @@ returns c =
     let e : l .j ≡ c .before .before .before .args .count = omega arith in
     rw e at (l .inv .1)
 
-pub slot-mass-spec : {M : Type 1} → statement M
-slot-mass-spec =
+pub place-mass-spec : {M : Type 1} → statement M
+place-mass-spec =
     tie.close
     (tie.spec
     Inv-loop

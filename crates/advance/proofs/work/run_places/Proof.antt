@@ -1,11 +1,11 @@
--- `advance::work::run_slots` meets its contract. Assumes nothing.
+-- `advance::work::run_places` meets its contract. Assumes nothing.
 use mathlib.Core.Path.{_≡_}
 use Prim.Native.Nat.{_-_}
 use native.Mathlib.Omega.{arith}
 use Rattle.advance.proofs.Places.{Sweep, start, sweep, sweep-meshed}
 use borrow.Author.Needs.{needs}
-use Rattle.advance.proofs.work.run_slots.Statement.{statement}
-use Rattle.advance.proofs.work.run_slots.Tie as tie
+use Rattle.advance.proofs.work.run_places.Statement.{statement}
+use Rattle.advance.proofs.work.run_places.Tie as tie
 
 abbrev Inv-loop : tie.InvT-loop
 Inv-loop f₀ w₀ verts faces budget rest₀ i₀ f w rest i = Sweep f₀ w₀ verts faces budget f w rest i
@@ -37,8 +37,8 @@ returns c =
     let e : l .i ≡ 32 = omega (arith, l .inv .top) in
     rw e at (l .inv .state)
 
-pub run-slots-spec : {M : Type 1} → statement M
-run-slots-spec =
+pub run-places-spec : {M : Type 1} → statement M
+run-places-spec =
     tie.close
     (tie.spec
     Inv-loop

@@ -1,19 +1,19 @@
--- `layout::check::slots_sound` meets its contract. Assumes nothing.
+-- `layout::check::places_sound` meets its contract. Assumes nothing.
 use mathlib.Core.Path.{_≡_, refl, sym, _∙_}
 use mathlib.Core.Bool.{true}
 use Prim.Native.Nat.{_-_, _≤_}
 use native.Mathlib.Numerals.{add-one}
 use native.Mathlib.Omega.{arith}
 use Rattle.layout.specs.Layout.{width}
-use Rattle.layout.specs.Soundness.{every, slotSoundAt}
+use Rattle.layout.specs.Soundness.{every, placeSoundAt}
 use Rattle.layout.specs.SoundLaws.{every-not}
 use borrow.Author.Tests.{not-true, not-false}
 use borrow.Author.Needs.{needs}
-use Rattle.layout.proofs.check.slots_sound.Statement.{statement}
-use Rattle.layout.proofs.check.slots_sound.Tie as tie
+use Rattle.layout.proofs.check.places_sound.Statement.{statement}
+use Rattle.layout.proofs.check.places_sound.Tie as tie
 
 abbrev Inv-loop : tie.InvT-loop
-Inv-loop w faces i₀ i = (i ≤ 32) × (every (slotSoundAt width w) i ≡ true)
+Inv-loop w faces i₀ i = (i ≤ 32) × (every (placeSoundAt width w) i ≡ true)
 
 abbrev μ-loop : tie.MeasureT-loop
 μ-loop w faces i₀ i = 32 - i
@@ -23,20 +23,20 @@ unfolding every
 loop-holds c = (omega arith, refl)
 
 returns : tie.Need-returns Inv-loop μ-loop
-unfolding slotSoundAt
+unfolding placeSoundAt
 returns c =
     let l = c .before .before .before .before .before .before .loop in
     let w = c .before .before .before .before .before .before .before .before .before .args .w .now in
-    sym (every-not (slotSoundAt width w) 32 (l .i) (omega arith) (sym (c .before .slot-sound .ensures) ∙ not-true _ (c .if1 .taken)))
+    sym (every-not (placeSoundAt width w) 32 (l .i) (omega arith) (sym (c .before .place-sound .ensures) ∙ not-true _ (c .if1 .taken)))
 
 loop-again : tie.Need-loop-again Inv-loop μ-loop
-unfolding every slotSoundAt
+unfolding every placeSoundAt
 loop-again c =
     let l = c .before .before .before .before .before .before .loop in
-    (omega arith, rw (add-one, l .inv .1) (sym (c .before .slot-sound .ensures) ∙ not-false _ (c .if1 .left)))
+    (omega arith, rw (add-one, l .inv .1) (sym (c .before .place-sound .ensures) ∙ not-false _ (c .if1 .left)))
 
-pub slots-sound-spec : {M : Type 1} → statement M
-slots-sound-spec =
+pub places-sound-spec : {M : Type 1} → statement M
+places-sound-spec =
     tie.close
     (tie.spec
     Inv-loop

@@ -1,25 +1,25 @@
--- `readings::sums::slot_origin` meets its contract. Assumes nothing.
+-- `readings::sums::place_density` meets its contract. Assumes nothing.
 use mathlib.Core.Path.{_≡_, refl}
 use Prim.Native.Nat.{_-_, _≤_}
 use native.Mathlib.Omega.{arith}
 use Rattle.readings.specs.Readings.{heldAt}
-use Rattle.readings.specs.Folds.{fold, originStep}
+use Rattle.readings.specs.Folds.{fold, scaledStep}
 use Rattle.readings.specs.FoldLaws.{piece-more}
 use borrow.Author.Needs.{needs}
-use Rattle.readings.proofs.sums.slot_origin.Statement.{statement}
-use Rattle.readings.proofs.sums.slot_origin.Tie as tie
+use Rattle.readings.proofs.sums.place_density.Statement.{statement}
+use Rattle.readings.proofs.sums.place_density.Tie as tie
 
 abbrev Inv-loop : tie.InvT-loop
-Inv-loop f i count start rho₀ j₀ rho j = (j ≤ count) × (rho ≡ fold originStep (heldAt f i j) start)
+Inv-loop f i count s x start rho₀ j₀ rho j = (j ≤ count) × (rho ≡ fold (scaledStep s x) (heldAt f i j) start)
 
 abbrev μ-loop : tie.MeasureT-loop
-μ-loop f i count start rho₀ j₀ rho j = count - j
+μ-loop f i count s x start rho₀ j₀ rho j = count - j
 
 loop-again : tie.Need-loop-again Inv-loop μ-loop
 loop-again c =
     let a = c .before .before .before .before .before .args in
     let l = c .before .before .before .loop in
-    (omega arith, rw (piece-more originStep (a .f .now) (a .i) (l .j) (a .start), ← l .inv .1, c .density-of .ensures, c .before .piece-at .ensures) refl)
+    (omega arith, rw (piece-more (scaledStep (a .s) (a .x)) (a .f .now) (a .i) (l .j) (a .start), ← l .inv .1, c .density-of .ensures, c .before .rescaled-at .ensures) refl)
 
 returns : tie.Need-returns Inv-loop μ-loop
 returns c =
@@ -27,8 +27,8 @@ returns c =
     let e : l .j ≡ c .before .before .before .args .count = omega arith in
     rw e at (l .inv .1)
 
-pub slot-origin-spec : {M : Type 1} → statement M
-slot-origin-spec =
+pub place-density-spec : {M : Type 1} → statement M
+place-density-spec =
     tie.close
     (tie.spec
     Inv-loop

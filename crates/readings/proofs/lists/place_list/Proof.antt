@@ -1,12 +1,12 @@
--- `readings::lists::slot_list` meets its contract. Assumes nothing.
+-- `readings::lists::place_list` meets its contract. Assumes nothing.
 use mathlib.Core.Path.{_≡_}
 use Prim.Native.Nat.{_-_, _≤_}
 use native.Mathlib.Omega.{arith}
 use Rattle.readings.specs.Readings.{heldAt}
 use Rattle.readings.specs.Lists.{rows, Listed, none-listed, piece-listed}
 use borrow.Author.Needs.{needs}
-use Rattle.readings.proofs.lists.slot_list.Statement.{statement}
-use Rattle.readings.proofs.lists.slot_list.Tie as tie
+use Rattle.readings.proofs.lists.place_list.Statement.{statement}
+use Rattle.readings.proofs.lists.place_list.Tie as tie
 
 abbrev Inv-loop : tie.InvT-loop
 Inv-loop out₀ at f i count s j₀ out j = (j ≤ count) × Listed out₀ at (rows s (heldAt f i j)) out
@@ -26,8 +26,8 @@ returns c =
     let e : l .j ≡ c .before .before .before .before .args .count = omega arith in
     rw e at (l .inv .1 .same)
 
-pub slot-list-spec : {M : Type 1} → statement M
-slot-list-spec =
+pub place-list-spec : {M : Type 1} → statement M
+place-list-spec =
     tie.close
     (tie.spec
     Inv-loop

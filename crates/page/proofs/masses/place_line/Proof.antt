@@ -1,11 +1,11 @@
--- `page::masses::slot_line` meets its contract. Assumes nothing.
+-- `page::masses::place_line` meets its contract. Assumes nothing.
 use mathlib.Core.Path.{sym, subst}
 use native.Mathlib.Omega.{arith}
 use lib.Dec.{T}
 use Rattle.page.proofs.Rows.{none-count, none-written, none-total, fair-mass, one-count, one-total, one-written}
 use borrow.Author.Needs.{needs}
-use Rattle.page.proofs.masses.slot_line.Statement.{statement}
-use Rattle.page.proofs.masses.slot_line.Tie as tie
+use Rattle.page.proofs.masses.place_line.Statement.{statement}
+use Rattle.page.proofs.masses.place_line.Tie as tie
 
 returns : tie.Need-returns
 returns c =
@@ -17,13 +17,13 @@ returns c =
 rounded-requires : tie.Need-rounded-requires
 rounded-requires c κs =
     let p = c .before in
-    let m = c .slot-mass in
+    let m = c .place-mass in
     subst T (sym (fair-mass _ _ _ (p .pieces .result) (p .before .if1 .left) (p .pieces .ensures) (m .result) (m .ensures) (p .before .before .before .before .pre .1 .0))) tt
 
 write-line-requires : tie.Need-write-line-requires
 write-line-requires c κs =
     let v = c .before in
-    let m = v .before .slot-mass in
+    let m = v .before .place-mass in
     let p = v .before .before in
     let z = p .before .before .before .before in
     let n = one-count (z .args .f .now) (z .args .i) (z .args .status) (p .pieces .result) (p .before .if1 .left) (p .pieces .ensures) (m .result) (m .ensures) in
@@ -39,7 +39,7 @@ returns-2 : tie.Need-returns-2
 returns-2 c =
     let w = c .before .before .before in
     let v = w .before .before in
-    let m = v .before .slot-mass in
+    let m = v .before .place-mass in
     let p = v .before .before in
     let a = p .before .before .before .before .args in
     let n = one-count (a .f .now) (a .i) (a .status) (p .pieces .result) (p .before .if1 .left) (p .pieces .ensures) (m .result) (m .ensures) in
@@ -47,8 +47,8 @@ returns-2 c =
     let l = one-written (a .f .now) (a .i) (a .status) (p .pieces .result) (p .before .if1 .left) (p .pieces .ensures) (m .result) (m .ensures) _ (v .rounded .ensures .0) (w .write-line .ensures .1) in
     ((omega (arith, n, c .add .ensures .0, w .write-line .ensures .0), rw (c .add .ensures .0) l), (rw t (c .add .ensures .1), c .add .ensures .2, c .add .ensures .3))
 
-pub slot-line-spec : {M : Type 1} → statement M
-slot-line-spec =
+pub place-line-spec : {M : Type 1} → statement M
+place-line-spec =
     tie.close
     (tie.spec
     returns

@@ -1,4 +1,4 @@
--- `advance::work::run_slot` meets its contract. Assumes nothing.
+-- `advance::work::run_place` meets its contract. Assumes nothing.
 use mathlib.Core.Path.{refl}
 use mathlib.Core.Bool.{and-false}
 use Prim.Native.Nat.{_+_, _-_}
@@ -8,8 +8,8 @@ use lib.Dec.{ltb}
 use Rattle.advance.proofs.Steps.{Going, turn, stopped, meshed-same}
 use borrow.Author.Tests.{le-ltb}
 use borrow.Author.Needs.{needs}
-use Rattle.advance.proofs.work.run_slot.Statement.{statement}
-use Rattle.advance.proofs.work.run_slot.Tie as tie
+use Rattle.advance.proofs.work.run_place.Statement.{statement}
+use Rattle.advance.proofs.work.run_place.Tie as tie
 
 abbrev Inv-loop : tie.InvT-loop
 Inv-loop f₀ w verts faces i count at c r₀ f r = Going f₀ w verts faces i count (r₀ .finished) (r₀ .done) (r₀ .budget) f (r .finished) (r .done) (r .budget)
@@ -57,8 +57,8 @@ returns-2 c =
     let l = c .before .before .loop in
     (stopped (a .f .now) (a .w .now) (a .verts) (a .faces) (a .i) (a .count) (a .start .finished) (a .start .done) (a .start .budget) (l .f) (l .r .finished) (l .r .done) (l .r .budget) (l .inv) (rw (le-ltb (l .r .finished) (a .count) (c .if1 .left)) refl), omega (arith, l .inv))
 
-pub run-slot-spec : {M : Type 1} → statement M
-run-slot-spec =
+pub run-place-spec : {M : Type 1} → statement M
+run-place-spec =
     tie.close
     (tie.spec
     Inv-loop
