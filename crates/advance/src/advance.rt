@@ -19,17 +19,17 @@ pub enum Advanced {
 }
 
 // Does up to `budget` steps of the work that is left.
-pub fn advance(f: &mut [f64], w: &mut [u32], budget: u64) -> Advanced
-    ensures { λ r. ⌜ after (advanced r) (now (f .exit)) (now (w .exit)) ≡ advanceStep width (now (f .entry)) (now (w .entry)) budget ⌝ }
+pub fn advance(floats: &mut [f64], words: &mut [u32], budget: u64) -> Advanced
+    ensures { λ r. ⌜ after (advanced r) (now (floats .exit)) (now (words .exit)) ≡ advanceStep width (now (floats .entry)) (now (words .entry)) budget ⌝ }
 {
-    match check_store(f, w) {
+    match check_store(floats, words) {
         Checked::Failed(r) => Advanced::Refused(r),
         Checked::Passed => {
-            let verts = word(w, 0);
-            let faces = word(w, 1);
-            let total = left(w, faces);
+            let verts = word(words, 0);
+            let faces = word(words, 1);
+            let total = left(words, faces);
             let n = budget as usize;
-            let rest = run_places(f, w, verts, faces, n);
+            let rest = run_places(floats, words, verts, faces, n);
             let done = less(n, rest);
             let over = less(total, done);
             Advanced::Steps {

@@ -34,8 +34,8 @@ pub struct Ran {
 
 // Brings the volume of the piece whose three floats stand at `at` on from face `done` by k faces.
 fn chunk(
-    f: &mut [f64],
-    w: &[u32],
+    floats: &mut [f64],
+    words: &[u32],
     verts: usize,
     faces: usize,
     c: V3,
@@ -43,44 +43,44 @@ fn chunk(
     done: usize,
     k: usize,
 )
-    requires { ⌜ Meshed width (now f) (now w) verts faces ⌝ ∗ ⌜ (at + 2 < coordsFrom) × (done + k ≤ faces) ⌝ }
-    ensures { λ _. ⌜ now (f .exit) ≡ set (now (f .entry)) (at + 2) (volumeFrom (held width (now (f .entry)) (now (w .entry)) verts faces) c (getD (now (f .entry)) at nan) done (done + k) (getD (now (f .entry)) (at + 2) nan)) ⌝ }
+    requires { ⌜ Meshed width (now floats) (now words) verts faces ⌝ ∗ ⌜ (at + 2 < coordsFrom) × (done + k ≤ faces) ⌝ }
+    ensures { λ _. ⌜ now (floats .exit) ≡ set (now (floats .entry)) (at + 2) (volumeFrom (held width (now (floats .entry)) (now (words .entry)) verts faces) c (getD (now (floats .entry)) at nan) done (done + k) (getD (now (floats .entry)) (at + 2) nan)) ⌝ }
 {
-    let sigma = f[at];
-    let sum = f[at + 2];
+    let sigma = floats[at];
+    let sum = floats[at + 2];
     let coords_end = COORDS + 3 * verts;
     let corners_end = CORNERS + 3 * faces;
     let volume = volume_from(
         sum,
-        &f[COORDS..coords_end],
-        &w[CORNERS..corners_end],
+        &floats[COORDS..coords_end],
+        &words[CORNERS..corners_end],
         c,
         sigma,
         done,
         done + k,
     );
-    f[at + 2] = volume;
+    floats[at + 2] = volume;
 }
 
 // Spends up to `budget` steps at place i, no further than the end of the current piece; c is the place's centre.
 fn run_piece(
-    f: &mut [f64],
-    w: &[u32],
+    floats: &mut [f64],
+    words: &[u32],
     verts: usize,
     faces: usize,
     i: usize,
     c: V3,
     start: Ran,
 ) -> Ran
-    requires { ⌜ Meshed width (now f) (now w) verts faces ⌝ ∗ ⌜ Ready faces i (start .finished + 1) (start .finished) (start .done) ⌝ }
-    ensures { λ r. ⌜ work (now (f .exit)) (r .finished) (r .done) (r .budget) ≡ iterate (oneFace (held width (now (f .entry)) (now (w .entry)) verts faces) c faces (piecesFrom i) (start .finished + 1)) (start .budget) (work (now (f .entry)) (start .finished) (start .done) (start .budget)) ⌝ }
+    requires { ⌜ Meshed width (now floats) (now words) verts faces ⌝ ∗ ⌜ Ready faces i (start .finished + 1) (start .finished) (start .done) ⌝ }
+    ensures { λ r. ⌜ work (now (floats .exit)) (r .finished) (r .done) (r .budget) ≡ iterate (oneFace (held width (now (floats .entry)) (now (words .entry)) verts faces) c faces (piecesFrom i) (start .finished + 1)) (start .budget) (work (now (floats .entry)) (start .finished) (start .done) (start .budget)) ⌝ }
 {
     let finished = start.finished;
     let done = start.done;
     let room = faces - done;
     let k = lesser(start.budget, room);
     let at = PIECE + PIECES_SIZE * i + 3 * finished;
-    chunk(f, w, verts, faces, c, at, done, k);
+    chunk(floats, words, verts, faces, c, at, done, k);
     let budget = start.budget - k;
     if k == room {
         return Ran {
@@ -98,45 +98,52 @@ fn run_piece(
 
 // Spends up to `budget` steps at place i, which has `count` pieces.
 fn run_place(
-    f: &mut [f64],
-    w: &[u32],
+    floats: &mut [f64],
+    words: &[u32],
     verts: usize,
     faces: usize,
     i: usize,
     count: usize,
     start: Ran,
 ) -> Ran
-    requires { ⌜ Meshed width (now f) (now w) verts faces ⌝ ∗ ⌜ Ready faces i count (start .finished) (start .done) ⌝ }
-    ensures { λ r. ⌜ work (now (f .exit)) (r .finished) (r .done) (r .budget) ≡ iterate (oneFace (held width (now (f .entry)) (now (w .entry)) verts faces) (centreAt (now (f .entry)) i) faces (piecesFrom i) count) (start .budget) (work (now (f .entry)) (start .finished) (start .done) (start .budget)) ⌝ ∗ ⌜ (r .finished ≤ count) × (r .done ≤ faces) ⌝ }
+    requires { ⌜ Meshed width (now floats) (now words) verts faces ⌝ ∗ ⌜ Ready faces i count (start .finished) (start .done) ⌝ }
+    ensures { λ r. ⌜ work (now (floats .exit)) (r .finished) (r .done) (r .budget) ≡ iterate (oneFace (held width (now (floats .entry)) (now (words .entry)) verts faces) (centreAt (now (floats .entry)) i) faces (piecesFrom i) count) (start .budget) (work (now (floats .entry)) (start .finished) (start .done) (start .budget)) ⌝ ∗ ⌜ (r .finished ≤ count) × (r .done ≤ faces) ⌝ }
 {
     let at = KERNEL_SIZE * i;
     let c = V3 {
-        x: f[KERNEL + at],
-        y: f[KERNEL + 1 + at],
-        z: f[KERNEL + 2 + at],
+        x: floats[KERNEL + at],
+        y: floats[KERNEL + 1 + at],
+        z: floats[KERNEL + 2 + at],
     };
     let mut r = start;
     while r.finished < count {
         if r.budget == 0 {
             return r;
         }
-        r = run_piece(f, w, verts, faces, i, c, r);
+        r = run_piece(floats, words, verts, faces, i, c, r);
     }
     r
 }
 
 // Spends up to `budget` steps at place i, and answers how many are over.
-fn spend(f: &mut [f64], w: &mut [u32], verts: usize, faces: usize, i: usize, budget: usize) -> usize
-    requires { ⌜ Meshed width (now f) (now w) verts faces ⌝ ∗ ⌜ Ready faces i (statusOf width (now w) i - 1) (finishedOf width (now w) i) (doneOf width (now w) i) ⌝ }
-    ensures { λ r. ⌜ whole (now (f .exit)) (now (w .exit)) r ≡ stored width (now (w .entry)) i (placeWork width (held width (now (f .entry)) (now (w .entry)) verts faces) faces i (whole (now (f .entry)) (now (w .entry)) budget)) ⌝ }
+fn spend(
+    floats: &mut [f64],
+    words: &mut [u32],
+    verts: usize,
+    faces: usize,
+    i: usize,
+    budget: usize,
+) -> usize
+    requires { ⌜ Meshed width (now floats) (now words) verts faces ⌝ ∗ ⌜ Ready faces i (statusOf width (now words) i - 1) (finishedOf width (now words) i) (doneOf width (now words) i) ⌝ }
+    ensures { λ r. ⌜ whole (now (floats .exit)) (now (words .exit)) r ≡ stored width (now (words .entry)) i (placeWork width (held width (now (floats .entry)) (now (words .entry)) verts faces) faces i (whole (now (floats .entry)) (now (words .entry)) budget)) ⌝ }
 {
     let at = WIDTH * i;
-    let count = pieces(w[STATE + at]);
-    let finished = word(w, STATE + 1 + at);
-    let done = word(w, STATE + 2 + at);
+    let count = pieces(words[STATE + at]);
+    let finished = word(words, STATE + 1 + at);
+    let done = word(words, STATE + 2 + at);
     let r = run_place(
-        f,
-        w,
+        floats,
+        words,
         verts,
         faces,
         i,
@@ -147,20 +154,26 @@ fn spend(f: &mut [f64], w: &mut [u32], verts: usize, faces: usize, i: usize, bud
             budget,
         },
     );
-    w[STATE + 1 + at] = r.finished as u32;
-    w[STATE + 2 + at] = r.done as u32;
+    words[STATE + 1 + at] = r.finished as u32;
+    words[STATE + 2 + at] = r.done as u32;
     r.budget
 }
 
 // Spends up to `budget` steps, the lowest place first, and answers how many are over.
-pub fn run_places(f: &mut [f64], w: &mut [u32], verts: usize, faces: usize, budget: usize) -> usize
-    requires { ⌜ Meshed width (now f) (now w) verts faces ⌝ ∗ ⌜ Worded width (now w) faces ⌝ }
-    ensures { λ r. ⌜ whole (now (f .exit)) (now (w .exit)) r ≡ placesRun width (held width (now (f .entry)) (now (w .entry)) verts faces) faces placeLimit (whole (now (f .entry)) (now (w .entry)) budget) ⌝ }
+pub fn run_places(
+    floats: &mut [f64],
+    words: &mut [u32],
+    verts: usize,
+    faces: usize,
+    budget: usize,
+) -> usize
+    requires { ⌜ Meshed width (now floats) (now words) verts faces ⌝ ∗ ⌜ Worded width (now words) faces ⌝ }
+    ensures { λ r. ⌜ whole (now (floats .exit)) (now (words .exit)) r ≡ placesRun width (held width (now (floats .entry)) (now (words .entry)) verts faces) faces placeLimit (whole (now (floats .entry)) (now (words .entry)) budget) ⌝ }
 {
     let mut rest = budget;
     let mut i: usize = 0;
     while i < PLACES {
-        rest = spend(f, w, verts, faces, i, rest);
+        rest = spend(floats, words, verts, faces, i, rest);
         i += 1;
     }
     rest

@@ -58,19 +58,19 @@ pub fn answer_no(out: &mut [u8; 512], refusal: Refusal) -> usize
 
 // Opens the store.
 pub fn answer_open(
-    f: &mut [f64],
-    w: &mut [u32],
+    floats: &mut [f64],
+    words: &mut [u32],
     radius: f64,
     xyz: &[f64],
     corners: &[u32],
     out: &mut [u8; 512],
 ) -> usize
     ensures { λ r. ⌜ r ≤ 256 ⌝ }
-    ensures { λ _. ⌜ now (f .exit) ≡ openStep width (now (f .entry)) (now (w .entry)) radius (now (xyz .entry)) (now (corners .entry)) .floats ⌝ }
-    ensures { λ _. ⌜ now (w .exit) ≡ openStep width (now (f .entry)) (now (w .entry)) radius (now (xyz .entry)) (now (corners .entry)) .words ⌝ }
-    ensures { λ r. ⌜ Wrote (now (out .entry)) 0 (openText (openStep width (now (f .entry)) (now (w .entry)) radius (now (xyz .entry)) (now (corners .entry)) .reply)) r (now (out .exit)) ⌝ }
+    ensures { λ _. ⌜ now (floats .exit) ≡ openStep width (now (floats .entry)) (now (words .entry)) radius (now (xyz .entry)) (now (corners .entry)) .floats ⌝ }
+    ensures { λ _. ⌜ now (words .exit) ≡ openStep width (now (floats .entry)) (now (words .entry)) radius (now (xyz .entry)) (now (corners .entry)) .words ⌝ }
+    ensures { λ r. ⌜ Wrote (now (out .entry)) 0 (openText (openStep width (now (floats .entry)) (now (words .entry)) radius (now (xyz .entry)) (now (corners .entry)) .reply)) r (now (out .exit)) ⌝ }
 {
-    match open(f, w, radius, xyz, corners) {
+    match open(floats, words, radius, xyz, corners) {
         Opened::Mesh(verts, faces) => {
             let at = write_open(out, 0, verts, faces);
             end_line(out, at)
@@ -80,13 +80,19 @@ pub fn answer_open(
 }
 
 // Puts a kernel.
-pub fn answer_put(f: &mut [f64], w: &mut [u32], place: u32, k: Kernel, out: &mut [u8; 512]) -> usize
+pub fn answer_put(
+    floats: &mut [f64],
+    words: &mut [u32],
+    place: u32,
+    k: Kernel,
+    out: &mut [u8; 512],
+) -> usize
     ensures { λ r. ⌜ r ≤ 256 ⌝ }
-    ensures { λ _. ⌜ now (f .exit) ≡ putStep width (now (f .entry)) (now (w .entry)) place k .floats ⌝ }
-    ensures { λ _. ⌜ now (w .exit) ≡ putStep width (now (f .entry)) (now (w .entry)) place k .words ⌝ }
-    ensures { λ r. ⌜ Wrote (now (out .entry)) 0 (putText place (putStep width (now (f .entry)) (now (w .entry)) place k .reply)) r (now (out .exit)) ⌝ }
+    ensures { λ _. ⌜ now (floats .exit) ≡ putStep width (now (floats .entry)) (now (words .entry)) place k .floats ⌝ }
+    ensures { λ _. ⌜ now (words .exit) ≡ putStep width (now (floats .entry)) (now (words .entry)) place k .words ⌝ }
+    ensures { λ r. ⌜ Wrote (now (out .entry)) 0 (putText place (putStep width (now (floats .entry)) (now (words .entry)) place k .reply)) r (now (out .exit)) ⌝ }
 {
-    match put(f, w, place, k) {
+    match put(floats, words, place, k) {
         Placed::Needs(pieces, need) => {
             let at = write_put(out, 0, place, pieces, need);
             end_line(out, at)
@@ -96,13 +102,13 @@ pub fn answer_put(f: &mut [f64], w: &mut [u32], place: u32, k: Kernel, out: &mut
 }
 
 // Clears a place.
-pub fn answer_clear(f: &mut [f64], w: &mut [u32], place: u32, out: &mut [u8; 512]) -> usize
+pub fn answer_clear(floats: &mut [f64], words: &mut [u32], place: u32, out: &mut [u8; 512]) -> usize
     ensures { λ r. ⌜ r ≤ 256 ⌝ }
-    ensures { λ _. ⌜ now (f .exit) ≡ clearStep width (now (f .entry)) (now (w .entry)) place .floats ⌝ }
-    ensures { λ _. ⌜ now (w .exit) ≡ clearStep width (now (f .entry)) (now (w .entry)) place .words ⌝ }
-    ensures { λ r. ⌜ Wrote (now (out .entry)) 0 (clearText place (clearStep width (now (f .entry)) (now (w .entry)) place .reply)) r (now (out .exit)) ⌝ }
+    ensures { λ _. ⌜ now (floats .exit) ≡ clearStep width (now (floats .entry)) (now (words .entry)) place .floats ⌝ }
+    ensures { λ _. ⌜ now (words .exit) ≡ clearStep width (now (floats .entry)) (now (words .entry)) place .words ⌝ }
+    ensures { λ r. ⌜ Wrote (now (out .entry)) 0 (clearText place (clearStep width (now (floats .entry)) (now (words .entry)) place .reply)) r (now (out .exit)) ⌝ }
 {
-    match clear(f, w, place) {
+    match clear(floats, words, place) {
         Edited::Done => {
             let at = write_clear(out, 0, place);
             end_line(out, at)
@@ -113,18 +119,18 @@ pub fn answer_clear(f: &mut [f64], w: &mut [u32], place: u32, out: &mut [u8; 512
 
 // Reweighs the kernel of a place.
 pub fn answer_reweigh(
-    f: &mut [f64],
-    w: &mut [u32],
+    floats: &mut [f64],
+    words: &mut [u32],
     place: u32,
     weight: f64,
     out: &mut [u8; 512],
 ) -> usize
     ensures { λ r. ⌜ r ≤ 256 ⌝ }
-    ensures { λ _. ⌜ now (f .exit) ≡ reweighStep width (now (f .entry)) (now (w .entry)) place weight .floats ⌝ }
-    ensures { λ _. ⌜ now (w .exit) ≡ reweighStep width (now (f .entry)) (now (w .entry)) place weight .words ⌝ }
-    ensures { λ r. ⌜ Wrote (now (out .entry)) 0 (reweighText place (reweighStep width (now (f .entry)) (now (w .entry)) place weight .reply)) r (now (out .exit)) ⌝ }
+    ensures { λ _. ⌜ now (floats .exit) ≡ reweighStep width (now (floats .entry)) (now (words .entry)) place weight .floats ⌝ }
+    ensures { λ _. ⌜ now (words .exit) ≡ reweighStep width (now (floats .entry)) (now (words .entry)) place weight .words ⌝ }
+    ensures { λ r. ⌜ Wrote (now (out .entry)) 0 (reweighText place (reweighStep width (now (floats .entry)) (now (words .entry)) place weight .reply)) r (now (out .exit)) ⌝ }
 {
-    match reweigh(f, w, place, weight) {
+    match reweigh(floats, words, place, weight) {
         Edited::Done => {
             let at = write_reweigh(out, 0, place);
             end_line(out, at)
@@ -134,13 +140,18 @@ pub fn answer_reweigh(
 }
 
 // Does work.
-pub fn answer_advance(f: &mut [f64], w: &mut [u32], budget: u64, out: &mut [u8; 512]) -> usize
+pub fn answer_advance(
+    floats: &mut [f64],
+    words: &mut [u32],
+    budget: u64,
+    out: &mut [u8; 512],
+) -> usize
     ensures { λ r. ⌜ r ≤ 256 ⌝ }
-    ensures { λ _. ⌜ now (f .exit) ≡ advanceStep width (now (f .entry)) (now (w .entry)) budget .floats ⌝ }
-    ensures { λ _. ⌜ now (w .exit) ≡ advanceStep width (now (f .entry)) (now (w .entry)) budget .words ⌝ }
-    ensures { λ r. ⌜ Wrote (now (out .entry)) 0 (advanceText (advanceStep width (now (f .entry)) (now (w .entry)) budget .reply)) r (now (out .exit)) ⌝ }
+    ensures { λ _. ⌜ now (floats .exit) ≡ advanceStep width (now (floats .entry)) (now (words .entry)) budget .floats ⌝ }
+    ensures { λ _. ⌜ now (words .exit) ≡ advanceStep width (now (floats .entry)) (now (words .entry)) budget .words ⌝ }
+    ensures { λ r. ⌜ Wrote (now (out .entry)) 0 (advanceText (advanceStep width (now (floats .entry)) (now (words .entry)) budget .reply)) r (now (out .exit)) ⌝ }
 {
-    match advance(f, w, budget) {
+    match advance(floats, words, budget) {
         Advanced::Steps { done, left } => {
             let at = write_advance(out, 0, done, left);
             end_line(out, at)
@@ -151,16 +162,16 @@ pub fn answer_advance(f: &mut [f64], w: &mut [u32], budget: u64, out: &mut [u8; 
 
 // Reads the density.
 pub fn answer_density(
-    f: &[f64],
-    w: &[u32],
+    floats: &[f64],
+    words: &[u32],
     v: Convention,
     point: [f64; 3],
     out: &mut [u8; 512],
 ) -> usize
     ensures { λ r. ⌜ r ≤ 256 ⌝ }
-    ensures { λ r. ⌜ Wrote (now (out .entry)) 0 (densityText (readStep width (now (f .entry)) (now (w .entry)) (Readings.density v point) .reply)) r (now (out .exit)) ⌝ }
+    ensures { λ r. ⌜ Wrote (now (out .entry)) 0 (densityText (readStep width (now (floats .entry)) (now (words .entry)) (Readings.density v point) .reply)) r (now (out .exit)) ⌝ }
 {
-    match density(f, w, v, point) {
+    match density(floats, words, v, point) {
         Measured::Value(x) => {
             let at = write_density(out, 0, x);
             end_line(out, at)
@@ -170,11 +181,11 @@ pub fn answer_density(
 }
 
 // Reports the masses.
-pub fn answer_report(f: &[f64], w: &[u32], v: Convention, out: &mut [u8; 512]) -> usize
+pub fn answer_report(floats: &[f64], words: &[u32], v: Convention, out: &mut [u8; 512]) -> usize
     ensures { λ r. ⌜ r ≤ 256 ⌝ }
-    ensures { λ r. ⌜ Wrote (now (out .entry)) 0 (reportText (readStep width (now (f .entry)) (now (w .entry)) (Readings.report v) .reply)) r (now (out .exit)) ⌝ }
+    ensures { λ r. ⌜ Wrote (now (out .entry)) 0 (reportText (readStep width (now (floats .entry)) (now (words .entry)) (Readings.report v) .reply)) r (now (out .exit)) ⌝ }
 {
-    match report(f, w, v) {
+    match report(floats, words, v) {
         Reported::Report {
             mass,
             filled,

@@ -15,11 +15,11 @@ use forms::line::Line;
 use kernel::kernel::Kernel;
 
 // Makes the call that a line says, and writes its answer.
-pub fn call(l: Line, f: &mut [f64], w: &mut [u32], out: &mut [u8; 512]) -> usize
+pub fn call(l: Line, floats: &mut [f64], words: &mut [u32], out: &mut [u8; 512]) -> usize
     ensures { λ r. ⌜ r ≤ 256 ⌝ }
-    ensures { λ _. ⌜ now (f .exit) ≡ callOf (now (f .entry)) (now (w .entry)) l .floats ⌝ }
-    ensures { λ _. ⌜ now (w .exit) ≡ callOf (now (f .entry)) (now (w .entry)) l .words ⌝ }
-    ensures { λ r. ⌜ Wrote (now (out .entry)) 0 (callOf (now (f .entry)) (now (w .entry)) l .text) r (now (out .exit)) ⌝ }
+    ensures { λ _. ⌜ now (floats .exit) ≡ callOf (now (floats .entry)) (now (words .entry)) l .floats ⌝ }
+    ensures { λ _. ⌜ now (words .exit) ≡ callOf (now (floats .entry)) (now (words .entry)) l .words ⌝ }
+    ensures { λ r. ⌜ Wrote (now (out .entry)) 0 (callOf (now (floats .entry)) (now (words .entry)) l .text) r (now (out .exit)) ⌝ }
 {
     match l {
         Line::Put {
@@ -28,25 +28,25 @@ pub fn call(l: Line, f: &mut [f64], w: &mut [u32], out: &mut [u8; 512]) -> usize
             y,
             z,
             sigma,
-            w: weight,
+            words: weight,
             alpha,
         } => answer_put(
-            f,
-            w,
+            floats,
+            words,
             place,
             Kernel {
                 c: [x, y, z],
                 sigma,
-                w: weight,
+                words: weight,
                 alpha,
             },
             out,
         ),
-        Line::Clear(place) => answer_clear(f, w, place, out),
-        Line::Reweigh(place, weight) => answer_reweigh(f, w, place, weight, out),
-        Line::Advance(budget) => answer_advance(f, w, budget, out),
-        Line::Density(v, x, y, z) => answer_density(f, w, v, [x, y, z], out),
-        Line::Report(v) => answer_report(f, w, v, out),
+        Line::Clear(place) => answer_clear(floats, words, place, out),
+        Line::Reweigh(place, weight) => answer_reweigh(floats, words, place, weight, out),
+        Line::Advance(budget) => answer_advance(floats, words, budget, out),
+        Line::Density(v, x, y, z) => answer_density(floats, words, v, [x, y, z], out),
+        Line::Report(v) => answer_report(floats, words, v, out),
         _ => answer_no(out, Refusal::BadLine),
     }
 }

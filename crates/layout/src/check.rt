@@ -16,15 +16,15 @@ use mesh::check::FACE_LIMIT;
 use mesh::check::VERTEX_LIMIT;
 
 // Whether both runs are as long as the counts of vertices and faces ask. The counts may be anything up to 2^32 - 1.
-fn long_enough(f: &[f64], w: &[u32]) -> bool
-    ensures { λ r. ⌜ r ≡ longEnough width (now (f .entry)) (now (w .entry)) ⌝ }
+fn long_enough(floats: &[f64], words: &[u32]) -> bool
+    ensures { λ r. ⌜ r ≡ longEnough width (now (floats .entry)) (now (words .entry)) ⌝ }
 {
-    if w.len() < CORNERS {
+    if words.len() < CORNERS {
         return false;
     }
-    let verts = w[0] as usize;
-    let faces = w[1] as usize;
-    (w.len() >= CORNERS + 3 * faces) & (f.len() >= COORDS + 3 * verts)
+    let verts = words[0] as usize;
+    let faces = words[1] as usize;
+    (words.len() >= CORNERS + 3 * faces) & (floats.len() >= COORDS + 3 * verts)
 }
 
 // Whether a place's three words go together.
@@ -49,15 +49,20 @@ fn place_sound(status: u32, finished: u32, done: u32, faces: u32) -> bool
 }
 
 // Whether every place's words go together.
-fn places_sound(w: &[u32]) -> bool
-    requires { ⌜ cornersFrom width ≤ length (now w) ⌝ }
-    ensures { λ r. ⌜ r ≡ every (placeSoundAt width (now (w .entry))) placeLimit ⌝ }
+fn places_sound(words: &[u32]) -> bool
+    requires { ⌜ cornersFrom width ≤ length (now words) ⌝ }
+    ensures { λ r. ⌜ r ≡ every (placeSoundAt width (now (words .entry))) placeLimit ⌝ }
 {
-    let faces = w[1];
+    let faces = words[1];
     let mut i: usize = 0;
     while i < PLACES {
         let at = WIDTH * i;
-        if !place_sound(w[STATE + at], w[STATE + 1 + at], w[STATE + 2 + at], faces) {
+        if !place_sound(
+            words[STATE + at],
+            words[STATE + 1 + at],
+            words[STATE + 2 + at],
+            faces,
+        ) {
             return false;
         }
         i += 1;
@@ -66,17 +71,17 @@ fn places_sound(w: &[u32]) -> bool
 }
 
 // Whether the counts, the places and the corners are sound, in runs that are long enough.
-fn words_sound(w: &[u32]) -> bool
-    requires { ⌜ cornersFrom width + 3 * facesOf (now w) ≤ length (now w) ⌝ }
-    ensures { λ r. ⌜ r ≡ sound width (now (w .entry)) ⌝ }
+fn words_sound(words: &[u32]) -> bool
+    requires { ⌜ cornersFrom width + 3 * facesOf (now words) ≤ length (now words) ⌝ }
+    ensures { λ r. ⌜ r ≡ sound width (now (words .entry)) ⌝ }
 {
-    let verts = w[0];
-    let faces = w[1];
+    let verts = words[0];
+    let faces = words[1];
     let few = (verts <= VERTEX_LIMIT) & (faces <= FACE_LIMIT);
     if few {
-        if places_sound(w) {
+        if places_sound(words) {
             let end = CORNERS + 3 * (faces as usize);
-            mesh::check::all_below(&w[CORNERS..end], verts)
+            mesh::check::all_below(&words[CORNERS..end], verts)
         } else {
             false
         }
@@ -86,11 +91,11 @@ fn words_sound(w: &[u32]) -> bool
 }
 
 // Refusal 4 or 5 of a store.
-pub fn check_store(f: &[f64], w: &[u32]) -> Checked
-    ensures { λ r. ⌜ r ≡ storeCheck width (now (f .entry)) (now (w .entry)) ⌝ }
+pub fn check_store(floats: &[f64], words: &[u32]) -> Checked
+    ensures { λ r. ⌜ r ≡ storeCheck width (now (floats .entry)) (now (words .entry)) ⌝ }
 {
-    if long_enough(f, w) {
-        if words_sound(w) {
+    if long_enough(floats, words) {
+        if words_sound(words) {
             Checked::Passed
         } else {
             Checked::Failed(Refusal::Unsound)
@@ -101,10 +106,10 @@ pub fn check_store(f: &[f64], w: &[u32]) -> Checked
 }
 
 // Refusal 4, 5 or 6 of a call that names a place.
-pub fn check_place(f: &[f64], w: &[u32], place: u32) -> Checked
-    ensures { λ r. ⌜ r ≡ placeCheck width (now (f .entry)) (now (w .entry)) place ⌝ }
+pub fn check_place(floats: &[f64], words: &[u32], place: u32) -> Checked
+    ensures { λ r. ⌜ r ≡ placeCheck width (now (floats .entry)) (now (words .entry)) place ⌝ }
 {
-    match check_store(f, w) {
+    match check_store(floats, words) {
         Checked::Failed(r) => Checked::Failed(r),
         Checked::Passed => if (place as usize) < PLACES {
             Checked::Passed
@@ -115,12 +120,12 @@ pub fn check_place(f: &[f64], w: &[u32], place: u32) -> Checked
 }
 
 // Refusal 4, 5, 6 or 7 of a call that wants the place filled.
-pub fn check_filled(f: &[f64], w: &[u32], place: u32) -> Checked
-    ensures { λ r. ⌜ r ≡ filledCheck width (now (f .entry)) (now (w .entry)) place ⌝ }
+pub fn check_filled(floats: &[f64], words: &[u32], place: u32) -> Checked
+    ensures { λ r. ⌜ r ≡ filledCheck width (now (floats .entry)) (now (words .entry)) place ⌝ }
 {
-    match check_place(f, w, place) {
+    match check_place(floats, words, place) {
         Checked::Failed(r) => Checked::Failed(r),
-        Checked::Passed => if w[STATE + WIDTH * (place as usize)] == 0 {
+        Checked::Passed => if words[STATE + WIDTH * (place as usize)] == 0 {
             Checked::Failed(Refusal::Vacant)
         } else {
             Checked::Passed

@@ -22,14 +22,14 @@ pub fn pieces(status: u32) -> usize
 }
 
 // The steps that place i has left.
-fn left_at(w: &[u32], i: usize, faces: usize) -> usize
-    requires { ⌜ Worded width (now w) faces ⌝ ∗ ⌜ i < placeLimit ⌝ }
-    ensures { λ r. ⌜ (r ≡ leftAt width (now (w .entry)) faces i) × (r ≤ 33554432) ⌝ }
+fn left_at(words: &[u32], i: usize, faces: usize) -> usize
+    requires { ⌜ Worded width (now words) faces ⌝ ∗ ⌜ i < placeLimit ⌝ }
+    ensures { λ r. ⌜ (r ≡ leftAt width (now (words .entry)) faces i) × (r ≤ 33554432) ⌝ }
 {
     let at = WIDTH * i;
-    let count = pieces(w[STATE + at]);
-    let finished = word(w, STATE + 1 + at);
-    let done = word(w, STATE + 2 + at);
+    let count = pieces(words[STATE + at]);
+    let finished = word(words, STATE + 1 + at);
+    let done = word(words, STATE + 2 + at);
     if finished < count {
         (count - finished) * faces - done
     } else {
@@ -38,14 +38,14 @@ fn left_at(w: &[u32], i: usize, faces: usize) -> usize
 }
 
 // The steps that all places have left.
-pub fn left(w: &[u32], faces: usize) -> usize
-    requires { ⌜ Worded width (now w) faces ⌝ }
-    ensures { λ r. ⌜ r ≡ leftOf width (now (w .entry)) faces placeLimit ⌝ }
+pub fn left(words: &[u32], faces: usize) -> usize
+    requires { ⌜ Worded width (now words) faces ⌝ }
+    ensures { λ r. ⌜ r ≡ leftOf width (now (words .entry)) faces placeLimit ⌝ }
 {
     let mut sum: usize = 0;
     let mut i: usize = 0;
     while i < PLACES {
-        sum += left_at(w, i, faces);
+        sum += left_at(words, i, faces);
         i += 1;
     }
     sum

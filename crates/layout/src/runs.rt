@@ -7,59 +7,59 @@ ghost use Rattle.base.specs.Floats.{+0};
 ghost use Rattle.layout.specs.Runs.{write};
 
 // +0 in the n floats from `at`.
-pub fn zero_floats(f: &mut [f64], at: usize, n: usize)
-    requires { ⌜ at + n ≤ length (now f) ⌝ }
-    ensures { λ _. ⌜ now (f .exit) ≡ write (now (f .entry)) at (replicate n +0) ⌝ }
+pub fn zero_floats(floats: &mut [f64], at: usize, n: usize)
+    requires { ⌜ at + n ≤ length (now floats) ⌝ }
+    ensures { λ _. ⌜ now (floats .exit) ≡ write (now (floats .entry)) at (replicate n +0) ⌝ }
 {
     let mut i: usize = 0;
     while i < n {
-        f[at + i] = 0.0;
+        floats[at + i] = 0.0;
         i += 1;
     }
 }
 
 // 0 in the n words from `at`.
-pub fn zero_words(w: &mut [u32], at: usize, n: usize)
-    requires { ⌜ at + n ≤ length (now w) ⌝ }
-    ensures { λ _. ⌜ now (w .exit) ≡ write (now (w .entry)) at (replicate n 0) ⌝ }
+pub fn zero_words(words: &mut [u32], at: usize, n: usize)
+    requires { ⌜ at + n ≤ length (now words) ⌝ }
+    ensures { λ _. ⌜ now (words .exit) ≡ write (now (words .entry)) at (replicate n 0) ⌝ }
 {
     let mut i: usize = 0;
     while i < n {
-        w[at + i] = 0;
+        words[at + i] = 0;
         i += 1;
     }
 }
 
 // All floats of a run, from `at`.
-pub fn copy_floats(f: &mut [f64], at: usize, from: &[f64])
-    requires { ⌜ at + length (now from) ≤ length (now f) ⌝ }
-    ensures { λ _. ⌜ now (f .exit) ≡ write (now (f .entry)) at (now (from .entry)) ⌝ }
+pub fn copy_floats(floats: &mut [f64], at: usize, from: &[f64])
+    requires { ⌜ at + length (now from) ≤ length (now floats) ⌝ }
+    ensures { λ _. ⌜ now (floats .exit) ≡ write (now (floats .entry)) at (now (from .entry)) ⌝ }
 {
     let mut i: usize = 0;
     while i < from.len() {
-        f[at + i] = from[i];
+        floats[at + i] = from[i];
         i += 1;
     }
 }
 
 // All words of a run, from `at`.
-pub fn copy_words(w: &mut [u32], at: usize, from: &[u32])
-    requires { ⌜ at + length (now from) ≤ length (now w) ⌝ }
-    ensures { λ _. ⌜ now (w .exit) ≡ write (now (w .entry)) at (now (from .entry)) ⌝ }
+pub fn copy_words(words: &mut [u32], at: usize, from: &[u32])
+    requires { ⌜ at + length (now from) ≤ length (now words) ⌝ }
+    ensures { λ _. ⌜ now (words .exit) ≡ write (now (words .entry)) at (now (from .entry)) ⌝ }
 {
     let mut i: usize = 0;
     while i < from.len() {
-        w[at + i] = from[i];
+        words[at + i] = from[i];
         i += 1;
     }
 }
 
 // A word, as a number to count with.
-pub fn word(w: &[u32], i: usize) -> usize
-    requires { ⌜ i < length (now w) ⌝ }
-    ensures { λ r. ⌜ r ≡ getD (now (w .entry)) i 0 ⌝ }
+pub fn word(words: &[u32], i: usize) -> usize
+    requires { ⌜ i < length (now words) ⌝ }
+    ensures { λ r. ⌜ r ≡ getD (now (words .entry)) i 0 ⌝ }
 {
-    w[i] as usize
+    words[i] as usize
 }
 
 // a less b, 0 where b is more.

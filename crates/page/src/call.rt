@@ -29,9 +29,9 @@ pub enum PageRead {
 }
 
 // Writes the page of a sound store whose masses can be printed.
-fn write_page(out: &mut [u8], f: &[f64], w: &[u32], faces: usize)
-    requires { ⌜ coordsFrom ≤ length (now f) ⌝ ∗ ⌜ Worded width (now w) faces ⌝ ∗ ⌜ (allPrintable (heldRows width (now f) (now w) placeLimit) ≡ true) × (65 * length (heldRows width (now f) (now w) placeLimit) + 65 ≤ length (now out)) ⌝ }
-    ensures { λ _. ⌜ now (out .exit) ≡ write (now (out .entry)) 0 (pageOf (heldRows width (now (f .entry)) (now (w .entry)) placeLimit)) ⌝ }
+fn write_page(out: &mut [u8], floats: &[f64], words: &[u32], faces: usize)
+    requires { ⌜ coordsFrom ≤ length (now floats) ⌝ ∗ ⌜ Worded width (now words) faces ⌝ ∗ ⌜ (allPrintable (heldRows width (now floats) (now words) placeLimit) ≡ true) × (65 * length (heldRows width (now floats) (now words) placeLimit) + 65 ≤ length (now out)) ⌝ }
+    ensures { λ _. ⌜ now (out .exit) ≡ write (now (out .entry)) 0 (pageOf (heldRows width (now (floats .entry)) (now (words .entry)) placeLimit)) ⌝ }
 {
     let mut s = Sums {
         at: 0,
@@ -40,34 +40,34 @@ fn write_page(out: &mut [u8], f: &[f64], w: &[u32], faces: usize)
     };
     let mut i: usize = 0;
     while i < PLACES {
-        s = place_line(out, f, i, w[STATE + WIDTH * i], s);
+        s = place_line(out, floats, i, words[STATE + WIDTH * i], s);
         i += 1;
     }
     write_total(out, s.at, total(s.plus, s.less));
 }
 
 // Refusal 17 or 18, or the page.
-fn page_of(f: &[f64], w: &[u32], faces: usize, out: &mut [u8]) -> PageRead
-    requires { ⌜ coordsFrom ≤ length (now f) ⌝ ∗ ⌜ Worded width (now w) faces ⌝ }
-    ensures { λ r. ⌜ paged (pageRead r) (now (out .exit)) ≡ pageAnswer (heldRows width (now (f .entry)) (now (w .entry)) placeLimit) (now (out .entry)) ⌝ }
+fn page_of(floats: &[f64], words: &[u32], faces: usize, out: &mut [u8]) -> PageRead
+    requires { ⌜ coordsFrom ≤ length (now floats) ⌝ ∗ ⌜ Worded width (now words) faces ⌝ }
+    ensures { λ r. ⌜ paged (pageRead r) (now (out .exit)) ≡ pageAnswer (heldRows width (now (floats .entry)) (now (words .entry)) placeLimit) (now (out .entry)) ⌝ }
 {
-    if !all_printable(f, w, faces) {
+    if !all_printable(floats, words, faces) {
         return PageRead::Refused(Refusal::NoFigure);
     }
-    let need = 65 * count_filled(w, faces) + 65;
+    let need = 65 * count_filled(words, faces) + 65;
     if need > out.len() {
         return PageRead::Refused(Refusal::ShortPage);
     }
-    write_page(out, f, w, faces);
+    write_page(out, floats, words, faces);
     PageRead::Bytes(need as u64)
 }
 
 // Writes the page of a store whose work is done into lent bytes.
-pub fn page(f: &[f64], w: &[u32], out: &mut [u8]) -> PageRead
-    ensures { λ r. ⌜ paged (pageRead r) (now (out .exit)) ≡ pageStep width (now (f .entry)) (now (w .entry)) (now (out .entry)) ⌝ }
+pub fn page(floats: &[f64], words: &[u32], out: &mut [u8]) -> PageRead
+    ensures { λ r. ⌜ paged (pageRead r) (now (out .exit)) ≡ pageStep width (now (floats .entry)) (now (words .entry)) (now (out .entry)) ⌝ }
 {
-    match check_read(f, w, true) {
+    match check_read(floats, words, true) {
         Checked::Failed(r) => PageRead::Refused(r),
-        Checked::Passed => page_of(f, w, word(w, 1), out),
+        Checked::Passed => page_of(floats, words, word(words, 1), out),
     }
 }

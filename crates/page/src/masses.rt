@@ -21,25 +21,25 @@ use whole::rounding::Whole;
 use whole::rounding::rounded;
 
 // Whether place i is empty or its mass can be printed.
-fn place_printable(f: &[f64], i: usize, status: u32) -> bool
-    requires { ⌜ (coordsFrom ≤ length (now f)) × (i < placeLimit) × (status - 1 ≤ pieceLimit) ⌝ }
-    ensures { λ r. ⌜ r ≡ allPrintable (rowAt (now (f .entry)) i status) ⌝ }
+fn place_printable(floats: &[f64], i: usize, status: u32) -> bool
+    requires { ⌜ (coordsFrom ≤ length (now floats)) × (i < placeLimit) × (status - 1 ≤ pieceLimit) ⌝ }
+    ensures { λ r. ⌜ r ≡ allPrintable (rowAt (now (floats .entry)) i status) ⌝ }
 {
     if status == 0 {
         return true;
     }
-    abs(place_mass(f, i, pieces(status), 0.0)) <= 1e15
+    abs(place_mass(floats, i, pieces(status), 0.0)) <= 1e15
 }
 
 // Whether the masses of all filled places can be printed.
-pub fn all_printable(f: &[f64], w: &[u32], faces: usize) -> bool
-    requires { ⌜ coordsFrom ≤ length (now f) ⌝ ∗ ⌜ Worded width (now w) faces ⌝ }
-    ensures { λ r. ⌜ r ≡ allPrintable (heldRows width (now (f .entry)) (now (w .entry)) placeLimit) ⌝ }
+pub fn all_printable(floats: &[f64], words: &[u32], faces: usize) -> bool
+    requires { ⌜ coordsFrom ≤ length (now floats) ⌝ ∗ ⌜ Worded width (now words) faces ⌝ }
+    ensures { λ r. ⌜ r ≡ allPrintable (heldRows width (now (floats .entry)) (now (words .entry)) placeLimit) ⌝ }
 {
     let mut good = true;
     let mut i: usize = 0;
     while i < PLACES {
-        good = good & place_printable(f, i, w[STATE + WIDTH * i]);
+        good = good & place_printable(floats, i, words[STATE + WIDTH * i]);
         i += 1;
     }
     good
@@ -90,16 +90,16 @@ pub fn total(plus: u64, less: u64) -> Whole
 }
 
 // The line of place i, if it is filled.
-pub fn place_line(out: &mut [u8], f: &[f64], i: usize, status: u32, s: Sums) -> Sums
-    requires { ⌜ (coordsFrom ≤ length (now f)) × (i < placeLimit) × (status - 1 ≤ pieceLimit) ⌝ ∗ ⌜ allPrintable (rowAt (now f) i status) ≡ true ⌝ ∗ ⌜ (s .at + 65 * length (rowAt (now f) i status) ≤ length (now out)) × (s .plus ≤ 31000000000000000) × (s .less ≤ 31000000000000000) ⌝ }
-    ensures { λ r. ⌜ (r .at ≡ s .at + 65 * length (rowAt (now (f .entry)) i status)) × Wrote (now (out .entry)) (s .at) (linesOf (rowAt (now (f .entry)) i status)) (r .at) (now (out .exit)) ⌝ }
-    ensures { λ r. ⌜ (pos (r .plus) -ℤ pos (r .less) ≡ (pos (s .plus) -ℤ pos (s .less)) +ℤ totalOf (rowAt (now (f .entry)) i status)) × (r .plus ≤ s .plus + 1000000000000000) × (r .less ≤ s .less + 1000000000000000) ⌝ }
+pub fn place_line(out: &mut [u8], floats: &[f64], i: usize, status: u32, s: Sums) -> Sums
+    requires { ⌜ (coordsFrom ≤ length (now floats)) × (i < placeLimit) × (status - 1 ≤ pieceLimit) ⌝ ∗ ⌜ allPrintable (rowAt (now floats) i status) ≡ true ⌝ ∗ ⌜ (s .at + 65 * length (rowAt (now floats) i status) ≤ length (now out)) × (s .plus ≤ 31000000000000000) × (s .less ≤ 31000000000000000) ⌝ }
+    ensures { λ r. ⌜ (r .at ≡ s .at + 65 * length (rowAt (now (floats .entry)) i status)) × Wrote (now (out .entry)) (s .at) (linesOf (rowAt (now (floats .entry)) i status)) (r .at) (now (out .exit)) ⌝ }
+    ensures { λ r. ⌜ (pos (r .plus) -ℤ pos (r .less) ≡ (pos (s .plus) -ℤ pos (s .less)) +ℤ totalOf (rowAt (now (floats .entry)) i status)) × (r .plus ≤ s .plus + 1000000000000000) × (r .less ≤ s .less + 1000000000000000) ⌝ }
 {
     if status == 0 {
         return s;
     }
     let count = pieces(status);
-    let v = rounded(place_mass(f, i, count, 0.0));
+    let v = rounded(place_mass(floats, i, count, 0.0));
     let at = write_line(out, s.at, i as u64, count as u64, v);
     add(s, at, v)
 }

@@ -45,20 +45,20 @@ fn line_in(line: &[u8], count: usize) -> Line
 fn end_line(
     st: State,
     line: &[u8; 256],
-    f: &mut [f64],
-    w: &mut [u32],
+    floats: &mut [f64],
+    words: &mut [u32],
     coords: &mut [f64; 1500],
     corners: &mut [u32; 3000],
     out: &mut [u8; 512],
 ) -> State
     requires { ⌜ Small (st .opening) ⌝ }
     ensures { λ r. ⌜ Small (r .opening) × (r .wrote ≤ 256) ⌝ }
-    ensures { λ r. ⌜ held (session (r .opening) (now (f .exit)) (now (w .exit)) (now (coords .exit)) (now (corners .exit))) (now (line .entry)) (r .count) ≡ endLine (held (session (st .opening) (now (f .entry)) (now (w .entry)) (now (coords .entry)) (now (corners .entry))) (now (line .entry)) (st .count)) .next ⌝ }
-    ensures { λ r. ⌜ Wrote (now (out .entry)) 0 (endLine (held (session (st .opening) (now (f .entry)) (now (w .entry)) (now (coords .entry)) (now (corners .entry))) (now (line .entry)) (st .count)) .text) (r .wrote) (now (out .exit)) ⌝ }
+    ensures { λ r. ⌜ held (session (r .opening) (now (floats .exit)) (now (words .exit)) (now (coords .exit)) (now (corners .exit))) (now (line .entry)) (r .count) ≡ endLine (held (session (st .opening) (now (floats .entry)) (now (words .entry)) (now (coords .entry)) (now (corners .entry))) (now (line .entry)) (st .count)) .next ⌝ }
+    ensures { λ r. ⌜ Wrote (now (out .entry)) 0 (endLine (held (session (st .opening) (now (floats .entry)) (now (words .entry)) (now (coords .entry)) (now (corners .entry))) (now (line .entry)) (st .count)) .text) (r .wrote) (now (out .exit)) ⌝ }
 {
     let l = line_in(line, st.count);
     let o = st.opening;
-    let s = respond(o, l, f, w, coords, corners, out);
+    let s = respond(o, l, floats, words, coords, corners, out);
     let p = s.opening;
     State {
         opening: p,
@@ -94,19 +94,19 @@ pub fn feed(
     st: State,
     b: u8,
     line: &mut [u8; 256],
-    f: &mut [f64],
-    w: &mut [u32],
+    floats: &mut [f64],
+    words: &mut [u32],
     coords: &mut [f64; 1500],
     corners: &mut [u32; 3000],
     out: &mut [u8; 512],
 ) -> State
     requires { ⌜ Small (st .opening) ⌝ }
     ensures { λ r. ⌜ Small (r .opening) × (r .wrote ≤ 256) ⌝ }
-    ensures { λ r. ⌜ held (session (r .opening) (now (f .exit)) (now (w .exit)) (now (coords .exit)) (now (corners .exit))) (now (line .exit)) (r .count) ≡ feedByte (held (session (st .opening) (now (f .entry)) (now (w .entry)) (now (coords .entry)) (now (corners .entry))) (now (line .entry)) (st .count)) b .next ⌝ }
-    ensures { λ r. ⌜ Wrote (now (out .entry)) 0 (feedByte (held (session (st .opening) (now (f .entry)) (now (w .entry)) (now (coords .entry)) (now (corners .entry))) (now (line .entry)) (st .count)) b .text) (r .wrote) (now (out .exit)) ⌝ }
+    ensures { λ r. ⌜ held (session (r .opening) (now (floats .exit)) (now (words .exit)) (now (coords .exit)) (now (corners .exit))) (now (line .exit)) (r .count) ≡ feedByte (held (session (st .opening) (now (floats .entry)) (now (words .entry)) (now (coords .entry)) (now (corners .entry))) (now (line .entry)) (st .count)) b .next ⌝ }
+    ensures { λ r. ⌜ Wrote (now (out .entry)) 0 (feedByte (held (session (st .opening) (now (floats .entry)) (now (words .entry)) (now (coords .entry)) (now (corners .entry))) (now (line .entry)) (st .count)) b .text) (r .wrote) (now (out .exit)) ⌝ }
 {
     if b == 10 {
-        return end_line(st, line, f, w, coords, corners, out);
+        return end_line(st, line, floats, words, coords, corners, out);
     }
     keep(st, b, line)
 }
@@ -115,16 +115,16 @@ pub fn feed(
 pub fn end(
     st: State,
     line: &[u8; 256],
-    f: &mut [f64],
-    w: &mut [u32],
+    floats: &mut [f64],
+    words: &mut [u32],
     coords: &mut [f64; 1500],
     corners: &mut [u32; 3000],
     out: &mut [u8; 512],
 ) -> State
     requires { ⌜ Small (st .opening) ⌝ }
     ensures { λ r. ⌜ Small (r .opening) × (r .wrote ≤ 256) ⌝ }
-    ensures { λ r. ⌜ held (session (r .opening) (now (f .exit)) (now (w .exit)) (now (coords .exit)) (now (corners .exit))) (now (line .entry)) (r .count) ≡ feedEnd (held (session (st .opening) (now (f .entry)) (now (w .entry)) (now (coords .entry)) (now (corners .entry))) (now (line .entry)) (st .count)) .next ⌝ }
-    ensures { λ r. ⌜ Wrote (now (out .entry)) 0 (feedEnd (held (session (st .opening) (now (f .entry)) (now (w .entry)) (now (coords .entry)) (now (corners .entry))) (now (line .entry)) (st .count)) .text) (r .wrote) (now (out .exit)) ⌝ }
+    ensures { λ r. ⌜ held (session (r .opening) (now (floats .exit)) (now (words .exit)) (now (coords .exit)) (now (corners .exit))) (now (line .entry)) (r .count) ≡ feedEnd (held (session (st .opening) (now (floats .entry)) (now (words .entry)) (now (coords .entry)) (now (corners .entry))) (now (line .entry)) (st .count)) .next ⌝ }
+    ensures { λ r. ⌜ Wrote (now (out .entry)) 0 (feedEnd (held (session (st .opening) (now (floats .entry)) (now (words .entry)) (now (coords .entry)) (now (corners .entry))) (now (line .entry)) (st .count)) .text) (r .wrote) (now (out .exit)) ⌝ }
 {
     if st.count == 0 {
         let opening = st.opening;
@@ -134,5 +134,5 @@ pub fn end(
             wrote: 0,
         };
     }
-    end_line(st, line, f, w, coords, corners, out)
+    end_line(st, line, floats, words, coords, corners, out)
 }

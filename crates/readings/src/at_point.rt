@@ -38,13 +38,13 @@ pub fn by_mass(v: Convention) -> bool
 }
 
 // Refusal 4, 5 or 8 of a reading that needs the work done, or not.
-pub fn check_read(f: &[f64], w: &[u32], needs: bool) -> Checked
-    ensures { λ r. ⌜ r ≡ readCheck width (now (f .entry)) (now (w .entry)) needs ⌝ }
+pub fn check_read(floats: &[f64], words: &[u32], needs: bool) -> Checked
+    ensures { λ r. ⌜ r ≡ readCheck width (now (floats .entry)) (now (words .entry)) needs ⌝ }
 {
-    match check_store(f, w) {
+    match check_store(floats, words) {
         Checked::Failed(r) => Checked::Failed(r),
         Checked::Passed => {
-            let total = left(w, word(w, 1));
+            let total = left(words, word(words, 1));
             let early = needs & (0 < total);
             if early {
                 Checked::Failed(Refusal::Unfinished)
@@ -56,51 +56,54 @@ pub fn check_read(f: &[f64], w: &[u32], needs: bool) -> Checked
 }
 
 // The scale by rho0, which looks at no volume.
-fn scale_by_rho0(bulk: f64, f: &[f64], w: &[u32], faces: usize) -> f64
-    requires { ⌜ coordsFrom ≤ length (now f) ⌝ ∗ ⌜ Worded width (now w) faces ⌝ }
-    ensures { λ r. ⌜ r ≡ applied (Rho0 bulk) (heldAll width (now (f .entry)) (now (w .entry)) placeLimit) ⌝ }
+fn scale_by_rho0(bulk: f64, floats: &[f64], words: &[u32], faces: usize) -> f64
+    requires { ⌜ coordsFrom ≤ length (now floats) ⌝ ∗ ⌜ Worded width (now words) faces ⌝ }
+    ensures { λ r. ⌜ r ≡ applied (Rho0 bulk) (heldAll width (now (floats .entry)) (now (words .entry)) placeLimit) ⌝ }
 {
-    rho0_scale(bulk_of(Convention::Rho0(bulk)), origin_density(f, w, faces))
+    rho0_scale(
+        bulk_of(Convention::Rho0(bulk)),
+        origin_density(floats, words, faces),
+    )
 }
 
 // The scale by mass. The density at the origin is summed only where there is no mass to scale.
-fn scale_by_mass(target: f64, bulk: f64, f: &[f64], w: &[u32], faces: usize) -> f64
-    requires { ⌜ coordsFrom ≤ length (now f) ⌝ ∗ ⌜ Worded width (now w) faces ⌝ }
-    ensures { λ r. ⌜ r ≡ applied (Mass target bulk) (heldAll width (now (f .entry)) (now (w .entry)) placeLimit) ⌝ }
+fn scale_by_mass(target: f64, bulk: f64, floats: &[f64], words: &[u32], faces: usize) -> f64
+    requires { ⌜ coordsFrom ≤ length (now floats) ⌝ ∗ ⌜ Worded width (now words) faces ⌝ }
+    ensures { λ r. ⌜ r ≡ applied (Mass target bulk) (heldAll width (now (floats .entry)) (now (words .entry)) placeLimit) ⌝ }
 {
     let aim = target_of(Convention::Mass(target, bulk));
-    let mass = raw_mass(f, w, faces);
+    let mass = raw_mass(floats, words, faces);
     if scalable(aim, mass) {
         return aim / mass;
     }
     rho0_scale(
         bulk_of(Convention::Mass(target, bulk)),
-        origin_density(f, w, faces),
+        origin_density(floats, words, faces),
     )
 }
 
 // The scale that a convention puts on every weight.
-pub fn scale_of(v: Convention, f: &[f64], w: &[u32], faces: usize) -> f64
-    requires { ⌜ coordsFrom ≤ length (now f) ⌝ ∗ ⌜ Worded width (now w) faces ⌝ }
-    ensures { λ r. ⌜ r ≡ applied v (heldAll width (now (f .entry)) (now (w .entry)) placeLimit) ⌝ }
+pub fn scale_of(v: Convention, floats: &[f64], words: &[u32], faces: usize) -> f64
+    requires { ⌜ coordsFrom ≤ length (now floats) ⌝ ∗ ⌜ Worded width (now words) faces ⌝ }
+    ensures { λ r. ⌜ r ≡ applied v (heldAll width (now (floats .entry)) (now (words .entry)) placeLimit) ⌝ }
 {
     match v {
         Convention::Raw => 1.0,
-        Convention::Rho0(bulk) => scale_by_rho0(bulk, f, w, faces),
-        Convention::Mass(target, bulk) => scale_by_mass(target, bulk, f, w, faces),
+        Convention::Rho0(bulk) => scale_by_rho0(bulk, floats, words, faces),
+        Convention::Mass(target, bulk) => scale_by_mass(target, bulk, floats, words, faces),
     }
 }
 
 // The density at a point, under a convention.
-pub fn density(f: &[f64], w: &[u32], v: Convention, point: [f64; 3]) -> Measured
-    ensures { λ r. ⌜ outcome (measuredAs r) [] ≡ readStep width (now (f .entry)) (now (w .entry)) (Readings.density v point) ⌝ }
+pub fn density(floats: &[f64], words: &[u32], v: Convention, point: [f64; 3]) -> Measured
+    ensures { λ r. ⌜ outcome (measuredAs r) [] ≡ readStep width (now (floats .entry)) (now (words .entry)) (Readings.density v point) ⌝ }
 {
-    match check_read(f, w, by_mass(v)) {
+    match check_read(floats, words, by_mass(v)) {
         Checked::Failed(r) => Measured::Refused(r),
         Checked::Passed => {
-            let faces = word(w, 1);
-            let s = scale_of(v, f, w, faces);
-            Measured::Value(density_sum(f, w, faces, s, point))
+            let faces = word(words, 1);
+            let s = scale_of(v, floats, words, faces);
+            Measured::Value(density_sum(floats, words, faces, s, point))
         }
     }
 }

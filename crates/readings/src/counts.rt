@@ -19,14 +19,14 @@ use layout::offsets::STATE;
 use layout::offsets::WIDTH;
 
 // The pieces of all places.
-pub fn count_pieces(w: &[u32], faces: usize) -> usize
-    requires { ⌜ Worded width (now w) faces ⌝ }
-    ensures { λ r. ⌜ (r ≡ pieceCount width (now (w .entry)) placeLimit) × (r ≤ 512) ⌝ }
+pub fn count_pieces(words: &[u32], faces: usize) -> usize
+    requires { ⌜ Worded width (now words) faces ⌝ }
+    ensures { λ r. ⌜ (r ≡ pieceCount width (now (words .entry)) placeLimit) × (r ≤ 512) ⌝ }
 {
     let mut sum: usize = 0;
     let mut i: usize = 0;
     while i < PLACES {
-        sum += pieces(w[STATE + WIDTH * i]);
+        sum += pieces(words[STATE + WIDTH * i]);
         i += 1;
     }
     sum
@@ -40,14 +40,14 @@ fn filled_one(status: u32) -> usize
 }
 
 // The filled places.
-pub fn count_filled(w: &[u32], faces: usize) -> usize
-    requires { ⌜ Worded width (now w) faces ⌝ }
-    ensures { λ r. ⌜ (r ≡ heldFilled width (now (w .entry)) placeLimit) × (r ≤ 32) ⌝ }
+pub fn count_filled(words: &[u32], faces: usize) -> usize
+    requires { ⌜ Worded width (now words) faces ⌝ }
+    ensures { λ r. ⌜ (r ≡ heldFilled width (now (words .entry)) placeLimit) × (r ≤ 32) ⌝ }
 {
     let mut sum: usize = 0;
     let mut i: usize = 0;
     while i < PLACES {
-        sum += filled_one(w[STATE + WIDTH * i]);
+        sum += filled_one(words[STATE + WIDTH * i]);
         i += 1;
     }
     sum
@@ -64,14 +64,18 @@ fn worse(status: u32, a: f64, b: f64) -> f64
 }
 
 // The greatest error of the filled places, +0 with none.
-pub fn worst_error(f: &[f64], w: &[u32], faces: usize) -> f64
-    requires { ⌜ coordsFrom ≤ length (now f) ⌝ ∗ ⌜ Worded width (now w) faces ⌝ }
-    ensures { λ r. ⌜ r ≡ heldWorst width (now (f .entry)) (now (w .entry)) placeLimit ⌝ }
+pub fn worst_error(floats: &[f64], words: &[u32], faces: usize) -> f64
+    requires { ⌜ coordsFrom ≤ length (now floats) ⌝ ∗ ⌜ Worded width (now words) faces ⌝ }
+    ensures { λ r. ⌜ r ≡ heldWorst width (now (floats .entry)) (now (words .entry)) placeLimit ⌝ }
 {
     let mut e = 0.0;
     let mut i: usize = 0;
     while i < PLACES {
-        e = worse(w[STATE + WIDTH * i], e, f[KERNEL + 6 + KERNEL_SIZE * i]);
+        e = worse(
+            words[STATE + WIDTH * i],
+            e,
+            floats[KERNEL + 6 + KERNEL_SIZE * i],
+        );
         i += 1;
     }
     e

@@ -15,36 +15,40 @@ use layout::offsets::PIECES_SIZE;
 use pieces::pieces::piece_alpha;
 
 // Piece j of place i, with the weight w.
-fn piece_of_weight(f: &[f64], i: usize, j: usize, w: f64) -> Kernel
-    requires { ⌜ (coordsFrom ≤ length (now f)) × (i < placeLimit) × (j < pieceLimit) ⌝ }
-    ensures { λ r. ⌜ r ≡ record { c = centreOf (now (f .entry)) i; sigma = getD (now (f .entry)) (pieceFrom i j) nan; w = w; alpha = pieceAlpha (alphaOf (now (f .entry)) i) } ⌝ }
+fn piece_of_weight(floats: &[f64], i: usize, j: usize, w: f64) -> Kernel
+    requires { ⌜ (coordsFrom ≤ length (now floats)) × (i < placeLimit) × (j < pieceLimit) ⌝ }
+    ensures { λ r. ⌜ r ≡ record { c = centreOf (now (floats .entry)) i; sigma = getD (now (floats .entry)) (pieceFrom i j) nan; w = w; alpha = pieceAlpha (alphaOf (now (floats .entry)) i) } ⌝ }
 {
     let at = KERNEL_SIZE * i;
-    let alpha = piece_alpha(f[KERNEL + 5 + at]);
+    let alpha = piece_alpha(floats[KERNEL + 5 + at]);
     Kernel {
-        c: [f[KERNEL + at], f[KERNEL + 1 + at], f[KERNEL + 2 + at]],
-        sigma: f[PIECE + PIECES_SIZE * i + 3 * j],
+        c: [
+            floats[KERNEL + at],
+            floats[KERNEL + 1 + at],
+            floats[KERNEL + 2 + at],
+        ],
+        sigma: floats[PIECE + PIECES_SIZE * i + 3 * j],
         w,
         alpha,
     }
 }
 
 // Piece j of place i.
-pub fn piece_at(f: &[f64], i: usize, j: usize) -> Kernel
-    requires { ⌜ (coordsFrom ≤ length (now f)) × (i < placeLimit) × (j < pieceLimit) ⌝ }
-    ensures { λ r. ⌜ r ≡ bare (heldPart (now (f .entry)) i j) ⌝ }
+pub fn piece_at(floats: &[f64], i: usize, j: usize) -> Kernel
+    requires { ⌜ (coordsFrom ≤ length (now floats)) × (i < placeLimit) × (j < pieceLimit) ⌝ }
+    ensures { λ r. ⌜ r ≡ bare (heldPart (now (floats .entry)) i j) ⌝ }
 {
-    let weight = f[KERNEL + 4 + KERNEL_SIZE * i];
-    let coefficient = f[PIECE + PIECES_SIZE * i + 3 * j + 1];
-    piece_of_weight(f, i, j, weight * coefficient)
+    let weight = floats[KERNEL + 4 + KERNEL_SIZE * i];
+    let coefficient = floats[PIECE + PIECES_SIZE * i + 3 * j + 1];
+    piece_of_weight(floats, i, j, weight * coefficient)
 }
 
 // Piece j of place i, its weight rescaled.
-pub fn rescaled_at(f: &[f64], i: usize, j: usize, s: f64) -> Kernel
-    requires { ⌜ (coordsFrom ≤ length (now f)) × (i < placeLimit) × (j < pieceLimit) ⌝ }
-    ensures { λ r. ⌜ r ≡ rescaled s (bare (heldPart (now (f .entry)) i j)) ⌝ }
+pub fn rescaled_at(floats: &[f64], i: usize, j: usize, s: f64) -> Kernel
+    requires { ⌜ (coordsFrom ≤ length (now floats)) × (i < placeLimit) × (j < pieceLimit) ⌝ }
+    ensures { λ r. ⌜ r ≡ rescaled s (bare (heldPart (now (floats .entry)) i j)) ⌝ }
 {
-    let weight = f[KERNEL + 4 + KERNEL_SIZE * i];
-    let coefficient = f[PIECE + PIECES_SIZE * i + 3 * j + 1];
-    piece_of_weight(f, i, j, weight * coefficient * s)
+    let weight = floats[KERNEL + 4 + KERNEL_SIZE * i];
+    let coefficient = floats[PIECE + PIECES_SIZE * i + 3 * j + 1];
+    piece_of_weight(floats, i, j, weight * coefficient * s)
 }

@@ -26,14 +26,20 @@ pub enum ListRead {
 }
 
 // Writes the pieces of a sound store, if the run has room for them.
-fn list_pieces(v: Convention, f: &[f64], w: &[u32], faces: usize, out: &mut [f64]) -> ListRead
-    requires { ⌜ coordsFrom ≤ length (now f) ⌝ ∗ ⌜ Worded width (now w) faces ⌝ }
-    ensures { λ r. ⌜ outcome (listRead r) (now (out .exit)) ≡ Readings.listing (applied v (heldAll width (now (f .entry)) (now (w .entry)) placeLimit)) (map bare (heldAll width (now (f .entry)) (now (w .entry)) placeLimit)) (now (out .entry)) ⌝ }
+fn list_pieces(
+    v: Convention,
+    floats: &[f64],
+    words: &[u32],
+    faces: usize,
+    out: &mut [f64],
+) -> ListRead
+    requires { ⌜ coordsFrom ≤ length (now floats) ⌝ ∗ ⌜ Worded width (now words) faces ⌝ }
+    ensures { λ r. ⌜ outcome (listRead r) (now (out .exit)) ≡ Readings.listing (applied v (heldAll width (now (floats .entry)) (now (words .entry)) placeLimit)) (map bare (heldAll width (now (floats .entry)) (now (words .entry)) placeLimit)) (now (out .entry)) ⌝ }
 {
-    let count = count_pieces(w, faces);
+    let count = count_pieces(words, faces);
     if 6 * count <= out.len() {
-        let s = scale_of(v, f, w, faces);
-        write_list(out, f, w, faces, s);
+        let s = scale_of(v, floats, words, faces);
+        write_list(out, floats, words, faces, s);
         ListRead::Pieces(count as u32)
     } else {
         ListRead::Refused(Refusal::ShortList)
@@ -41,11 +47,11 @@ fn list_pieces(v: Convention, f: &[f64], w: &[u32], faces: usize, out: &mut [f64
 }
 
 // Writes the pieces into a lent run, six floats each, under a convention.
-pub fn list(f: &[f64], w: &[u32], v: Convention, out: &mut [f64]) -> ListRead
-    ensures { λ r. ⌜ outcome (listRead r) (now (out .exit)) ≡ readStep width (now (f .entry)) (now (w .entry)) (Readings.list v (now (out .entry))) ⌝ }
+pub fn list(floats: &[f64], words: &[u32], v: Convention, out: &mut [f64]) -> ListRead
+    ensures { λ r. ⌜ outcome (listRead r) (now (out .exit)) ≡ readStep width (now (floats .entry)) (now (words .entry)) (Readings.list v (now (out .entry))) ⌝ }
 {
-    match check_read(f, w, by_mass(v)) {
+    match check_read(floats, words, by_mass(v)) {
         Checked::Failed(r) => ListRead::Refused(r),
-        Checked::Passed => list_pieces(v, f, w, word(w, 1), out),
+        Checked::Passed => list_pieces(v, floats, words, word(words, 1), out),
     }
 }

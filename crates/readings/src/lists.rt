@@ -31,28 +31,28 @@ fn write_six(out: &mut [f64], at: usize, k: Kernel)
 }
 
 // The first `count` pieces of place i, by a scale.
-fn place_list(out: &mut [f64], at: usize, f: &[f64], i: usize, count: usize, s: f64)
-    requires { ⌜ (coordsFrom ≤ length (now f)) × (i < placeLimit) × (count ≤ pieceLimit) × (at + 6 * count ≤ length (now out)) ⌝ }
-    ensures { λ _. ⌜ now (out .exit) ≡ write (now (out .entry)) at (rows s (heldAt (now (f .entry)) i count)) ⌝ }
+fn place_list(out: &mut [f64], at: usize, floats: &[f64], i: usize, count: usize, s: f64)
+    requires { ⌜ (coordsFrom ≤ length (now floats)) × (i < placeLimit) × (count ≤ pieceLimit) × (at + 6 * count ≤ length (now out)) ⌝ }
+    ensures { λ _. ⌜ now (out .exit) ≡ write (now (out .entry)) at (rows s (heldAt (now (floats .entry)) i count)) ⌝ }
 {
     let mut j: usize = 0;
     while j < count {
-        let k = rescaled_at(f, i, j, s);
+        let k = rescaled_at(floats, i, j, s);
         write_six(out, at + 6 * j, k);
         j += 1;
     }
 }
 
 // The pieces of all places, by a scale.
-pub fn write_list(out: &mut [f64], f: &[f64], w: &[u32], faces: usize, s: f64)
-    requires { ⌜ coordsFrom ≤ length (now f) ⌝ ∗ ⌜ Worded width (now w) faces ⌝ ∗ ⌜ 6 * pieceCount width (now w) placeLimit ≤ length (now out) ⌝ }
-    ensures { λ _. ⌜ now (out .exit) ≡ write (now (out .entry)) 0 (rows s (heldAll width (now (f .entry)) (now (w .entry)) placeLimit)) ⌝ }
+pub fn write_list(out: &mut [f64], floats: &[f64], words: &[u32], faces: usize, s: f64)
+    requires { ⌜ coordsFrom ≤ length (now floats) ⌝ ∗ ⌜ Worded width (now words) faces ⌝ ∗ ⌜ 6 * pieceCount width (now words) placeLimit ≤ length (now out) ⌝ }
+    ensures { λ _. ⌜ now (out .exit) ≡ write (now (out .entry)) 0 (rows s (heldAll width (now (floats .entry)) (now (words .entry)) placeLimit)) ⌝ }
 {
     let mut at: usize = 0;
     let mut i: usize = 0;
     while i < PLACES {
-        let count = pieces(w[STATE + WIDTH * i]);
-        place_list(out, at, f, i, count, s);
+        let count = pieces(words[STATE + WIDTH * i]);
+        place_list(out, at, floats, i, count, s);
         at += 6 * count;
         i += 1;
     }

@@ -39,9 +39,9 @@ pub enum Reported {
 }
 
 // The volume of the mesh that a store holds.
-fn body_of(f: &[f64], w: &[u32], verts: usize, faces: usize) -> f64
-    requires { ⌜ Meshed width (now f) (now w) verts faces ⌝ }
-    ensures { λ r. ⌜ r ≡ bodyVolume (held width (now (f .entry)) (now (w .entry)) verts faces) faces ⌝ }
+fn body_of(floats: &[f64], words: &[u32], verts: usize, faces: usize) -> f64
+    requires { ⌜ Meshed width (now floats) (now words) verts faces ⌝ }
+    ensures { λ r. ⌜ r ≡ bodyVolume (held width (now (floats .entry)) (now (words .entry)) verts faces) faces ⌝ }
 {
     let coords_end = COORDS + 3 * verts;
     let corners_end = CORNERS + 3 * faces;
@@ -52,8 +52,8 @@ fn body_of(f: &[f64], w: &[u32], verts: usize, faces: usize) -> f64
     };
     volume_from(
         0.0,
-        &f[COORDS..coords_end],
-        &w[CORNERS..corners_end],
+        &floats[COORDS..coords_end],
+        &words[CORNERS..corners_end],
         o,
         0.0,
         0,
@@ -62,27 +62,33 @@ fn body_of(f: &[f64], w: &[u32], verts: usize, faces: usize) -> f64
 }
 
 // The masses of a sound store.
-fn mass_report(v: Convention, f: &[f64], w: &[u32], verts: usize, faces: usize) -> MassReport
-    requires { ⌜ Meshed width (now f) (now w) verts faces ⌝ ∗ ⌜ Worded width (now w) faces ⌝ }
-    ensures { λ r. ⌜ r ≡ reportOf v (rawMass (heldAll width (now (f .entry)) (now (w .entry)) placeLimit)) (densityAt (map bare (heldAll width (now (f .entry)) (now (w .entry)) placeLimit)) origin) (bodyVolume (held width (now (f .entry)) (now (w .entry)) verts faces) faces) ⌝ }
+fn mass_report(
+    v: Convention,
+    floats: &[f64],
+    words: &[u32],
+    verts: usize,
+    faces: usize,
+) -> MassReport
+    requires { ⌜ Meshed width (now floats) (now words) verts faces ⌝ ∗ ⌜ Worded width (now words) faces ⌝ }
+    ensures { λ r. ⌜ r ≡ reportOf v (rawMass (heldAll width (now (floats .entry)) (now (words .entry)) placeLimit)) (densityAt (map bare (heldAll width (now (floats .entry)) (now (words .entry)) placeLimit)) origin) (bodyVolume (held width (now (floats .entry)) (now (words .entry)) verts faces) faces) ⌝ }
 {
-    let mass = raw_mass(f, w, faces);
-    let rho0 = origin_density(f, w, faces);
-    report_of(v, mass, rho0, body_of(f, w, verts, faces))
+    let mass = raw_mass(floats, words, faces);
+    let rho0 = origin_density(floats, words, faces);
+    report_of(v, mass, rho0, body_of(floats, words, verts, faces))
 }
 
 // The masses of a store with no work left, under a convention.
-pub fn report(f: &[f64], w: &[u32], v: Convention) -> Reported
-    ensures { λ r. ⌜ outcome (reportRead r) [] ≡ readStep width (now (f .entry)) (now (w .entry)) (Readings.report v) ⌝ }
+pub fn report(floats: &[f64], words: &[u32], v: Convention) -> Reported
+    ensures { λ r. ⌜ outcome (reportRead r) [] ≡ readStep width (now (floats .entry)) (now (words .entry)) (Readings.report v) ⌝ }
 {
-    match check_read(f, w, true) {
+    match check_read(floats, words, true) {
         Checked::Failed(r) => Reported::Refused(r),
         Checked::Passed => {
-            let faces = word(w, 1);
-            let mass = mass_report(v, f, w, word(w, 0), faces);
-            let filled = count_filled(w, faces) as u32;
-            let pieces = count_pieces(w, faces) as u32;
-            let error = worst_error(f, w, faces);
+            let faces = word(words, 1);
+            let mass = mass_report(v, floats, words, word(words, 0), faces);
+            let filled = count_filled(words, faces) as u32;
+            let pieces = count_pieces(words, faces) as u32;
+            let error = worst_error(floats, words, faces);
             Reported::Report {
                 mass,
                 filled,

@@ -19,85 +19,85 @@ use layout::offsets::STATE;
 use layout::offsets::WIDTH;
 
 // The density at x with the first `count` pieces of place i added, by a scale.
-fn place_density(f: &[f64], i: usize, count: usize, s: f64, x: [f64; 3], start: f64) -> f64
-    requires { ⌜ (coordsFrom ≤ length (now f)) × (i < placeLimit) × (count ≤ pieceLimit) ⌝ }
-    ensures { λ r. ⌜ r ≡ fold (scaledStep s x) (heldAt (now (f .entry)) i count) start ⌝ }
+fn place_density(floats: &[f64], i: usize, count: usize, s: f64, x: [f64; 3], start: f64) -> f64
+    requires { ⌜ (coordsFrom ≤ length (now floats)) × (i < placeLimit) × (count ≤ pieceLimit) ⌝ }
+    ensures { λ r. ⌜ r ≡ fold (scaledStep s x) (heldAt (now (floats .entry)) i count) start ⌝ }
 {
     let mut rho = start;
     let mut j: usize = 0;
     while j < count {
-        rho += density_of(rescaled_at(f, i, j, s), x);
+        rho += density_of(rescaled_at(floats, i, j, s), x);
         j += 1;
     }
     rho
 }
 
 // The density at x of all pieces, by a scale.
-pub fn density_sum(f: &[f64], w: &[u32], faces: usize, s: f64, x: [f64; 3]) -> f64
-    requires { ⌜ coordsFrom ≤ length (now f) ⌝ ∗ ⌜ Worded width (now w) faces ⌝ }
-    ensures { λ r. ⌜ r ≡ fold (scaledStep s x) (heldAll width (now (f .entry)) (now (w .entry)) placeLimit) +0 ⌝ }
+pub fn density_sum(floats: &[f64], words: &[u32], faces: usize, s: f64, x: [f64; 3]) -> f64
+    requires { ⌜ coordsFrom ≤ length (now floats) ⌝ ∗ ⌜ Worded width (now words) faces ⌝ }
+    ensures { λ r. ⌜ r ≡ fold (scaledStep s x) (heldAll width (now (floats .entry)) (now (words .entry)) placeLimit) +0 ⌝ }
 {
     let mut rho = 0.0;
     let mut i: usize = 0;
     while i < PLACES {
-        rho = place_density(f, i, pieces(w[STATE + WIDTH * i]), s, x, rho);
+        rho = place_density(floats, i, pieces(words[STATE + WIDTH * i]), s, x, rho);
         i += 1;
     }
     rho
 }
 
 // The density at the origin with the first `count` pieces of place i added, their weights as they are.
-fn place_origin(f: &[f64], i: usize, count: usize, start: f64) -> f64
-    requires { ⌜ (coordsFrom ≤ length (now f)) × (i < placeLimit) × (count ≤ pieceLimit) ⌝ }
-    ensures { λ r. ⌜ r ≡ fold originStep (heldAt (now (f .entry)) i count) start ⌝ }
+fn place_origin(floats: &[f64], i: usize, count: usize, start: f64) -> f64
+    requires { ⌜ (coordsFrom ≤ length (now floats)) × (i < placeLimit) × (count ≤ pieceLimit) ⌝ }
+    ensures { λ r. ⌜ r ≡ fold originStep (heldAt (now (floats .entry)) i count) start ⌝ }
 {
     let mut rho = start;
     let mut j: usize = 0;
     while j < count {
-        rho += density_of(piece_at(f, i, j), [0.0, 0.0, 0.0]);
+        rho += density_of(piece_at(floats, i, j), [0.0, 0.0, 0.0]);
         j += 1;
     }
     rho
 }
 
 // The density at the origin of all pieces.
-pub fn origin_density(f: &[f64], w: &[u32], faces: usize) -> f64
-    requires { ⌜ coordsFrom ≤ length (now f) ⌝ ∗ ⌜ Worded width (now w) faces ⌝ }
-    ensures { λ r. ⌜ r ≡ fold originStep (heldAll width (now (f .entry)) (now (w .entry)) placeLimit) +0 ⌝ }
+pub fn origin_density(floats: &[f64], words: &[u32], faces: usize) -> f64
+    requires { ⌜ coordsFrom ≤ length (now floats) ⌝ ∗ ⌜ Worded width (now words) faces ⌝ }
+    ensures { λ r. ⌜ r ≡ fold originStep (heldAll width (now (floats .entry)) (now (words .entry)) placeLimit) +0 ⌝ }
 {
     let mut rho = 0.0;
     let mut i: usize = 0;
     while i < PLACES {
-        rho = place_origin(f, i, pieces(w[STATE + WIDTH * i]), rho);
+        rho = place_origin(floats, i, pieces(words[STATE + WIDTH * i]), rho);
         i += 1;
     }
     rho
 }
 
 // The mass with the first `count` pieces of place i added.
-pub fn place_mass(f: &[f64], i: usize, count: usize, start: f64) -> f64
-    requires { ⌜ (coordsFrom ≤ length (now f)) × (i < placeLimit) × (count ≤ pieceLimit) ⌝ }
-    ensures { λ r. ⌜ r ≡ fold massStep (heldAt (now (f .entry)) i count) start ⌝ }
+pub fn place_mass(floats: &[f64], i: usize, count: usize, start: f64) -> f64
+    requires { ⌜ (coordsFrom ≤ length (now floats)) × (i < placeLimit) × (count ≤ pieceLimit) ⌝ }
+    ensures { λ r. ⌜ r ≡ fold massStep (heldAt (now (floats .entry)) i count) start ⌝ }
 {
     let mut total = start;
     let mut j: usize = 0;
     while j < count {
-        let k = piece_at(f, i, j);
-        total += k.w * f[PIECE + PIECES_SIZE * i + 3 * j + 2];
+        let k = piece_at(floats, i, j);
+        total += k.w * floats[PIECE + PIECES_SIZE * i + 3 * j + 2];
         j += 1;
     }
     total
 }
 
 // The mass of all pieces, by the volumes that the store holds.
-pub fn raw_mass(f: &[f64], w: &[u32], faces: usize) -> f64
-    requires { ⌜ coordsFrom ≤ length (now f) ⌝ ∗ ⌜ Worded width (now w) faces ⌝ }
-    ensures { λ r. ⌜ r ≡ fold massStep (heldAll width (now (f .entry)) (now (w .entry)) placeLimit) +0 ⌝ }
+pub fn raw_mass(floats: &[f64], words: &[u32], faces: usize) -> f64
+    requires { ⌜ coordsFrom ≤ length (now floats) ⌝ ∗ ⌜ Worded width (now words) faces ⌝ }
+    ensures { λ r. ⌜ r ≡ fold massStep (heldAll width (now (floats .entry)) (now (words .entry)) placeLimit) +0 ⌝ }
 {
     let mut total = 0.0;
     let mut i: usize = 0;
     while i < PLACES {
-        total = place_mass(f, i, pieces(w[STATE + WIDTH * i]), total);
+        total = place_mass(floats, i, pieces(words[STATE + WIDTH * i]), total);
         i += 1;
     }
     total

@@ -44,88 +44,108 @@ fn check_track(coords: usize, room: usize) -> Checked
 
 // Writes the densities at the first `count` points, by a scale, side by side: the rescaled pieces are laid down once.
 fn side_by_side(
-    f: &[f64],
-    w: &[u32],
+    floats: &[f64],
+    words: &[u32],
     faces: usize,
     s: f64,
     points: &[f64],
     count: usize,
     out: &mut [f64],
 )
-    requires { ⌜ coordsFrom ≤ length (now f) ⌝ ∗ ⌜ Worded width (now w) faces ⌝ ∗ ⌜ (3 * count ≤ length (now points)) × (count ≤ length (now out)) ⌝ }
-    ensures { λ _. ⌜ now (out .exit) ≡ write (now (out .entry)) 0 (along (densityAt (map (rescaled s) (map bare (heldAll width (now (f .entry)) (now (w .entry)) placeLimit)))) (now (points .entry)) count) ⌝ }
+    requires { ⌜ coordsFrom ≤ length (now floats) ⌝ ∗ ⌜ Worded width (now words) faces ⌝ ∗ ⌜ (3 * count ≤ length (now points)) × (count ≤ length (now out)) ⌝ }
+    ensures { λ _. ⌜ now (out .exit) ≡ write (now (out .entry)) 0 (along (densityAt (map (rescaled s) (map bare (heldAll width (now (floats .entry)) (now (words .entry)) placeLimit)))) (now (points .entry)) count) ⌝ }
 {
-    let n = count_pieces(w, faces);
+    let n = count_pieces(words, faces);
     let mut kernels = [0.0; 3072];
-    write_list(&mut kernels, f, w, faces, s);
+    write_list(&mut kernels, floats, words, faces, s);
     densities(&kernels, n, points, count, out);
 }
 
 // Writes the densities at the first `count` points, by a scale, each as a single reading sums it.
 fn one_by_one(
-    f: &[f64],
-    w: &[u32],
+    floats: &[f64],
+    words: &[u32],
     faces: usize,
     s: f64,
     points: &[f64],
     count: usize,
     out: &mut [f64],
 )
-    requires { ⌜ coordsFrom ≤ length (now f) ⌝ ∗ ⌜ Worded width (now w) faces ⌝ ∗ ⌜ (3 * count ≤ length (now points)) × (count ≤ length (now out)) ⌝ }
-    ensures { λ _. ⌜ now (out .exit) ≡ write (now (out .entry)) 0 (along (densityAt (map (rescaled s) (map bare (heldAll width (now (f .entry)) (now (w .entry)) placeLimit)))) (now (points .entry)) count) ⌝ }
+    requires { ⌜ coordsFrom ≤ length (now floats) ⌝ ∗ ⌜ Worded width (now words) faces ⌝ ∗ ⌜ (3 * count ≤ length (now points)) × (count ≤ length (now out)) ⌝ }
+    ensures { λ _. ⌜ now (out .exit) ≡ write (now (out .entry)) 0 (along (densityAt (map (rescaled s) (map bare (heldAll width (now (floats .entry)) (now (words .entry)) placeLimit)))) (now (points .entry)) count) ⌝ }
 {
     let mut i: usize = 0;
     while i < count {
         let o = 3 * i;
-        out[i] = density_sum(f, w, faces, s, [points[o], points[o + 1], points[o + 2]]);
+        out[i] = density_sum(
+            floats,
+            words,
+            faces,
+            s,
+            [points[o], points[o + 1], points[o + 2]],
+        );
         i += 1;
     }
 }
 
 // Writes the densities at the first `count` points, by a scale. For a few of them it does not pay to lay the pieces down.
-fn trace(f: &[f64], w: &[u32], faces: usize, s: f64, points: &[f64], count: usize, out: &mut [f64])
-    requires { ⌜ coordsFrom ≤ length (now f) ⌝ ∗ ⌜ Worded width (now w) faces ⌝ ∗ ⌜ (3 * count ≤ length (now points)) × (count ≤ length (now out)) ⌝ }
-    ensures { λ _. ⌜ now (out .exit) ≡ write (now (out .entry)) 0 (along (densityAt (map (rescaled s) (map bare (heldAll width (now (f .entry)) (now (w .entry)) placeLimit)))) (now (points .entry)) count) ⌝ }
+fn trace(
+    floats: &[f64],
+    words: &[u32],
+    faces: usize,
+    s: f64,
+    points: &[f64],
+    count: usize,
+    out: &mut [f64],
+)
+    requires { ⌜ coordsFrom ≤ length (now floats) ⌝ ∗ ⌜ Worded width (now words) faces ⌝ ∗ ⌜ (3 * count ≤ length (now points)) × (count ≤ length (now out)) ⌝ }
+    ensures { λ _. ⌜ now (out .exit) ≡ write (now (out .entry)) 0 (along (densityAt (map (rescaled s) (map bare (heldAll width (now (floats .entry)) (now (words .entry)) placeLimit)))) (now (points .entry)) count) ⌝ }
 {
     if count < 8 {
-        one_by_one(f, w, faces, s, points, count, out);
+        one_by_one(floats, words, faces, s, points, count, out);
     } else {
-        side_by_side(f, w, faces, s, points, count, out);
+        side_by_side(floats, words, faces, s, points, count, out);
     }
 }
 
 // Writes the densities of a sound store by a scale, if the track is good.
 fn track_points(
-    f: &[f64],
-    w: &[u32],
+    floats: &[f64],
+    words: &[u32],
     faces: usize,
     s: f64,
     points: &[f64],
     out: &mut [f64],
 ) -> TrackRead
-    requires { ⌜ coordsFrom ≤ length (now f) ⌝ ∗ ⌜ Worded width (now w) faces ⌝ }
-    ensures { λ r. ⌜ outcome (trackRead r) (now (out .exit)) ≡ Readings.tracking s (map bare (heldAll width (now (f .entry)) (now (w .entry)) placeLimit)) (now (points .entry)) (now (out .entry)) ⌝ }
+    requires { ⌜ coordsFrom ≤ length (now floats) ⌝ ∗ ⌜ Worded width (now words) faces ⌝ }
+    ensures { λ r. ⌜ outcome (trackRead r) (now (out .exit)) ≡ Readings.tracking s (map bare (heldAll width (now (floats .entry)) (now (words .entry)) placeLimit)) (now (points .entry)) (now (out .entry)) ⌝ }
 {
     match check_track(points.len(), out.len()) {
         Checked::Failed(r) => TrackRead::Refused(r),
         Checked::Passed => {
             let count = points.len() / 3;
-            trace(f, w, faces, s, points, count, out);
+            trace(floats, words, faces, s, points, count, out);
             TrackRead::Points(count as u32)
         }
     }
 }
 
 // Writes the densities at the points into a lent run, in point order, under a convention.
-pub fn track(f: &[f64], w: &[u32], v: Convention, points: &[f64], out: &mut [f64]) -> TrackRead
-    ensures { λ r. ⌜ outcome (trackRead r) (now (out .exit)) ≡ readStep width (now (f .entry)) (now (w .entry)) (Readings.track v (now (points .entry)) (now (out .entry))) ⌝ }
+pub fn track(
+    floats: &[f64],
+    words: &[u32],
+    v: Convention,
+    points: &[f64],
+    out: &mut [f64],
+) -> TrackRead
+    ensures { λ r. ⌜ outcome (trackRead r) (now (out .exit)) ≡ readStep width (now (floats .entry)) (now (words .entry)) (Readings.track v (now (points .entry)) (now (out .entry))) ⌝ }
 {
-    match check_read(f, w, by_mass(v)) {
+    match check_read(floats, words, by_mass(v)) {
         Checked::Failed(r) => TrackRead::Refused(r),
         Checked::Passed => {
-            let faces = word(w, 1);
-            let s = scale_of(v, f, w, faces);
-            track_points(f, w, faces, s, points, out)
+            let faces = word(words, 1);
+            let s = scale_of(v, floats, words, faces);
+            track_points(floats, words, faces, s, points, out)
         }
     }
 }

@@ -27,16 +27,16 @@ pub struct Said {
 // Opens the store, once no line of the opening is due.
 fn settle(
     o: Opening,
-    f: &mut [f64],
-    w: &mut [u32],
+    floats: &mut [f64],
+    words: &mut [u32],
     coords: &[f64],
     corners: &[u32],
     out: &mut [u8; 512],
 ) -> Said
     requires { ⌜ Small o ⌝ ∗ ⌜ (1500 ≤ length (now coords)) × (3000 ≤ length (now corners)) ⌝ }
     ensures { λ r. ⌜ Small (r .opening) × (r .wrote ≤ 256) ⌝ }
-    ensures { λ r. ⌜ session (r .opening) (now (f .exit)) (now (w .exit)) (now (coords .entry)) (now (corners .entry)) ≡ settled (session o (now (f .entry)) (now (w .entry)) (now (coords .entry)) (now (corners .entry))) .next ⌝ }
-    ensures { λ r. ⌜ Wrote (now (out .entry)) 0 (settled (session o (now (f .entry)) (now (w .entry)) (now (coords .entry)) (now (corners .entry))) .text) (r .wrote) (now (out .exit)) ⌝ }
+    ensures { λ r. ⌜ session (r .opening) (now (floats .exit)) (now (words .exit)) (now (coords .entry)) (now (corners .entry)) ≡ settled (session o (now (floats .entry)) (now (words .entry)) (now (coords .entry)) (now (corners .entry))) .next ⌝ }
+    ensures { λ r. ⌜ Wrote (now (out .entry)) 0 (settled (session o (now (floats .entry)) (now (words .entry)) (now (coords .entry)) (now (corners .entry))) .text) (r .wrote) (now (out .exit)) ⌝ }
 {
     if due(o) {
         return Said {
@@ -46,7 +46,14 @@ fn settle(
     }
     let verts = 3 * o.verts as usize;
     let faces = 3 * o.faces as usize;
-    let wrote = answer_open(f, w, o.radius, &coords[..verts], &corners[..faces], out);
+    let wrote = answer_open(
+        floats,
+        words,
+        o.radius,
+        &coords[..verts],
+        &corners[..faces],
+        out,
+    );
     Said { opening: o, wrote }
 }
 
@@ -62,14 +69,20 @@ fn refuse(o: Opening, out: &mut [u8; 512]) -> Said
 }
 
 // A call on the store, the opening and its mesh staying as they are.
-fn call_line(o: Opening, l: Line, f: &mut [f64], w: &mut [u32], out: &mut [u8; 512]) -> Said
+fn call_line(
+    o: Opening,
+    l: Line,
+    floats: &mut [f64],
+    words: &mut [u32],
+    out: &mut [u8; 512],
+) -> Said
     ensures { λ r. ⌜ (r .opening ≡ o) × (r .wrote ≤ 256) ⌝ }
-    ensures { λ _. ⌜ (now (f .exit) ≡ callOf (now (f .entry)) (now (w .entry)) l .floats) × (now (w .exit) ≡ callOf (now (f .entry)) (now (w .entry)) l .words) ⌝ }
-    ensures { λ r. ⌜ Wrote (now (out .entry)) 0 (callOf (now (f .entry)) (now (w .entry)) l .text) (r .wrote) (now (out .exit)) ⌝ }
+    ensures { λ _. ⌜ (now (floats .exit) ≡ callOf (now (floats .entry)) (now (words .entry)) l .floats) × (now (words .exit) ≡ callOf (now (floats .entry)) (now (words .entry)) l .words) ⌝ }
+    ensures { λ r. ⌜ Wrote (now (out .entry)) 0 (callOf (now (floats .entry)) (now (words .entry)) l .text) (r .wrote) (now (out .exit)) ⌝ }
 {
     Said {
         opening: o,
-        wrote: call(l, f, w, out),
+        wrote: call(l, floats, words, out),
     }
 }
 
@@ -77,22 +90,22 @@ fn call_line(o: Opening, l: Line, f: &mut [f64], w: &mut [u32], out: &mut [u8; 5
 fn perform(
     n: Next,
     l: Line,
-    f: &mut [f64],
-    w: &mut [u32],
+    floats: &mut [f64],
+    words: &mut [u32],
     coords: &[f64],
     corners: &[u32],
     out: &mut [u8; 512],
 ) -> Said
     requires { ⌜ Small (n .opening) ⌝ ∗ ⌜ (1500 ≤ length (now coords)) × (3000 ≤ length (now corners)) ⌝ }
     ensures { λ r. ⌜ Small (r .opening) × (r .wrote ≤ 256) ⌝ }
-    ensures { λ r. ⌜ session (r .opening) (now (f .exit)) (now (w .exit)) (now (coords .entry)) (now (corners .entry)) ≡ done n l (now (f .entry)) (now (w .entry)) (now (coords .entry)) (now (corners .entry)) .next ⌝ }
-    ensures { λ r. ⌜ Wrote (now (out .entry)) 0 (done n l (now (f .entry)) (now (w .entry)) (now (coords .entry)) (now (corners .entry)) .text) (r .wrote) (now (out .exit)) ⌝ }
+    ensures { λ r. ⌜ session (r .opening) (now (floats .exit)) (now (words .exit)) (now (coords .entry)) (now (corners .entry)) ≡ done n l (now (floats .entry)) (now (words .entry)) (now (coords .entry)) (now (corners .entry)) .next ⌝ }
+    ensures { λ r. ⌜ Wrote (now (out .entry)) 0 (done n l (now (floats .entry)) (now (words .entry)) (now (coords .entry)) (now (corners .entry)) .text) (r .wrote) (now (out .exit)) ⌝ }
 {
     let act = n.act;
     match act {
-        Act::Settle => settle(n.opening, f, w, coords, corners, out),
+        Act::Settle => settle(n.opening, floats, words, coords, corners, out),
         Act::Refuse => refuse(n.opening, out),
-        Act::Call => call_line(n.opening, l, f, w, out),
+        Act::Call => call_line(n.opening, l, floats, words, out),
     }
 }
 
@@ -100,17 +113,17 @@ fn perform(
 pub fn respond(
     o: Opening,
     l: Line,
-    f: &mut [f64],
-    w: &mut [u32],
+    floats: &mut [f64],
+    words: &mut [u32],
     coords: &mut [f64; 1500],
     corners: &mut [u32; 3000],
     out: &mut [u8; 512],
 ) -> Said
     requires { ⌜ Small o ⌝ }
     ensures { λ r. ⌜ Small (r .opening) × (r .wrote ≤ 256) ⌝ }
-    ensures { λ r. ⌜ session (r .opening) (now (f .exit)) (now (w .exit)) (now (coords .exit)) (now (corners .exit)) ≡ respond (session o (now (f .entry)) (now (w .entry)) (now (coords .entry)) (now (corners .entry))) l .next ⌝ }
-    ensures { λ r. ⌜ Wrote (now (out .entry)) 0 (respond (session o (now (f .entry)) (now (w .entry)) (now (coords .entry)) (now (corners .entry))) l .text) (r .wrote) (now (out .exit)) ⌝ }
+    ensures { λ r. ⌜ session (r .opening) (now (floats .exit)) (now (words .exit)) (now (coords .exit)) (now (corners .exit)) ≡ respond (session o (now (floats .entry)) (now (words .entry)) (now (coords .entry)) (now (corners .entry))) l .next ⌝ }
+    ensures { λ r. ⌜ Wrote (now (out .entry)) 0 (respond (session o (now (floats .entry)) (now (words .entry)) (now (coords .entry)) (now (corners .entry))) l .text) (r .wrote) (now (out .exit)) ⌝ }
 {
     let n = take_in(o, l, coords, corners);
-    perform(n, l, f, w, coords, corners, out)
+    perform(n, l, floats, words, coords, corners, out)
 }

@@ -23,30 +23,30 @@ pub enum Edited {
 }
 
 // Empties a place: all its fields become zero.
-pub fn clear(f: &mut [f64], w: &mut [u32], place: u32) -> Edited
-    ensures { λ r. ⌜ after (edited r) (now (f .exit)) (now (w .exit)) ≡ clearStep width (now (f .entry)) (now (w .entry)) place ⌝ }
+pub fn clear(floats: &mut [f64], words: &mut [u32], place: u32) -> Edited
+    ensures { λ r. ⌜ after (edited r) (now (floats .exit)) (now (words .exit)) ≡ clearStep width (now (floats .entry)) (now (words .entry)) place ⌝ }
 {
-    match check_filled(f, w, place) {
+    match check_filled(floats, words, place) {
         Checked::Failed(r) => Edited::Refused(r),
         Checked::Passed => {
             let i = place as usize;
-            zero_floats(f, KERNEL + KERNEL_SIZE * i, KERNEL_SIZE);
-            zero_floats(f, PIECE + PIECES_SIZE * i, PIECES_SIZE);
-            zero_words(w, STATE + WIDTH * i, WIDTH);
+            zero_floats(floats, KERNEL + KERNEL_SIZE * i, KERNEL_SIZE);
+            zero_floats(floats, PIECE + PIECES_SIZE * i, PIECES_SIZE);
+            zero_words(words, STATE + WIDTH * i, WIDTH);
             Edited::Done
         }
     }
 }
 
 // Gives the kernel of a place a new weight; the work done on it stays.
-pub fn reweigh(f: &mut [f64], w: &mut [u32], place: u32, weight: f64) -> Edited
-    ensures { λ r. ⌜ after (edited r) (now (f .exit)) (now (w .exit)) ≡ reweighStep width (now (f .entry)) (now (w .entry)) place weight ⌝ }
+pub fn reweigh(floats: &mut [f64], words: &mut [u32], place: u32, weight: f64) -> Edited
+    ensures { λ r. ⌜ after (edited r) (now (floats .exit)) (now (words .exit)) ≡ reweighStep width (now (floats .entry)) (now (words .entry)) place weight ⌝ }
 {
-    match check_filled(f, w, place) {
+    match check_filled(floats, words, place) {
         Checked::Failed(r) => Edited::Refused(r),
         Checked::Passed => {
             let i = place as usize;
-            f[KERNEL + 4 + KERNEL_SIZE * i] = weight;
+            floats[KERNEL + 4 + KERNEL_SIZE * i] = weight;
             Edited::Done
         }
     }

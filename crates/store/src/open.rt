@@ -41,37 +41,43 @@ fn check_open(xyz: &[f64], corners: &[u32], floats: usize, words: usize) -> Chec
 }
 
 // The radius, zeros and the coordinates.
-fn write_floats(f: &mut [f64], radius: f64, xyz: &[f64])
-    requires { ⌜ coordsFrom + length (now xyz) ≤ length (now f) ⌝ }
-    ensures { λ _. ⌜ now (f .exit) ≡ write (now (f .entry)) 0 (openFloats radius (now (xyz .entry))) ⌝ }
+fn write_floats(floats: &mut [f64], radius: f64, xyz: &[f64])
+    requires { ⌜ coordsFrom + length (now xyz) ≤ length (now floats) ⌝ }
+    ensures { λ _. ⌜ now (floats .exit) ≡ write (now (floats .entry)) 0 (openFloats radius (now (xyz .entry))) ⌝ }
 {
-    f[0] = radius;
-    zero_floats(f, 1, COORDS - 1);
-    copy_floats(f, COORDS, xyz);
+    floats[0] = radius;
+    zero_floats(floats, 1, COORDS - 1);
+    copy_floats(floats, COORDS, xyz);
 }
 
 // The counts, zeros and the corners.
-fn write_words(w: &mut [u32], verts: u32, faces: u32, corners: &[u32])
-    requires { ⌜ cornersFrom width + length (now corners) ≤ length (now w) ⌝ }
-    ensures { λ _. ⌜ now (w .exit) ≡ write (now (w .entry)) 0 (openWords width verts faces (now (corners .entry))) ⌝ }
+fn write_words(words: &mut [u32], verts: u32, faces: u32, corners: &[u32])
+    requires { ⌜ cornersFrom width + length (now corners) ≤ length (now words) ⌝ }
+    ensures { λ _. ⌜ now (words .exit) ≡ write (now (words .entry)) 0 (openWords width verts faces (now (corners .entry))) ⌝ }
 {
-    w[0] = verts;
-    w[1] = faces;
-    zero_words(w, 2, CORNERS - 2);
-    copy_words(w, CORNERS, corners);
+    words[0] = verts;
+    words[1] = faces;
+    zero_words(words, 2, CORNERS - 2);
+    copy_words(words, CORNERS, corners);
 }
 
 // Makes two runs a store of a mesh and a radius, with every place empty.
-pub fn open(f: &mut [f64], w: &mut [u32], radius: f64, xyz: &[f64], corners: &[u32]) -> Opened
-    ensures { λ r. ⌜ after (opened r) (now (f .exit)) (now (w .exit)) ≡ openStep width (now (f .entry)) (now (w .entry)) radius (now (xyz .entry)) (now (corners .entry)) ⌝ }
+pub fn open(
+    floats: &mut [f64],
+    words: &mut [u32],
+    radius: f64,
+    xyz: &[f64],
+    corners: &[u32],
+) -> Opened
+    ensures { λ r. ⌜ after (opened r) (now (floats .exit)) (now (words .exit)) ≡ openStep width (now (floats .entry)) (now (words .entry)) radius (now (xyz .entry)) (now (corners .entry)) ⌝ }
 {
-    match check_open(xyz, corners, f.len(), w.len()) {
+    match check_open(xyz, corners, floats.len(), words.len()) {
         Checked::Failed(r) => Opened::Refused(r),
         Checked::Passed => {
             let verts = (xyz.len() / 3) as u32;
             let faces = (corners.len() / 3) as u32;
-            write_floats(f, radius, xyz);
-            write_words(w, verts, faces, corners);
+            write_floats(floats, radius, xyz);
+            write_words(words, verts, faces, corners);
             Opened::Mesh(verts, faces)
         }
     }

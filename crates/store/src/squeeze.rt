@@ -18,18 +18,22 @@ pub enum Squeezed {
 }
 
 // Squeezes the vertices that no face uses out of a store: the others keep their order, the corners are renumbered, the freed floats become zero.
-pub fn squeeze(f: &mut [f64], w: &mut [u32]) -> Squeezed
-    ensures { λ r. ⌜ after (squeezedAs r) (now (f .exit)) (now (w .exit)) ≡ squeezeStep width (now (f .entry)) (now (w .entry)) ⌝ }
+pub fn squeeze(floats: &mut [f64], words: &mut [u32]) -> Squeezed
+    ensures { λ r. ⌜ after (squeezedAs r) (now (floats .exit)) (now (words .exit)) ≡ squeezeStep width (now (floats .entry)) (now (words .entry)) ⌝ }
 {
-    match check_store(f, w) {
+    match check_store(floats, words) {
         Checked::Failed(r) => Squeezed::Refused(r),
         Checked::Passed => {
-            let verts = w[0] as usize;
-            let faces = w[1] as usize;
+            let verts = words[0] as usize;
+            let faces = words[1] as usize;
             let end_f = COORDS + 3 * verts;
             let end_w = CORNERS + 3 * faces;
-            let kept = squeeze_mesh(&mut f[COORDS..end_f], &mut w[CORNERS..end_w], verts);
-            w[0] = kept as u32;
+            let kept = squeeze_mesh(
+                &mut floats[COORDS..end_f],
+                &mut words[CORNERS..end_w],
+                verts,
+            );
+            words[0] = kept as u32;
             Squeezed::Freed((3 * (verts - kept)) as u32)
         }
     }

@@ -8,18 +8,18 @@ fn mixed(sum: u64, word: u64) -> u64 {
     std::num::wrapping_add_u64(turned ^ word, 0x9e37_79b9_7f4a_7c15)
 }
 
-pub fn digest_floats(f: &[f64]) -> u64 {
+pub fn digest_floats(floats: &[f64]) -> u64 {
     let mut sum: u64 = 0;
     for i in 0..f.len() {
-        sum = mixed(sum, to_pattern(f[i]));
+        sum = mixed(sum, to_pattern(floats[i]));
     }
     sum
 }
 
-pub fn digest_words(w: &[u32]) -> u64 {
+pub fn digest_words(words: &[u32]) -> u64 {
     let mut sum: u64 = 0;
     for i in 0..w.len() {
-        sum = mixed(sum, word(w, i) as u64);
+        sum = mixed(sum, word(words, i) as u64);
     }
     sum
 }

@@ -42,6 +42,10 @@ pub fn say_refused(r: Refusal) {
 }
 
 // The end of a call's line: what both runs are after it.
-pub fn say_runs(f: &[f64], w: &[u32]) {
-    say(b" X Y\n", [digest_floats(f), digest_words(w)], NO_FLOATS);
+pub fn say_runs(floats: &[f64], words: &[u32]) {
+    say(
+        b" X Y\n",
+        [digest_floats(floats), digest_words(words)],
+        NO_FLOATS,
+    );
 }

@@ -12,14 +12,14 @@ use Rattle.advance.proofs.work.chunk.Tie as tie
 volume-from-requires : tie.Need-volume-from-requires
 volume-from-requires c κs =
     let z = c .before .before .before .before .before .before .before in
-    mesh-ready (z .args .f .now) (z .args .w .now) (z .args .verts) (z .args .faces) (z .pre .0) (z .args .done) (z .args .k) (z .pre .1 .1)
+    mesh-ready (z .args .floats .now) (z .args .words .now) (z .args .verts) (z .args .faces) (z .pre .0) (z .args .done) (z .args .k) (z .pre .1 .1)
 
 returns : tie.Need-returns
 returns c =
     let a = c .before .before .before .before .before .before .before .before .args in
     let e : coordsFrom + 3 * a .verts - coordsFrom ≡ 3 * a .verts = omega arith in
     let g : cornersFrom width + 3 * a .faces - cornersFrom width ≡ 3 * a .faces = omega arith in
-    ap (set (a .f .now) (a .at + 2)) (rw (e, g) at (c .volume-from .ensures))
+    ap (set (a .floats .now) (a .at + 2)) (rw (e, g) at (c .volume-from .ensures))
 
 pub chunk-spec : {M : Type 1} → statement M
 chunk-spec =

@@ -16,20 +16,20 @@ abbrev μ-loop : tie.MeasureT-loop
 loop-holds : tie.Need-loop-holds Inv-loop μ-loop
 loop-holds c =
     let z = c .before .before in
-    start (z .args .f .now) (z .args .w .now) (z .args .verts) (z .args .faces) (z .args .budget) (z .pre .1)
+    start (z .args .floats .now) (z .args .words .now) (z .args .verts) (z .args .faces) (z .args .budget) (z .pre .1)
 
 spend-requires : tie.Need-spend-requires Inv-loop μ-loop
 spend-requires c κs =
     let z = c .before .before .before .before .before .before in
     let l = c .before .before .before .loop in
-    (sweep-meshed (z .args .f .now) (z .args .w .now) (z .args .verts) (z .args .faces) (z .args .budget) (l .f) (l .w) (l .rest) (l .i) (l .inv) (z .pre .0), l .inv .ahead (l .i) (omega arith) (c .before .before .loop-test .taken))
+    (sweep-meshed (z .args .floats .now) (z .args .words .now) (z .args .verts) (z .args .faces) (z .args .budget) (l .f) (l .w) (l .rest) (l .i) (l .inv) (z .pre .0), l .inv .ahead (l .i) (omega arith) (c .before .before .loop-test .taken))
 
 loop-again : tie.Need-loop-again Inv-loop μ-loop
 loop-again c =
     let a = c .before .before .before .before .before .before .before .before .before .before .before .args in
     let l = c .before .before .before .before .before .before .before .before .loop in
     let s = c .before .before .before .before .spend in
-    sweep (a .f .now) (a .w .now) (a .verts) (a .faces) (a .budget) (l .f) (s .last .0) (l .w) (s .last .1 .0) (l .rest) (s .result) (l .i) (l .inv) (c .before .before .before .before .before .before .before .loop-test .taken) (s .kept .0) (s .ensures)
+    sweep (a .floats .now) (a .words .now) (a .verts) (a .faces) (a .budget) (l .f) (s .last .0) (l .w) (s .last .1 .0) (l .rest) (s .result) (l .i) (l .inv) (c .before .before .before .before .before .before .before .loop-test .taken) (s .kept .0) (s .ensures)
 
 returns : tie.Need-returns Inv-loop μ-loop
 returns c =

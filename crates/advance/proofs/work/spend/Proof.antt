@@ -17,7 +17,7 @@ returns : tie.Need-returns
 unfolding placeWork
 returns c =
     let a = c .before .before .before .before .before .before .before .before .before .before .before .before .before .before .before .args in
-    ap (stored width (a .w .now) (a .i)) (rw (c .before .before .before .before .before .before .before .before .before .before .before .pieces .ensures, c .before .before .before .before .before .before .before .before .before .word .ensures, c .before .before .before .before .before .before .before .word2 .ensures) at (c .before .before .before .before .run-place .ensures .0))
+    ap (stored width (a .words .now) (a .i)) (rw (c .before .before .before .before .before .before .before .before .before .before .before .pieces .ensures, c .before .before .before .before .before .before .before .before .before .word .ensures, c .before .before .before .before .before .before .before .word2 .ensures) at (c .before .before .before .before .run-place .ensures .0))
 
 pub spend-spec : {M : Type 1} → statement M
 spend-spec =

@@ -13,7 +13,7 @@ use Rattle.layout.proofs.check.long_enough.Tie as tie
 returns : tie.Need-returns
 unfolding longEnough
 returns c =
-    let w = c .before .args .w .now in
+    let w = c .before .args .words .now in
     simp (lt-leb (98 + 3 * facesOf w) (length w) (omega arith))
 
 returns-2 : tie.Need-returns-2

@@ -26,7 +26,7 @@ returns : tie.Need-returns Inv-loop μ-loop
 unfolding placeSoundAt
 returns c =
     let l = c .before .before .before .before .before .before .loop in
-    let w = c .before .before .before .before .before .before .before .before .before .args .w .now in
+    let w = c .before .before .before .before .before .before .before .before .before .args .words .now in
     sym (every-not (placeSoundAt width w) 32 (l .i) (omega arith) (sym (c .before .place-sound .ensures) ∙ not-true _ (c .if1 .taken)))
 
 loop-again : tie.Need-loop-again Inv-loop μ-loop

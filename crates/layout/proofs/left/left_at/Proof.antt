@@ -10,7 +10,7 @@ use Rattle.layout.proofs.left.left_at.Tie as tie
 mul-result : tie.Need-mul-result
 mul-result c =
     let z = c .before .before .before .before .before .before in
-    let w = z .args .w .now in
+    let w = z .args .words .now in
     let i = z .args .i in
     let t = left-term (z .args .faces) i (statusOf width w i) (finishedOf width w i) (doneOf width w i) (c .before .before .before .pieces .result) (c .before .before .word .result) (c .before .word2 .result) (z .pre .0 .place i (z .pre .1)) (z .pre .0 .few) (c .before .before .before .pieces .ensures) (c .before .before .word .ensures) (c .before .word2 .ensures) (c .if1 .taken) in
     omega (arith, t .0)
@@ -18,7 +18,7 @@ mul-result c =
 sub-result-2 : tie.Need-sub-result-2
 sub-result-2 c =
     let z = c .before .before .before .before .before .before in
-    let w = z .args .w .now in
+    let w = z .args .words .now in
     let i = z .args .i in
     let t = left-term (z .args .faces) i (statusOf width w i) (finishedOf width w i) (doneOf width w i) (c .before .before .before .pieces .result) (c .before .before .word .result) (c .before .word2 .result) (z .pre .0 .place i (z .pre .1)) (z .pre .0 .few) (c .before .before .before .pieces .ensures) (c .before .before .word .ensures) (c .before .word2 .ensures) (c .if1 .taken) in
     t .1
@@ -26,7 +26,7 @@ sub-result-2 c =
 returns : tie.Need-returns
 returns c =
     let z = c .before .before .before .before .before .before in
-    let w = z .args .w .now in
+    let w = z .args .words .now in
     let i = z .args .i in
     let t = left-term (z .args .faces) i (statusOf width w i) (finishedOf width w i) (doneOf width w i) (c .before .before .before .pieces .result) (c .before .before .word .result) (c .before .word2 .result) (z .pre .0 .place i (z .pre .1)) (z .pre .0 .few) (c .before .before .before .pieces .ensures) (c .before .before .word .ensures) (c .before .word2 .ensures) (c .if1 .taken) in
     (rw (c .before .before .before .pieces .ensures, c .before .before .word .ensures, c .before .word2 .ensures) refl, omega (arith, t .0))

@@ -11,7 +11,7 @@ returns : tie.Need-returns
 returns c =
     let a = c .before .before .before .args in
     let e = c .if1 .taken in
-    let n = none-count (a .f .now) (a .i) (a .status) e in
+    let n = none-count (a .floats .now) (a .i) (a .status) e in
     ((omega (arith, n), none-written _ _ _ e), (none-total _ _ _ e _, omega arith, omega arith))
 
 rounded-requires : tie.Need-rounded-requires
@@ -26,7 +26,7 @@ write-line-requires c κs =
     let m = v .before .place-mass in
     let p = v .before .before in
     let z = p .before .before .before .before in
-    let n = one-count (z .args .f .now) (z .args .i) (z .args .status) (p .pieces .result) (p .before .if1 .left) (p .pieces .ensures) (m .result) (m .ensures) in
+    let n = one-count (z .args .floats .now) (z .args .i) (z .args .status) (p .pieces .result) (p .before .if1 .left) (p .pieces .ensures) (m .result) (m .ensures) in
     (omega (arith, n, z .pre .1 .1 .0), omega (arith, z .pre .0 .1), omega (arith, z .pre .0 .2, p .pieces .ensures), omega (arith, v .rounded .ensures .1))
 
 add-requires : tie.Need-add-requires
@@ -42,9 +42,9 @@ returns-2 c =
     let m = v .before .place-mass in
     let p = v .before .before in
     let a = p .before .before .before .before .args in
-    let n = one-count (a .f .now) (a .i) (a .status) (p .pieces .result) (p .before .if1 .left) (p .pieces .ensures) (m .result) (m .ensures) in
-    let t = one-total (a .f .now) (a .i) (a .status) (p .pieces .result) (p .before .if1 .left) (p .pieces .ensures) (m .result) (m .ensures) _ (v .rounded .ensures .0) in
-    let l = one-written (a .f .now) (a .i) (a .status) (p .pieces .result) (p .before .if1 .left) (p .pieces .ensures) (m .result) (m .ensures) _ (v .rounded .ensures .0) (w .write-line .ensures .1) in
+    let n = one-count (a .floats .now) (a .i) (a .status) (p .pieces .result) (p .before .if1 .left) (p .pieces .ensures) (m .result) (m .ensures) in
+    let t = one-total (a .floats .now) (a .i) (a .status) (p .pieces .result) (p .before .if1 .left) (p .pieces .ensures) (m .result) (m .ensures) _ (v .rounded .ensures .0) in
+    let l = one-written (a .floats .now) (a .i) (a .status) (p .pieces .result) (p .before .if1 .left) (p .pieces .ensures) (m .result) (m .ensures) _ (v .rounded .ensures .0) (w .write-line .ensures .1) in
     ((omega (arith, n, c .add .ensures .0, w .write-line .ensures .0), rw (c .add .ensures .0) l), (rw t (c .add .ensures .1), c .add .ensures .2, c .add .ensures .3))
 
 pub place-line-spec : {M : Type 1} → statement M

@@ -16,14 +16,14 @@ returns c = rw (← c .before .before .before .check-store .ensures, c .before .
 returns-2 : tie.Need-returns-2
 unfolding readCheck
 returns-2 c =
-    let w = c .before .before .before .before .before .before .before .before .args .w .now in
+    let w = c .before .before .before .before .before .before .before .before .args .words .now in
     let l : c .before .left .result ≡ leftOf width w (facesOf w) placeLimit = rw (c .before .before .word .ensures) at (c .before .left .ensures) in
     rw (← c .before .before .before .before .before .check-store .ensures, c .before .before .before .enum-told .given .1, ← l, c .if1 .taken)
 
 returns-3 : tie.Need-returns-3
 unfolding readCheck
 returns-3 c =
-    let w = c .before .before .before .before .before .before .before .before .args .w .now in
+    let w = c .before .before .before .before .before .before .before .before .args .words .now in
     let l : c .before .left .result ≡ leftOf width w (facesOf w) placeLimit = rw (c .before .before .word .ensures) at (c .before .left .ensures) in
     rw (← c .before .before .before .before .before .check-store .ensures, c .before .before .before .enum-told .given .1, ← l, c .if1 .left)
 

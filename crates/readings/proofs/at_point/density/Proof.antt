@@ -23,14 +23,14 @@ density-sum-requires c κs =
 returns : tie.Need-returns
 returns c =
     let a = c .before .before .before .before .before .before .before .args in
-    rw (read-as width (a .f .now) (a .w .now) (density (a .v) (a .point)), ← c .before .before .before .before .by-mass .ensures, ← c .before .before .before .check-read .ensures, c .before .r .given .1) refl
+    rw (read-as width (a .floats .now) (a .words .now) (density (a .v) (a .point)), ← c .before .before .before .before .by-mass .ensures, ← c .before .before .before .check-read .ensures, c .before .r .given .1) refl
 
 returns-2 : tie.Need-returns-2
 unfolding heldSeen
 returns-2 c =
     let a = c .before .before .before .before .before .before .before .before .before .args in
-    let h = heldAll width (a .f .now) (a .w .now) 32 in
-    rw (read-as width (a .f .now) (a .w .now) (density (a .v) (a .point)), ← c .before .before .before .before .before .before .by-mass .ensures, ← c .before .before .before .before .before .check-read .ensures, c .before .before .before .enum-told .given .1, ← c .before .scale-of .ensures, scaled-sum (c .before .scale-of .result) (a .point) h, ← c .density-sum .ensures) refl
+    let h = heldAll width (a .floats .now) (a .words .now) 32 in
+    rw (read-as width (a .floats .now) (a .words .now) (density (a .v) (a .point)), ← c .before .before .before .before .before .before .by-mass .ensures, ← c .before .before .before .before .before .check-read .ensures, c .before .before .before .enum-told .given .1, ← c .before .scale-of .ensures, scaled-sum (c .before .scale-of .result) (a .point) h, ← c .density-sum .ensures) refl
 
 pub density-spec : {M : Type 1} → statement M
 density-spec =

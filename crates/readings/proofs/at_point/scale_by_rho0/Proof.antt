@@ -11,7 +11,7 @@ returns : tie.Need-returns
 unfolding appliedScale
 returns c =
     let a = c .before .before .before .before .before .args in
-    let h = heldAll width (a .f .now) (a .w .now) 32 in
+    let h = heldAll width (a .floats .now) (a .words .now) 32 in
     rw (origin-sum h, ← c .before .origin-density .ensures, ← c .before .before .bulk-of .ensures) (c .rho0-scale .ensures)
 
 pub scale-by-rho0-spec : {M : Type 1} → statement M

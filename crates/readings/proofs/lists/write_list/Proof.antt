@@ -25,8 +25,8 @@ place-list-requires c κs =
     let z = c .before .before .before .before .before .before .before .before in
     let l = c .before .before .before .before .loop in
     let h = z .pre .1 .0 .place (l .i) (c .before .before .before .loop-test .taken) in
-    let m = count-mono width (z .args .w .now) (l .i + 1) 32 (omega arith) in
-    let n = count-next width (z .args .w .now) (l .i) in
+    let m = count-mono width (z .args .words .now) (l .i + 1) 32 (omega arith) in
+    let n = count-next width (z .args .words .now) (l .i) in
     (z .pre .0, c .before .before .before .loop-test .taken, omega (arith, c .before .pieces .ensures, h .pieces), omega (arith, c .before .pieces .ensures, l .inv .1, l .inv .2 .long, z .pre .1 .1))
 
 mul-at : tie.Need-mul-at Inv-loop μ-loop
@@ -38,8 +38,8 @@ add-at : tie.Need-add-at Inv-loop μ-loop
 add-at c =
     let z = c .before .before .before .before .before .before .before .before .before .before .before in
     let l = c .before .before .before .before .before .before .before .loop in
-    let m = count-mono width (z .args .w .now) (l .i + 1) 32 (omega arith) in
-    let n = count-next width (z .args .w .now) (l .i) in
+    let m = count-mono width (z .args .words .now) (l .i + 1) 32 (omega arith) in
+    let n = count-next width (z .args .words .now) (l .i) in
     omega (arith, c .before .before .before .before .pieces .ensures, l .inv .1, z .pre .1 .1)
 
 loop-again : tie.Need-loop-again Inv-loop μ-loop
@@ -47,9 +47,9 @@ loop-again c =
     let z = c .before .before .before .before .before .before .before .before .before .before .before in
     let a = z .args in
     let l = c .before .before .before .before .before .before .before .loop in
-    let m = count-mono width (z .args .w .now) (l .i + 1) 32 (omega arith) in
-    let n = count-next width (z .args .w .now) (l .i) in
-    (omega arith, omega (arith, c .before .before .before .before .pieces .ensures, l .inv .1), place-listed (a .out .now) (a .s) width (a .f .now) (a .w .now) (l .i) (l .out) (c .before .before .place-list .last .0) (l .inv .2) (omega (arith, z .pre .1 .1)) (rw (l .inv .1, c .before .before .before .before .pieces .ensures) at (c .before .before .place-list .ensures)))
+    let m = count-mono width (z .args .words .now) (l .i + 1) 32 (omega arith) in
+    let n = count-next width (z .args .words .now) (l .i) in
+    (omega arith, omega (arith, c .before .before .before .before .pieces .ensures, l .inv .1), place-listed (a .out .now) (a .s) width (a .floats .now) (a .words .now) (l .i) (l .out) (c .before .before .place-list .last .0) (l .inv .2) (omega (arith, z .pre .1 .1)) (rw (l .inv .1, c .before .before .before .before .pieces .ensures) at (c .before .before .place-list .ensures)))
 
 returns : tie.Need-returns Inv-loop μ-loop
 returns c =

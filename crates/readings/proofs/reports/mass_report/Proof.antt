@@ -9,7 +9,7 @@ use Rattle.readings.proofs.reports.mass_report.Tie as tie
 returns : tie.Need-returns
 returns c =
     let a = c .before .before .before .before .before .before .args in
-    let h = heldAll width (a .f .now) (a .w .now) 32 in
+    let h = heldAll width (a .floats .now) (a .words .now) 32 in
     rw (mass-sum h, origin-sum h, ← c .before .before .before .raw-mass .ensures, ← c .before .before .origin-density .ensures, ← c .before .body-of .ensures) (c .report-of .ensures)
 
 pub mass-report-spec : {M : Type 1} → statement M

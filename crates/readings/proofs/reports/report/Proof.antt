@@ -37,14 +37,14 @@ worst-error-requires c κs =
 returns : tie.Need-returns
 returns c =
     let a = c .before .before .before .before .before .before .args in
-    rw (read-as width (a .f .now) (a .w .now) (report (a .v)), ← c .before .before .before .check-read .ensures, c .before .r .given .1) refl
+    rw (read-as width (a .floats .now) (a .words .now) (report (a .v)), ← c .before .before .before .check-read .ensures, c .before .r .given .1) refl
 
 returns-2 : tie.Need-returns-2
 unfolding heldSeen
 returns-2 c =
     let a = c .before .before .before .before .before .before .before .before .before .before .before .args in
-    let f = a .f .now in
-    let w = a .w .now in
+    let f = a .floats .now in
+    let w = a .words .now in
     let h = heldAll width f w 32 in
     let m : c .before .before .before .mass-report .result ≡ reportOf (a .v) (rawMass h) (densityAt (map bare h) origin) (bodyVolume (held width f w (vertsOf w) (facesOf w)) (facesOf w)) = rw (c .before .before .before .before .word2 .ensures, c .before .before .before .before .before .word .ensures) at (c .before .before .before .mass-report .ensures) in
     rw (read-as width f w (report (a .v)), ← c .before .before .before .before .before .before .before .before .check-read .ensures, c .before .before .before .before .before .before .enum-told .given .1, ← m, all-length width f w 32, ← c .before .count-pieces .ensures .0, ← c .before .before .count-filled .ensures .0, ← c .worst-error .ensures) refl

@@ -30,7 +30,7 @@ loop-again : tie.Need-loop-again Inv-loop μ-loop
 loop-again c =
     let a = c .before .before .before .before .before .before .before .args in
     let l = c .before .before .before .before .loop in
-    (omega arith, rw (place-more (scaledStep (a .s) (a .x)) width (a .f .now) (a .w .now) (l .i) +0, ← l .inv .1, ← c .before .pieces .ensures) (c .place-density .ensures))
+    (omega arith, rw (place-more (scaledStep (a .s) (a .x)) width (a .floats .now) (a .words .now) (l .i) +0, ← l .inv .1, ← c .before .pieces .ensures) (c .place-density .ensures))
 
 returns : tie.Need-returns Inv-loop μ-loop
 returns c =

@@ -19,7 +19,7 @@ loop-again : tie.Need-loop-again Inv-loop μ-loop
 loop-again c =
     let a = c .before .before .before .before .before .args in
     let l = c .before .before .before .loop in
-    (omega arith, rw (piece-more (scaledStep (a .s) (a .x)) (a .f .now) (a .i) (l .j) (a .start), ← l .inv .1, c .density-of .ensures, c .before .rescaled-at .ensures) refl)
+    (omega arith, rw (piece-more (scaledStep (a .s) (a .x)) (a .floats .now) (a .i) (l .j) (a .start), ← l .inv .1, c .density-of .ensures, c .before .rescaled-at .ensures) refl)
 
 returns : tie.Need-returns Inv-loop μ-loop
 returns c =

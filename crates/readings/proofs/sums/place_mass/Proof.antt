@@ -19,7 +19,7 @@ loop-again : tie.Need-loop-again Inv-loop μ-loop
 loop-again c =
     let a = c .before .before .before .before .before .before .args in
     let l = c .before .before .before .before .loop in
-    (omega arith, rw (piece-more massStep (a .f .now) (a .i) (l .j) (a .start), ← l .inv .1, c .before .before .piece-at .ensures) refl)
+    (omega arith, rw (piece-more massStep (a .floats .now) (a .i) (l .j) (a .start), ← l .inv .1, c .before .before .piece-at .ensures) refl)
 
 returns : tie.Need-returns Inv-loop μ-loop
 returns c =

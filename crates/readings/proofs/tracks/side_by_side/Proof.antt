@@ -26,11 +26,11 @@ returns : tie.Need-returns
 returns c =
     let a = c .before .before .before .before .before .before .before .before .before .before .before .before .before .args in
     let n = c .before .before .before .before .before .before .before .before .count-pieces in
-    let h = heldAll width (a .f .now) (a .w .now) 32 in
+    let h = heldAll width (a .floats .now) (a .words .now) 32 in
     let l = c .before .before .before .before .before .before .write-list in
     c .before .before .densities .ensures
     ∙ ap (write (a .out .now) 0)
-    (stretch-same _ (densityAt (map (rescaled (a .s)) (map bare h))) (λ x. ap (λ (ks : List Float). densitizeOf (kernelAt ks) (n .result) x) (l .ensures) ∙ rows-density _ (a .s) h (n .result) (n .ensures .0 ∙ sym (all-length width (a .f .now) (a .w .now) 32)) x) (a .points .now) 0 (a .count))
+    (stretch-same _ (densityAt (map (rescaled (a .s)) (map bare h))) (λ x. ap (λ (ks : List Float). densitizeOf (kernelAt ks) (n .result) x) (l .ensures) ∙ rows-density _ (a .s) h (n .result) (n .ensures .0 ∙ sym (all-length width (a .floats .now) (a .words .now) 32)) x) (a .points .now) 0 (a .count))
 
 pub side-by-side-spec : {M : Type 1} → statement M
 side-by-side-spec =

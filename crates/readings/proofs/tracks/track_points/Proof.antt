@@ -18,12 +18,12 @@ trace-requires c κs =
 returns : tie.Need-returns
 returns c =
     let a = c .before .before .before .before .before .before .before .before .args in
-    track-out (a .s) (map bare (heldAll width (a .f .now) (a .w .now) 32)) (a .points .now) (a .out .now) _ (sym (c .before .before .before .check-track .ensures) ∙ c .before .r .given .1)
+    track-out (a .s) (map bare (heldAll width (a .floats .now) (a .words .now) 32)) (a .points .now) (a .out .now) _ (sym (c .before .before .before .check-track .ensures) ∙ c .before .r .given .1)
 
 returns-2 : tie.Need-returns-2
 returns-2 c =
     let a = c .before .before .before .before .before .before .before .before .before .before .before .args in
-    track-in (a .s) (map bare (heldAll width (a .f .now) (a .w .now) 32)) (a .points .now) (a .out .now) _ (sym (c .before .before .before .before .before .before .check-track .ensures) ∙ c .before .before .before .before .enum-told .given .1) (c .before .before .trace .ensures)
+    track-in (a .s) (map bare (heldAll width (a .floats .now) (a .words .now) 32)) (a .points .now) (a .out .now) _ (sym (c .before .before .before .before .before .before .check-track .ensures) ∙ c .before .before .before .before .enum-told .given .1) (c .before .before .trace .ensures)
 
 pub track-points-spec : {M : Type 1} → statement M
 track-points-spec =

@@ -10,7 +10,7 @@ returns c =
     let c12 = c4 .before .before .before .before .before .before .before .before in
     let a = c12 .before .before .before .before .before .args in
     let e = c4 .perform .ensures in
-    (e .0, saying (c12 .take-in .ensures .1 (a .f .now) (a .w .now)) (e .1 .0) (e .1 .1))
+    (e .0, saying (c12 .take-in .ensures .1 (a .floats .now) (a .words .now)) (e .1 .0) (e .1 .1))
 
 pub respond-spec : {M : Type 1} → statement M
 respond-spec =

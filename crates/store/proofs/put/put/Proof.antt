@@ -17,22 +17,22 @@ cast-count : tie.Need-cast-count
 cast-count c =
     let d = c .before .decompose in
     let a = c .before .before .before .before .before .before .before .before .before .before .args in
-    let n : d .result .count ≤ 16 = rw (d .ensures) (at-most-16 (a .k) (getD (a .f .now) 0 nan)) in
+    let n : d .result .count ≤ 16 = rw (d .ensures) (at-most-16 (a .k) (getD (a .floats .now) 0 nan)) in
     omega arith
 
 mul-need : tie.Need-mul-need
 mul-need c =
     let d = c .before .before .decompose in
     let a = c .before .before .before .before .before .before .before .before .before .before .before .args in
-    let n : d .result .count ≤ 16 = rw (d .ensures) (at-most-16 (a .k) (getD (a .f .now) 0 nan)) in
+    let n : d .result .count ≤ 16 = rw (d .ensures) (at-most-16 (a .k) (getD (a .floats .now) 0 nan)) in
     let o = place-open width _ _ _ (sym (c .before .before .before .before .before .before .check-place .ensures) ∙ c .before .before .before .before .enum-told .given .1) in
-    omega (arith, need-bound (d .result .count) (facesOf (a .w .now)) n (o .all .mesh .faces))
+    omega (arith, need-bound (d .result .count) (facesOf (a .words .now)) n (o .all .mesh .faces))
 
 fill-requires : tie.Need-fill-requires
 fill-requires c κs =
     let d = c .before .before .before .before .decompose in
     let a = c .before .before .before .before .before .before .before .before .before .before .before .before .before .args in
-    let n : d .result .count ≤ 16 = rw (d .ensures) (at-most-16 (a .k) (getD (a .f .now) 0 nan)) in
+    let n : d .result .count ≤ 16 = rw (d .ensures) (at-most-16 (a .k) (getD (a .floats .now) 0 nan)) in
     let o = place-open width _ _ _ (sym (c .before .before .before .before .before .before .before .before .check-place .ensures) ∙ c .before .before .before .before .before .before .enum-told .given .1) in
     (o .place, omega (arith, o .all .mesh .floats), o .all .places .long, n)
 
