@@ -19,8 +19,8 @@ use layout::offsets::PLACES;
 use layout::offsets::STATE;
 use layout::offsets::WIDTH;
 use layout::runs::word;
-use readings::at_point::check_read;
 use readings::counts::count_filled;
+use readings::shared::check_read;
 
 // The answer of a page: how many bytes it has.
 pub enum PageRead {

@@ -1,98 +1,18 @@
-// The density of a store at a point.
-// Internal: a function with a `requires` is called by proved code alone.
+// The density of a store at a point. The exported call has no `requires`.
 ghost use mathlib.Core.Path.{_≡_};
 ghost use mathlib.Core.List.{[]};
-ghost use Prim.Native.Nat.{_≤_};
-ghost use lib.ListN.{length};
 ghost use Rattle.base.specs.Answers.{measuredAs, outcome};
-ghost use Rattle.density.specs.declared.convention.Convention.the-variants.{Rho0, Mass};
-ghost use Rattle.layout.specs.Layout.{width, placeLimit, coordsFrom};
-ghost use Rattle.layout.specs.SoundLaws.{Worded};
-ghost use Rattle.readings.specs.Readings.{byMass, applied, heldAll, readStep};
+ghost use Rattle.layout.specs.Layout.{width};
+ghost use Rattle.readings.specs.Readings.{readStep};
 ghost use Rattle.readings.specs.Readings;
-ghost use Rattle.readings.specs.Checks.{readCheck};
+use crate::shared::by_mass;
+use crate::shared::check_read;
+use crate::shared::scale_of;
 use crate::sums::density_sum;
-use crate::sums::origin_density;
-use crate::sums::raw_mass;
 use base::refusal::Checked;
 use base::refusal::Measured;
-use base::refusal::Refusal;
 use density::convention::Convention;
-use density::convention::bulk_of;
-use density::convention::rho0_scale;
-use density::convention::scalable;
-use density::convention::target_of;
-use layout::check::check_store;
-use layout::left::left;
 use layout::runs::word;
-
-// Whether a convention is by mass with a target above 0.
-pub fn by_mass(v: Convention) -> bool
-    ensures { λ r. ⌜ r ≡ byMass v ⌝ }
-{
-    match v {
-        Convention::Raw => false,
-        Convention::Rho0(_) => false,
-        Convention::Mass(target, _) => target > 0.0,
-    }
-}
-
-// Refusal 4, 5 or 8 of a reading that needs the work done, or not.
-pub fn check_read(floats: &[f64], words: &[u32], needs: bool) -> Checked
-    ensures { λ r. ⌜ r ≡ readCheck width (now (floats .entry)) (now (words .entry)) needs ⌝ }
-{
-    match check_store(floats, words) {
-        Checked::Failed(r) => Checked::Failed(r),
-        Checked::Passed => {
-            let total = left(words, word(words, 1));
-            let early = needs & (0 < total);
-            if early {
-                Checked::Failed(Refusal::Unfinished)
-            } else {
-                Checked::Passed
-            }
-        }
-    }
-}
-
-// The scale by rho0, which looks at no volume.
-fn scale_by_rho0(bulk: f64, floats: &[f64], words: &[u32], faces: usize) -> f64
-    requires { ⌜ coordsFrom ≤ length (now floats) ⌝ ∗ ⌜ Worded width (now words) faces ⌝ }
-    ensures { λ r. ⌜ r ≡ applied (Rho0 bulk) (heldAll width (now (floats .entry)) (now (words .entry)) placeLimit) ⌝ }
-{
-    rho0_scale(
-        bulk_of(Convention::Rho0(bulk)),
-        origin_density(floats, words, faces),
-    )
-}
-
-// The scale by mass. The density at the origin is summed only where there is no mass to scale.
-fn scale_by_mass(target: f64, bulk: f64, floats: &[f64], words: &[u32], faces: usize) -> f64
-    requires { ⌜ coordsFrom ≤ length (now floats) ⌝ ∗ ⌜ Worded width (now words) faces ⌝ }
-    ensures { λ r. ⌜ r ≡ applied (Mass target bulk) (heldAll width (now (floats .entry)) (now (words .entry)) placeLimit) ⌝ }
-{
-    let aim = target_of(Convention::Mass(target, bulk));
-    let mass = raw_mass(floats, words, faces);
-    if scalable(aim, mass) {
-        return aim / mass;
-    }
-    rho0_scale(
-        bulk_of(Convention::Mass(target, bulk)),
-        origin_density(floats, words, faces),
-    )
-}
-
-// The scale that a convention puts on every weight.
-pub fn scale_of(v: Convention, floats: &[f64], words: &[u32], faces: usize) -> f64
-    requires { ⌜ coordsFrom ≤ length (now floats) ⌝ ∗ ⌜ Worded width (now words) faces ⌝ }
-    ensures { λ r. ⌜ r ≡ applied v (heldAll width (now (floats .entry)) (now (words .entry)) placeLimit) ⌝ }
-{
-    match v {
-        Convention::Raw => 1.0,
-        Convention::Rho0(bulk) => scale_by_rho0(bulk, floats, words, faces),
-        Convention::Mass(target, bulk) => scale_by_mass(target, bulk, floats, words, faces),
-    }
-}
 
 // The density at a point, under a convention.
 pub fn density(floats: &[f64], words: &[u32], v: Convention, point: [f64; 3]) -> Measured

@@ -6,5 +6,6 @@ pub mod held;
 pub mod listing;
 pub mod lists;
 pub mod reports;
+pub mod shared;
 pub mod sums;
 pub mod tracks;

@@ -12,11 +12,11 @@ ghost use Rattle.readings.specs.Readings.{bare, rescaled, densityAt, hel
 ghost use Rattle.readings.specs.Readings;
 ghost use Rattle.readings.specs.TrackAnswer.{trackRead};
 use crate::along::densities;
-use crate::at_point::by_mass;
-use crate::at_point::check_read;
-use crate::at_point::scale_of;
 use crate::counts::count_pieces;
 use crate::lists::write_list;
+use crate::shared::by_mass;
+use crate::shared::check_read;
+use crate::shared::scale_of;
 use crate::sums::density_sum;
 use base::refusal::Checked;
 use base::refusal::Refusal;

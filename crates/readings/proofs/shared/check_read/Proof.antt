@@ -1,4 +1,4 @@
--- `readings::at_point::check_read` meets its contract. Assumes nothing.
+-- `readings::shared::check_read` meets its contract. Assumes nothing.
 use mathlib.Core.Path.{_≡_, sym, _∙_}
 use native.Mathlib.Omega.{arith}
 use Rattle.layout.specs.Layout.{width, placeLimit, facesOf}
@@ -6,8 +6,8 @@ use Rattle.layout.specs.SoundLaws.{fine}
 use Rattle.layout.specs.Left.{leftOf}
 use Rattle.readings.specs.Checks.{readCheck}
 use borrow.Author.Needs.{needs}
-use Rattle.readings.proofs.at_point.check_read.Statement.{statement}
-use Rattle.readings.proofs.at_point.check_read.Tie as tie
+use Rattle.readings.proofs.shared.check_read.Statement.{statement}
+use Rattle.readings.proofs.shared.check_read.Tie as tie
 
 returns : tie.Need-returns
 unfolding readCheck

@@ -1,4 +1,4 @@
--- `readings::at_point::scale_by_mass` meets its contract. Assumes nothing.
+-- `readings::shared::scale_by_mass` meets its contract. Assumes nothing.
 use mathlib.Core.Path.{ap}
 use lib.Ieee.{Float}
 use Rattle.base.specs.Floats.{_⊘_}
@@ -7,8 +7,8 @@ use Rattle.layout.specs.Layout.{width}
 use Rattle.readings.specs.Readings.{heldAll}
 use Rattle.readings.specs.FoldLaws.{mass-sum, origin-sum}
 use borrow.Author.Needs.{needs}
-use Rattle.readings.proofs.at_point.scale_by_mass.Statement.{statement}
-use Rattle.readings.proofs.at_point.scale_by_mass.Tie as tie
+use Rattle.readings.proofs.shared.scale_by_mass.Statement.{statement}
+use Rattle.readings.proofs.shared.scale_by_mass.Tie as tie
 
 returns : tie.Need-returns
 returns c =

@@ -1,11 +1,11 @@
--- `readings::at_point::scale_by_rho0` meets its contract: no volume is looked at. Assumes nothing.
+-- `readings::shared::scale_by_rho0` meets its contract: no volume is looked at. Assumes nothing.
 use borrow.Author.Needs.{needs}
 use Rattle.density.specs.Conventions.{appliedScale}
 use Rattle.layout.specs.Layout.{width}
 use Rattle.readings.specs.Readings.{heldAll}
 use Rattle.readings.specs.FoldLaws.{origin-sum}
-use Rattle.readings.proofs.at_point.scale_by_rho0.Statement.{statement}
-use Rattle.readings.proofs.at_point.scale_by_rho0.Tie as tie
+use Rattle.readings.proofs.shared.scale_by_rho0.Statement.{statement}
+use Rattle.readings.proofs.shared.scale_by_rho0.Tie as tie
 
 returns : tie.Need-returns
 unfolding appliedScale

@@ -1,8 +1,8 @@
--- `readings::at_point::scale_of` meets its contract, case by case. Assumes nothing.
+-- `readings::shared::scale_of` meets its contract, case by case. Assumes nothing.
 use borrow.Author.Needs.{needs}
 use Rattle.density.specs.Conventions.{appliedScale}
-use Rattle.readings.proofs.at_point.scale_of.Statement.{statement}
-use Rattle.readings.proofs.at_point.scale_of.Tie as tie
+use Rattle.readings.proofs.shared.scale_of.Statement.{statement}
+use Rattle.readings.proofs.shared.scale_of.Tie as tie
 
 returns : tie.Need-returns
 unfolding appliedScale
