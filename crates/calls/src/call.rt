@@ -28,7 +28,7 @@ pub fn call(l: Line, floats: &mut [f64], words: &mut [u32], out: &mut [u8; 512])
             y,
             z,
             sigma,
-            words: weight,
+            w: weight,
             alpha,
         } => answer_put(
             floats,
@@ -37,7 +37,7 @@ pub fn call(l: Line, floats: &mut [f64], words: &mut [u32], out: &mut [u8; 512])
             Kernel {
                 c: [x, y, z],
                 sigma,
-                words: weight,
+                w: weight,
                 alpha,
             },
             out,

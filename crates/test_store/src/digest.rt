@@ -10,7 +10,7 @@ fn mixed(sum: u64, word: u64) -> u64 {
 
 pub fn digest_floats(floats: &[f64]) -> u64 {
     let mut sum: u64 = 0;
-    for i in 0..f.len() {
+    for i in 0..floats.len() {
         sum = mixed(sum, to_pattern(floats[i]));
     }
     sum
@@ -18,7 +18,7 @@ pub fn digest_floats(floats: &[f64]) -> u64 {
 
 pub fn digest_words(words: &[u32]) -> u64 {
     let mut sum: u64 = 0;
-    for i in 0..w.len() {
+    for i in 0..words.len() {
         sum = mixed(sum, word(words, i) as u64);
     }
     sum

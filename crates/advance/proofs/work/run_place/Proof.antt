@@ -26,14 +26,14 @@ returns : tie.Need-returns Inv-loop μ-loop
 returns c =
     let a = c .before .before .before .before .before .before .before .before .before .before .args in
     let l = c .before .before .before .before .loop in
-    (stopped (a .floats .now) (a .words .now) (a .verts) (a .faces) (a .i) (a .count) (a .start .finished) (a .start .done) (a .start .budget) (l .f) (l .r .finished) (l .r .done) (l .r .budget) (l .inv) (rw (c .if2 .taken) (and-false (ltb (l .r .finished) (a .count)))), omega (arith, l .inv))
+    (stopped (a .floats .now) (a .words .now) (a .verts) (a .faces) (a .i) (a .count) (a .start .finished) (a .start .done) (a .start .budget) (l .floats) (l .r .finished) (l .r .done) (l .r .budget) (l .inv) (rw (c .if2 .taken) (and-false (ltb (l .r .finished) (a .count)))), omega (arith, l .inv))
 
 run-piece-requires : tie.Need-run-piece-requires Inv-loop μ-loop
 run-piece-requires c κs =
     let z = c .before .before .before .before .before .before .before .before .before .before .before in
     let l = c .before .before .before .before .before .loop in
     let h = c .before .before .before .if1 .taken in (
-      meshed-same (l .f) (z .args .floats .now) (z .args .words .now) (z .args .verts) (z .args .faces) (l .inv .long) (z .pre .0),
+      meshed-same (l .floats) (z .args .floats .now) (z .args .words .now) (z .args .verts) (z .args .faces) (l .inv .long) (z .pre .0),
       record { place = z .pre .1 .place; pieces = omega (arith, z .pre .1); fits = omega arith; part = λ _. l .inv .part h; low = l .inv .low },
     )
 
@@ -42,20 +42,20 @@ loop-less c =
     let z = c .before .before .before .before .before .before .before .before .before .before .before .before .before .before in
     let a = z .args in
     let l = c .before .before .before .before .before .before .before .before .loop in
-    turn (a .floats .now) (a .words .now) (a .verts) (a .faces) (a .i) (a .count) (a .start .finished) (a .start .done) (a .start .budget) (omega (arith, z .pre .0 .floats)) (z .pre .1 .place) (z .pre .1 .pieces) (l .f) (l .r .finished) (l .r .done) (l .r .budget) (l .inv) (c .before .before .before .before .before .before .if1 .taken) (c .before .before .before .before .if2 .left) _ (c .before .before .run-piece .ensures) .1
+    turn (a .floats .now) (a .words .now) (a .verts) (a .faces) (a .i) (a .count) (a .start .finished) (a .start .done) (a .start .budget) (omega (arith, z .pre .0 .floats)) (z .pre .1 .place) (z .pre .1 .pieces) (l .floats) (l .r .finished) (l .r .done) (l .r .budget) (l .inv) (c .before .before .before .before .before .before .if1 .taken) (c .before .before .before .before .if2 .left) _ (c .before .before .run-piece .ensures) .1
 
 loop-again : tie.Need-loop-again Inv-loop μ-loop
 loop-again c =
     let z = c .before .before .before .before .before .before .before .before .before .before .before .before .before .before in
     let a = z .args in
     let l = c .before .before .before .before .before .before .before .before .loop in
-    turn (a .floats .now) (a .words .now) (a .verts) (a .faces) (a .i) (a .count) (a .start .finished) (a .start .done) (a .start .budget) (omega (arith, z .pre .0 .floats)) (z .pre .1 .place) (z .pre .1 .pieces) (l .f) (l .r .finished) (l .r .done) (l .r .budget) (l .inv) (c .before .before .before .before .before .before .if1 .taken) (c .before .before .before .before .if2 .left) _ (c .before .before .run-piece .ensures) .0
+    turn (a .floats .now) (a .words .now) (a .verts) (a .faces) (a .i) (a .count) (a .start .finished) (a .start .done) (a .start .budget) (omega (arith, z .pre .0 .floats)) (z .pre .1 .place) (z .pre .1 .pieces) (l .floats) (l .r .finished) (l .r .done) (l .r .budget) (l .inv) (c .before .before .before .before .before .before .if1 .taken) (c .before .before .before .before .if2 .left) _ (c .before .before .run-piece .ensures) .0
 
 returns-2 : tie.Need-returns-2 Inv-loop μ-loop
 returns-2 c =
     let a = c .before .before .before .before .before .before .before .before .args in
     let l = c .before .before .loop in
-    (stopped (a .floats .now) (a .words .now) (a .verts) (a .faces) (a .i) (a .count) (a .start .finished) (a .start .done) (a .start .budget) (l .f) (l .r .finished) (l .r .done) (l .r .budget) (l .inv) (rw (le-ltb (l .r .finished) (a .count) (c .if1 .left)) refl), omega (arith, l .inv))
+    (stopped (a .floats .now) (a .words .now) (a .verts) (a .faces) (a .i) (a .count) (a .start .finished) (a .start .done) (a .start .budget) (l .floats) (l .r .finished) (l .r .done) (l .r .budget) (l .inv) (rw (le-ltb (l .r .finished) (a .count) (c .if1 .left)) refl), omega (arith, l .inv))
 
 pub run-place-spec : {M : Type 1} → statement M
 run-place-spec =
