@@ -1,9 +1,10 @@
 // The numbers of all faces, range by range: each range is gathered, put in order and looked through for a number
 // without its partner.
 //
-// How long it takes is no matter of luck. A batch is halved only where it is full, and the end that it loses is listed:
-// so each halving leaves some 30,700 numbers on either side of an end that stays, and there are about 205 of them at
-// most, whatever the mesh. With at most 117 ends of the sample that makes some 320 passes over the faces at most.
+// How long it takes is no matter of luck. A batch is halved only where the near ones of 256 faces more might not fit, and
+// the end that it loses is listed: so each halving leaves some 30,300 numbers on either side of an end that stays, and
+// there are about 208 of them at most, whatever the mesh. With at most 117 ends of the sample that makes some 325
+// passes over the faces at most.
 // Internal: a function with a `requires` is called by proved code alone.
 ghost use mathlib.Core.Path.{_≡_};
 ghost use mathlib.Core.Bool.{true, false};
