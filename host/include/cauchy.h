@@ -258,7 +258,7 @@ CAUCHY_MUST_USE
 CauchySqueezed cauchy_store_squeeze(double *floats, size_t n_floats, uint32_t *words, size_t n_words);
 
 /* Does up to `budget` steps of the work left, one face of one piece each. Every call looks the store over
- * first, some 2 ns a face, so budgets of many faces are cheapest. A budget of 0 tells what is left. 4 5 */
+ * first, about half a ns a face, so budgets of many faces are cheapest. A budget of 0 tells what is left. 4 5 */
 CAUCHY_MUST_USE
 CauchySteps cauchy_store_advance(double *floats, size_t n_floats, uint32_t *words, size_t n_words, uint64_t budget);
 
