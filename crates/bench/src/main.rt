@@ -2,20 +2,51 @@
 ghost use mathlib.Core.Path.{_≡_};
 ghost use mathlib.Core.Bool.{true};
 ghost use Prim.Native.Nat.{_≤_};
+ghost use lib.ListN.{length};
 ghost use Rattle.session.specs.Session.{Small, session, idle};
 ghost use Rattle.program.specs.Bytes.{held, heldAfter};
 ghost use Rattle.program.specs.Bench.{heldAtFirst, Reached};
+use libc::EAGAIN;
 use libc::EINTR;
 use libc::STDIN_FILENO;
 use libc::STDOUT_FILENO;
 use program::State;
 
-// Whether a read that answered `got` was the last: the input ended or cannot be read. One that a signal interrupted is made again.
+// Whether a call that failed is to be made again: a signal interrupted it, or its file is one that is never
+// waited for. The kit has no call that waits for such a file, so others run first.
+fn again() -> bool {
+    let error = os::errno();
+    if error == EAGAIN {
+        libc::sched_yield();
+        return true;
+    }
+    error == EINTR
+}
+
+// Whether a read that answered `got` was the last: the input ended or cannot be read.
 fn ended(got: isize) -> bool {
     if got < 0 {
-        return os::errno() != EINTR;
+        return !again();
     }
     got == 0
+}
+
+// Writes some of these bytes, and answers how many; 0 where none can be written.
+fn write_some(bytes: &[u8]) -> usize
+    ensures { λ r. ⌜ r ≤ length (now (bytes .entry)) ⌝ }
+{
+    let mut turns = u64::MAX;
+    while turns > 0 {
+        turns -= 1;
+        let put = libc::write(STDOUT_FILENO, bytes);
+        if put >= 0 {
+            return io::count(put, bytes);
+        }
+        if !again() {
+            return 0;
+        }
+    }
+    0
 }
 
 // Writes the first `n` bytes of `out`; false where they cannot be written.
@@ -23,7 +54,15 @@ fn say(out: &[u8], n: usize) -> bool {
     if n > out.len() {
         return false;
     }
-    io::write_all(STDOUT_FILENO, &out[..n])
+    let mut done: usize = 0;
+    while done < n {
+        let more = write_some(&out[done..n]);
+        if more == 0 {
+            return false;
+        }
+        done += more;
+    }
+    true
 }
 
 // What is held after some bytes, and whether each answer was written.
