@@ -54,7 +54,7 @@ fn staged(
 
 // Writes to g the radial factor of each point, x being the squares of the distances, for any sigma; the arcs of a
 // sigma below 0 are worked one by one, so a caller gives its absolute value where it may. What t, u, v, f and s hold
-// before and after is of no account: they are lent so that they are made once.
+// before and after does not matter: they are lent so that they are made only once.
 pub fn factors(
     x: &[f64; 28],
     sigma: f64,
