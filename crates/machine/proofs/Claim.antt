@@ -22,15 +22,18 @@ use Rattle.volume.specs.Volume.{volumeTo}
 use Rattle.kernel.specs.Field.{centreOf}
 use Rattle.kernel.specs.declared.kernel.Kernel.{Kernel}
 use Rattle.pieces.specs.declared.pieces.Pieces.{Pieces}
+use Rattle.pieces.specs.declared.fit.Fit.{Fit}
+use Rattle.pieces.specs.declared.fit.Fit.the-variants as ended
 use Rattle.pieces.specs.Pieces.{decomposed}
+use Rattle.pieces.specs.FitEnd.{fitOf, kindOf, columnOf, pivotOf}
 use Rattle.pieces.specs.PieceLaws.{same-pieces}
 use Rattle.layout.specs.Layout.{placeLimit, radiusOf, vertsOf, facesOf, statusOf}
 use Rattle.layout.specs.Soundness.{storeCheck, placeCheck, filledCheck}
 use Rattle.store.specs.Calls.{clearStep, reweighStep}
 use Rattle.advance.specs.Steps.{advanceStep}
 use Rattle.store.specs.Squeeze.{squeezeStep}
-use Rattle.store.specs.Puts.{fresh, atFirst, putFloats, putWords, putStep}
-use Rattle.machine.specs.Machine.{Mesh, Place, empty, full, need, leftPlace, leftSum, Machine, Turn, turn, putTurn, clearTurn, weighed, reweighTurn}
+use Rattle.store.specs.Puts.{fresh, atFirst, putFloats, putWords, placedWith, putStep}
+use Rattle.machine.specs.Machine.{Mesh, Place, empty, full, need, leftPlace, leftSum, Machine, Turn, turn, endCounts, endFloats, putTurn, clearTurn, weighed, reweighTurn}
 use Rattle.machine.specs.Holding.{placeRow, cells, wordsOf}
 use Rattle.readings.specs.Readings.{Reading}
 use Rattle.machine.specs.Calls.{Call, put, clear, reweigh, advance, squeeze, read, page, machine, Store, Result, result, seen, pinned, store, after-all, past, holding, chargedBy, doneBy, chargedIn, doneIn}
@@ -44,6 +47,19 @@ use Rattle.machine.proofs.Pages.{page-held}
 use Rattle.machine.proofs.Squeezing.{floats-squeezed, words-squeezed, slim-valid, left-slim}
 use Rattle.machine.proofs.Slim.{freed-is}
 use Rattle.machine.proofs.Sweep.{spread, all-held, left-held, lowest-first, spread-length, within-spread, left-spread}
+
+-- how a fit ended, as the store tells it and as the machine does
+end-counts : (e : Fit) → (kindOf e ∷ columnOf e ∷ []) ≡ endCounts e
+end-counts ended.Kept = refl
+end-counts (ended.Fitted pivot) = refl
+end-counts (ended.Fallback column) = refl
+end-counts ended.NoExponent = refl
+
+end-floats : (e : Fit) → (pivotOf e ∷ []) ≡ endFloats e
+end-floats ended.Kept = refl
+end-floats (ended.Fitted pivot) = refl
+end-floats (ended.Fallback column) = refl
+end-floats ended.NoExponent = refl
 
 -- the runs by sixteen pieces to a filled place, and what a turn leaves in them
 abbrev inner : Machine → List Float → List ℕ → Store
@@ -157,20 +173,20 @@ module _ (wd : ℕ) (fm : Width wd) (m : Machine) (v : Valid (m .mesh) (m .place
       let b : 0 - m .mesh .faces ≡ 0 = omega arith in
       rw (a, b) (ap (λ (t : List Float). getD (fit .sigma) j nan ∷ getD (fit .coefficient) j nan ∷ +0 ∷ t) (fresh-cells k fit n (suc j)))
 
-  put-in : (i : ℕ) (k : Kernel) (fit : Pieces) → i < 32
-      → result (record { reply = counted (fit .count ∷ need (m .mesh) fit ∷ []); floats = putFloats FS i k fit; words = putWords wd WS i fit }) ≡ shownIn xs ys (putTurn m i k fit)
+  put-in : (i : ℕ) (k : Kernel) (fit : Pieces) (end : Fit) → i < 32
+      → result (record { reply = placedWith (fit .count) (need (m .mesh) fit) end; floats = putFloats FS i k fit; words = putWords wd WS i fit }) ≡ shownIn xs ys (putTurn m i k fit end)
   unfolding putFloats putWords atFirst
-  put-in i k fit h =
+  put-in i k fit end h =
       let f = write-floats wd fm (m .mesh) (m .places) (v .places) (past m xs) i h (full k fit 0) in
       let g = rw (zero-div, zero-mod) at (write-words wd fm (m .mesh) (m .places) (v .places) ys i h (full k fit 0)) in
-      rw (faces-held, fresh-cells k fit 16 0, f, g) refl
+      rw (faces-held, fresh-cells k fit 16 0, f, g, end-counts end, end-floats end) refl
 
   put-held : (i : ℕ) (k : Kernel) → store wd (inner m xs ys) (put i k) ≡ shownIn xs ys (machine m (put i k))
   unfolding store machine putStep
   put-held i k = go (decLt i 32)
     where
       go : Dec (i < 32) → store wd (inner m xs ys) (put i k) ≡ shownIn xs ys (machine m (put i k))
-      go (yes h) = rw (place-in i h, lt-ltb i 32 h, radius-held, faces-held) (put-in i k (decomposed k (m .mesh .radius)) h)
+      go (yes h) = rw (place-in i h, lt-ltb i 32 h, radius-held, faces-held) (put-in i k (decomposed k (m .mesh .radius)) (fitOf k (m .mesh .radius)) h)
       go (no h) = rw (place-out i (omega arith), le-ltb i 32 (omega arith)) refl
 
   -- ---- advance
@@ -260,7 +276,7 @@ module _ (m : Machine) (v : Valid (m .mesh) (m .places)) where
   still-reweigh : (i : ℕ) (w : Float) (r : Refusal) → Kept m (reweigh i w) (turn m (refused r))
   still-reweigh i w r = record { valid = v; balance = refl; charged = omega arith }
 
-  keep-put : (i : ℕ) (k : Kernel) → i < 32 → Kept m (put i k) (putTurn m i k (decomposed k (m .mesh .radius)))
+  keep-put : (i : ℕ) (k : Kernel) → i < 32 → Kept m (put i k) (putTurn m i k (decomposed k (m .mesh .radius)) (fitOf k (m .mesh .radius)))
   keep-put i k h =
       let fit = decomposed k (m .mesh .radius) in
       let z = left-set (m .mesh) (m .places) i (full k fit 0) (rw (v .places) h) in

@@ -7,7 +7,7 @@ use Prim.Native.Nat.{ℕ, zero, suc, _+_, _*_, _-_, _/_, _<_, min}
 use native.Mathlib.Omega.{arith}
 use lib.Dec.{ltb, eqb}
 use lib.ListN.{length, getD, drop, length-map, List·getD-map}
-use lib.Ieee.{Float, nan, inf, fin, neg, ofBits}
+use lib.Ieee.{Float, nan, inf, fin, neg, ofBits, ne}
 use Rattle.base.specs.Floats.{_⊕_, _⊗_, +0, abs, greater}
 use Rattle.base.specs.SignLaws.{abs-neg}
 use Rattle.base.specs.Loops.{iterate}
@@ -30,7 +30,10 @@ use Rattle.density.specs.Densitize.{densityOf, densitizeOf, densitized}
 use Rattle.density.specs.EvenLaws.{density-abs}
 use Rattle.density.specs.Conventions.{bulkOf, rho0Scale, appliedScale}
 use Rattle.pieces.specs.declared.pieces.Pieces.{Pieces}
-use Rattle.pieces.specs.Pieces.{delta, stays, sizeOf, curveOf, itself, fitted, decomposed, pieceAlpha}
+use Rattle.pieces.specs.Pieces.{delta, stays, sizeOf, curveOf, itself, solvedBy, fitted, decomposed, pieceAlpha}
+use Rattle.pieces.specs.FitEnd.{endedFit, fitOf}
+use Rattle.pieces.specs.declared.fit.Fit.{Fit}
+use Rattle.pieces.specs.declared.fit.Fit.the-variants.{Kept, NoExponent}
 use Rattle.pieces.specs.Kernels.{pieceAt}
 use Rattle.mass.specs.Total.{fieldMass}
 use Rattle.mass.specs.Calls.{kernelVolumeCall, fieldMassCall}
@@ -211,6 +214,17 @@ fit-even k r = go (stays (k .alpha))
     go true = refl
     go false = refl
 
+end-even : (k : Kernel) (r : Float) → fitOf (unsigned k) r ≡ fitOf k r
+unfolding fitOf
+end-even k r = go (stays (k .alpha))
+  where
+    far : Kernel → Fit
+    far j = cond (ne (k .alpha) (k .alpha)) NoExponent (endedFit (solvedBy (sizeOf (delta (k .alpha)) .terms) (curveOf j r)))
+
+    go : (b : Bool) → cond b Kept (far (kernelBy b k)) ≡ cond b Kept (far k)
+    go true = refl
+    go false = refl
+
 worst-same : (r e : Float) (ks : List Kernel) → worstFrom r e (map unsigned ks) ≡ worstFrom r e ks
 worst-same r e [] = refl
 worst-same r e (k ∷ ks) =
@@ -360,12 +374,13 @@ unseen m (put i k) = by-turn m (put i k) (λ o. refl) (lift (ltb i placeLimit))
     r = m .mesh .radius
 
     lift : (b : Bool)
-        → cond b (putTurn (unsignedMachine m) i (unsigned k) (decomposed (unsigned k) r))
+        → cond b (putTurn (unsignedMachine m) i (unsigned k) (decomposed (unsigned k) r) (fitOf (unsigned k) r))
         (turn (unsignedMachine m) (refused NoPlace))
-        ≡ unsignedTurn (cond b (putTurn m i k (decomposed k r)) (turn m (refused NoPlace)))
+        ≡ unsignedTurn (cond b (putTurn m i k (decomposed k r) (fitOf k r)) (turn m (refused NoPlace)))
     lift true =
         rw (
           fit-even k r,
+          end-even k r,
           place-at (m .places) i,
           left-same (m .mesh) (getD (m .places) i empty),
           map-set unsignedPlace (m .places) i (full k (decomposed k r) 0),

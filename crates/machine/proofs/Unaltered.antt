@@ -17,7 +17,9 @@ use Rattle.volume.specs.Volume.{origin}
 use Rattle.kernel.specs.Field.{centreOf}
 use Rattle.kernel.specs.declared.kernel.Kernel.{Kernel}
 use Rattle.pieces.specs.declared.pieces.Pieces.{Pieces}
+use Rattle.pieces.specs.declared.fit.Fit.{Fit}
 use Rattle.pieces.specs.Pieces.{decomposed}
+use Rattle.pieces.specs.FitEnd.{fitOf}
 use Rattle.layout.specs.Layout.{placeLimit}
 use Rattle.readings.specs.Readings.{Reading, rawMass, answerOf}
 use Rattle.page.specs.Page.{Row, row, pageAnswer}
@@ -114,11 +116,14 @@ module _ (m : Machine) (xs : List Float) (ks : List ℕ) (w g : ℕ) where
       fit : Pieces
       fit = decomposed k (m .mesh .radius)
 
-      lift : (b : Bool) → cond b (putTurn (remade m xs ks w g) i k fit) (turn (remade m xs ks w g) (refused NoPlace)) ≡ lifted (cond b (putTurn m i k fit) (turn m (refused NoPlace))) xs ks w g
+      end : Fit
+      end = fitOf k (m .mesh .radius)
+
+      lift : (b : Bool) → cond b (putTurn (remade m xs ks w g) i k fit end) (turn (remade m xs ks w g) (refused NoPlace)) ≡ lifted (cond b (putTurn m i k fit end) (turn m (refused NoPlace))) xs ks w g
       lift true = rw (left-same (m .mesh) xs ks w (getD (m .places) i empty)) refl
       lift false = refl
 
-      stays : (b : Bool) → cond b (putTurn m i k fit) (turn m (refused NoPlace)) .next .mesh ≡ m .mesh
+      stays : (b : Bool) → cond b (putTurn m i k fit end) (turn m (refused NoPlace)) .next .mesh ≡ m .mesh
       stays true = refl
       stays false = refl
 

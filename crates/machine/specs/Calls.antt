@@ -11,6 +11,7 @@ use Rattle.base.specs.Answers.{Answer, refused, Outcome}
 use Rattle.base.specs.declared.refusal.Refusal.the-variants.{NoPlace, Unfinished}
 use Rattle.kernel.specs.declared.kernel.Kernel.{Kernel}
 use Rattle.pieces.specs.Pieces.{decomposed}
+use Rattle.pieces.specs.FitEnd.{fitOf}
 use Rattle.layout.specs.Layout.{placeLimit}
 use Rattle.layout.specs.After.{After}
 use Rattle.store.specs.Calls.{clearStep, reweighStep}
@@ -69,7 +70,7 @@ abbrev pub posted : Machine → Paged → Turn
 posted m a = record { next = m; reply = a .reply; out = []; page = a .page }
 
 unfoldable pub machine : Machine → Call → Turn
-machine m (put i k) = inPlace m i (putTurn m i k (decomposed k (m .mesh .radius)))
+machine m (put i k) = inPlace m i (putTurn m i k (decomposed k (m .mesh .radius)) (fitOf k (m .mesh .radius)))
 machine m (clear i) = inPlace m i (clearTurn m i (getD (m .places) i empty))
 machine m (reweigh i v) = inPlace m i (reweighTurn m i v (getD (m .places) i empty))
 machine m (advance n) = advanceTurn m n

@@ -29,8 +29,8 @@ pub record Same (q : ℕ) (exF : List Float) (exW : List ℕ) (m : Machine) (s :
   -- the call is given runs that hold the machine, "whole"
   pub before : s ≡ holding m exF exW
   -- "Puts, clears, reweighs and advances are refused exactly when it refuses them, with its number; accepted puts
-  -- answer its pieces and need, advances its done and left": an answer is the number of a refusal and the values. A
-  -- squeeze answers how many coordinates it freed; of a reading and a page more is said below
+  -- answer its pieces and need, advances its done and left": an answer is the number of a refusal and the values, a
+  -- put's with how its fit ended. A squeeze answers how many coordinates it freed; of a reading and a page more is said below
   pub reply : store q s c .reply ≡ machine m c .reply
   -- each word of a run that is lent beside the store, and each byte of a page
   pub lent : store q s c .out ≡ machine m c .out

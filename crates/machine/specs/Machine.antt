@@ -5,10 +5,13 @@ use Prim.Native.Nat.{ℕ, zero, suc, _+_, _*_, _-_, _/_, _%_, min}
 use lib.Dec.{ltb, leb, eqb}
 use lib.ListN.{length, getD, set, replicate}
 use lib.Ieee.{Float}
+use Rattle.base.specs.Floats.{+0}
 use Rattle.base.specs.Loops.{iterate}
 use Rattle.base.specs.Answers.{Answer, refused, counted, done}
 use Rattle.base.specs.declared.refusal.Refusal.the-variants.{Vacant}
 use Rattle.kernel.specs.declared.kernel.Kernel.{Kernel}
+use Rattle.pieces.specs.declared.fit.Fit.{Fit}
+use Rattle.pieces.specs.declared.fit.Fit.the-variants.{Kept, Fitted, Fallback, NoExponent}
 use Rattle.pieces.specs.declared.pieces.Pieces.{Pieces}
 use Rattle.layout.specs.Layout.{placeLimit}
 use Rattle.store.specs.Squeeze.{used, pointOf}
@@ -107,12 +110,27 @@ openRow q xs ks a b =
     -- "below 1,761+3V floats or 98+3F words": 98 is 2 + 32q
     (cond (ltb a (1761 + 3 * v) || ltb b (2 + 32 * q + 3 * f)) 4 0)))
 
--- "Put: charged += need, dropped += the old need - p (0 for an empty place), p = 0. Answers pieces and need."
-abbrev pub putTurn : Machine → ℕ → Kernel → Pieces → Turn
-putTurn m i k fit =
+-- 02, L4: "put answers one of kept, fitted with that pivot, fallback with that column, or no exponent": which one and
+-- the column, then the pivot
+abbrev pub endCounts : Fit → List ℕ
+endCounts Kept = 0 ∷ 0 ∷ []
+endCounts (Fitted pivot) = 1 ∷ 0 ∷ []
+endCounts (Fallback column) = 2 ∷ column ∷ []
+endCounts NoExponent = 3 ∷ 0 ∷ []
+
+abbrev pub endFloats : Fit → List Float
+endFloats Kept = +0 ∷ []
+endFloats (Fitted pivot) = pivot ∷ []
+endFloats (Fallback column) = +0 ∷ []
+endFloats NoExponent = +0 ∷ []
+
+-- "Put: charged += need, dropped += the old need - p (0 for an empty place), p = 0. Answers pieces and need", and how
+-- the fit ended, which the place does not keep
+abbrev pub putTurn : Machine → ℕ → Kernel → Pieces → Fit → Turn
+putTurn m i k fit end =
     let old = getD (m .places) i empty in
     turn (with-places m (set (m .places) i (full k fit 0)) (need (m .mesh) fit) (leftPlace (m .mesh) old))
-    (counted (fit .count ∷ need (m .mesh) fit ∷ []))
+    (record { refusal = 0; counts = fit .count ∷ need (m .mesh) fit ∷ endCounts end; floats = endFloats end })
 
 -- "Clear: dropped += need - p; empty."
 abbrev pub clearTurn : Machine → ℕ → Place → Turn

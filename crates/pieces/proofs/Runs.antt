@@ -8,8 +8,10 @@ use lib.Ieee.{Float}
 use Rattle.base.specs.declared.refusal.Refusal.the-variants.{ShortList}
 use Rattle.kernel.specs.declared.kernel.Kernel.{Kernel}
 use Rattle.base.specs.Answers.{refused, outcome}
+use Rattle.pieces.specs.declared.fit.Fit.{Fit}
 use Rattle.pieces.specs.declared.pieces.Pieces.{Pieces}
 use Rattle.pieces.specs.Pieces.{decomposed}
+use Rattle.pieces.specs.FitEnd.{fitOf}
 use Rattle.pieces.specs.PieceLaws.{at-most-16}
 use Rattle.pieces.specs.Kernels.{laid, fitted, decomposition}
 
@@ -21,6 +23,7 @@ module _ (k : Kernel) (radius : Float) (p : Pieces) (e : p ≡ decomposed k radi
   unfolding decomposition
   refuses xs h = rw (← e, lt-leb (6 * p .count) (length xs) h) refl
 
-  pub writes : (xs ys : List Float) → 6 * p .count ≤ length xs → ys ≡ laid 0 k p xs → outcome (fitted (p .count) (p .error)) ys ≡ decomposition k radius xs
+  pub writes : (fit : Fit) → fit ≡ fitOf k radius → (xs ys : List Float) → 6 * p .count ≤ length xs → ys ≡ laid 0 k p xs
+      → outcome (fitted (p .count) (p .error) fit) ys ≡ decomposition k radius xs
   unfolding decomposition
-  writes xs ys h l = rw (← e, le-leb (6 * p .count) (length xs) h) (ap (outcome (fitted (p .count) (p .error))) l)
+  writes fit f xs ys h l = rw (← e, ← f, le-leb (6 * p .count) (length xs) h) (ap (outcome (fitted (p .count) (p .error) fit)) l)

@@ -87,7 +87,7 @@ ridged terms m = times ridgeAt terms 0 m
 
 -- the solution, laid over xs; "Fallback when solve fails: coefficient 1 at terms/2"
 unfoldable pub coefficientsOf : ℕ → List Float → Ended → List Float
-coefficientsOf terms xs (reduced m) = answers terms m xs
+coefficientsOf terms xs (reduced s m) = answers terms m xs
 coefficientsOf terms xs (flat c) = set xs (terms / 2) one
 
 -- ---- the peak error

@@ -8,10 +8,12 @@ use Rattle.base.specs.Loops.{times}
 use Rattle.base.specs.Answers.{Answer, refused, Outcome, outcome, guardedRun, roomCheck}
 use Rattle.kernel.specs.declared.kernel.Kernel.{Kernel}
 use Rattle.kernel.specs.Kernels.{kernelSet}
+use Rattle.pieces.specs.declared.fit.Fit.{Fit}
 use Rattle.pieces.specs.declared.pieces.Pieces.{Pieces}
 use Rattle.pieces.specs.declared.kernels.Decomposed.{Decomposed}
 use Rattle.pieces.specs.declared.kernels.Decomposed.the-variants.{Written, Refused}
 use Rattle.pieces.specs.Pieces.{decomposed, pieceAlpha}
+use Rattle.pieces.specs.FitEnd.{fitOf, kindOf, columnOf, pivotOf}
 
 -- piece i of a kernel: its centre, the piece's sigma, "its weight is w times the coefficient"
 unfoldable pub pieceAt : Kernel → Pieces → ℕ → Kernel
@@ -24,17 +26,17 @@ layAt n k p i xs = kernelSet xs (n + i) (pieceAt k p i)
 unfoldable pub laid : ℕ → Kernel → Pieces → List Float → List Float
 laid n k p xs = times (layAt n k p) (p .count) 0 xs
 
--- the count of pieces and the peak error
-abbrev pub fitted : ℕ → Float → Answer
-fitted n e = record { refusal = 0; counts = n ∷ []; floats = e ∷ [] }
+-- the count of pieces and the peak error, with how the fit ended
+abbrev pub fitted : ℕ → Float → Fit → Answer
+fitted n e fit = record { refusal = 0; counts = n ∷ kindOf fit ∷ columnOf fit ∷ []; floats = e ∷ pivotOf fit ∷ [] }
 
--- row 9: "run to be written under 6 floats per piece"
+-- row 9: "run to be written under 6 floats per piece"; 02, L4: "Decomposition passes this on"
 unfoldable pub decomposition : Kernel → Float → List Float → Outcome
 decomposition k radius xs =
     guardedRun (roomCheck (6 * decomposed k radius .count) (length xs)) xs
-    (outcome (fitted (decomposed k radius .count) (decomposed k radius .error)) (laid 0 k (decomposed k radius) xs))
+    (outcome (fitted (decomposed k radius .count) (decomposed k radius .error) (fitOf k radius)) (laid 0 k (decomposed k radius) xs))
 
 -- 01's number and values for each case of the code's answer
 abbrev pub decomposedAs : Decomposed → Answer
-decomposedAs (Written n e) = fitted n e
+decomposedAs (Written n e fit) = fitted n e fit
 decomposedAs (Refused r) = refused r

@@ -1,7 +1,9 @@
 pub mod Pieces
+pub mod FitEnd
 pub mod Kernels
 pub mod Lists
 pub mod PieceLaws
+pub mod FitEndLaws
 pub mod Rows
 pub mod Fit
 pub mod Samples

@@ -8,7 +8,7 @@ use Rattle.base.specs.Floats.{_⊖_, _⊗_, +0, abs, greater}
 use Rattle.base.specs.Constants.{one, stayLimit, keepLimit}
 use Rattle.base.specs.Loops.{times}
 use Rattle.powers.specs.Power.{log10}
-use Rattle.solve.specs.Elimination.{eliminated}
+use Rattle.solve.specs.Elimination.{Ended, eliminated}
 use Rattle.solve.specs.Solve.{blank}
 use Rattle.pieces.specs.Fit.{zeros, scalesOf, equations, ridged, coefficientsOf, peakError}
 use Rattle.kernel.specs.declared.kernel.Kernel.{Kernel}
@@ -65,11 +65,15 @@ keepAt sigma scales coefs i p = keep p (sigma ⊗ getD scales i nan) (getD coefs
 unfoldable pub kept : ℕ → Float → List Float → List Float → Pieces → Pieces
 kept terms sigma scales coefs p = times (keepAt sigma scales coefs) terms 0 p
 
+-- the normal equations of a curve and this many terms, and how their elimination ended
+abbrev pub solvedBy : ℕ → Curve → Ended
+solvedBy terms curve = eliminated terms (ridged terms (equations terms (scalesOf terms zeros) curve blank))
+
 -- the fit of a curve by this many terms, and the pieces kept of it
 unfoldable pub fitted : ℕ → Curve → Float → Pieces
 fitted terms curve sigma =
     let scales = scalesOf terms zeros in
-    let coefs = coefficientsOf terms zeros (eliminated terms (ridged terms (equations terms scales curve blank))) in
+    let coefs = coefficientsOf terms zeros (solvedBy terms curve) in
     kept terms sigma scales coefs (none (peakError terms scales coefs curve))
 
 -- a kernel's pieces on a body of this radius

@@ -5,6 +5,7 @@ ghost use Prim.Native.Nat.{_+_, _*_, _<_, _≤_};
 ghost use lib.ListN.{length};
 ghost use Rattle.base.specs.Answers.{outcome};
 ghost use Rattle.pieces.specs.Kernels.{pieceAt, laid, decomposedAs, decomposition};
+use crate::fit::Fit;
 use crate::pieces::Pieces;
 use crate::pieces::decompose;
 use crate::pieces::piece_alpha;
@@ -12,9 +13,10 @@ use base::refusal::Refusal;
 use kernel::kernel::Kernel;
 use kernel::kernel::write_kernel;
 
-// How a decomposition was answered: so many pieces are written, with the fit's peak error; or a refusal.
+// How a decomposition was answered: so many pieces are written, with the fit's peak error and how it ended; or
+// a refusal.
 pub enum Decomposed {
-    Written(usize, f64),
+    Written(usize, f64, Fit),
     Refused(Refusal),
 }
 
@@ -50,10 +52,12 @@ pub fn lay_pieces(out: &mut [f64], at: usize, k: Kernel, p: Pieces)
 pub fn decompose_into(k: Kernel, radius: f64, out: &mut [f64]) -> Decomposed
     ensures { λ r. ⌜ outcome (decomposedAs r) (now (out .exit)) ≡ decomposition k radius (now (out .entry)) ⌝ }
 {
-    let p = decompose(k, radius);
+    let d = decompose(k, radius);
+    let p = d.pieces;
+    let fit = d.fit;
     if out.len() < 6 * p.count {
         return Decomposed::Refused(Refusal::ShortList);
     }
     lay_pieces(out, 0, k, p);
-    Decomposed::Written(p.count, p.error)
+    Decomposed::Written(p.count, p.error, fit)
 }

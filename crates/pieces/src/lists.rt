@@ -38,7 +38,7 @@ fn has_room(kernels: &[f64], radius: f64, n: usize, room: usize) -> bool
     let mut left = room;
     let mut i = 0;
     while i < n {
-        let p = decompose(kernel_at(kernels, i), radius);
+        let p = decompose(kernel_at(kernels, i), radius).pieces;
         if left < p.count {
             return false;
         }
@@ -58,7 +58,7 @@ fn write_pieces(kernels: &[f64], radius: f64, n: usize, out: &mut [f64]) -> Deco
     let mut i = 0;
     while i < n {
         let k = kernel_at(kernels, i);
-        let p = decompose(k, radius);
+        let p = decompose(k, radius).pieces;
         lay_pieces(out, pieces, k, p);
         pieces += p.count;
         error = greater_of(error, p.error);

@@ -4,7 +4,9 @@ ghost use mathlib.Core.Path.{_≡_};
 ghost use Prim.Native.Nat.{_≤_};
 ghost use Rattle.solve.specs.Elimination.{eliminated};
 ghost use Rattle.pieces.specs.Fit.{zeros, termOf, basisOf, crossed, targetAt, sampled, equations, ridged, coefficientsOf};
+ghost use Rattle.pieces.specs.FitEnd.{endedFit};
 ghost use Rattle.pieces.specs.Samples.{Samples};
+use crate::fit::Fit;
 use crate::points::Curve;
 use solve::eliminate::Elimination;
 use solve::eliminate::eliminate;
@@ -95,18 +97,21 @@ pub fn add_ridge(m: &mut [[f64; 17]; 16], terms: usize)
     }
 }
 
-// Solves the normal equations for the coefficients; where that fails, one term stands for all.
-pub fn solve_for(coefficients: &mut [f64; 16], m: &mut [[f64; 17]; 16], terms: usize)
+// Solves the normal equations for the coefficients, and tells how; where that fails, one term stands for all.
+pub fn solve_for(coefficients: &mut [f64; 16], m: &mut [[f64; 17]; 16], terms: usize) -> Fit
     requires { ⌜ terms ≤ 16 ⌝ }
     ensures { λ _. ⌜ now (coefficients .exit) ≡ coefficientsOf terms (now (coefficients .entry)) (eliminated terms (now (m .entry))) ⌝ }
+    ensures { λ r. ⌜ r ≡ endedFit (eliminated terms (now (m .entry))) ⌝ }
 {
     let end = eliminate(m, terms);
     match end {
-        Elimination::Reduced => {
+        Elimination::Reduced(pivot) => {
             copy_out(m, terms, coefficients);
+            Fit::Fitted(pivot)
         }
-        Elimination::Flat(_) => {
+        Elimination::Flat(column) => {
             coefficients[terms / 2] = 1.0;
+            Fit::Fallback(column)
         }
     }
 }

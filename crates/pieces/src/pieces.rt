@@ -2,8 +2,10 @@
 ghost use mathlib.Core.Path.{_≡_};
 ghost use Prim.Native.Nat.{_<_, _≤_};
 ghost use Rattle.pieces.specs.Samples.{Samples};
-ghost use Rattle.pieces.specs.Pieces.{sizeOf, keep, kept, fitted, decomposed, pieceAlpha};
+ghost use Rattle.pieces.specs.Pieces.{sizeOf, keep, kept, solvedBy, fitted, decomposed, pieceAlpha};
+ghost use Rattle.pieces.specs.FitEnd.{endedFit, fitOf};
 use crate::error::peak_error;
+use crate::fit::Fit;
 use crate::normal::add_ridge;
 use crate::normal::add_samples;
 use crate::normal::solve_for;
@@ -29,6 +31,12 @@ pub struct Pieces {
     pub sigma: [f64; 16],
     pub coefficient: [f64; 16],
     pub error: f64,
+}
+
+// The pieces of a kernel, and how their fit ended.
+pub struct Decomposition {
+    pub pieces: Pieces,
+    pub fit: Fit,
 }
 
 // The size of the fit of an exponent that is delta away from 1.
@@ -96,9 +104,9 @@ fn fit_samples(
     us: &[f64; 48],
     targets: &[f64; 48],
     sigma: f64,
-) -> Pieces
+) -> Decomposition
     requires { ⌜ (terms ≤ 16) × (terms ≡ 1 → ⊥) × (curve .samples ≤ 48) × Samples curve (now us) (now targets) ⌝ }
-    ensures { λ r. ⌜ r ≡ fitted terms curve sigma ⌝ }
+    ensures { λ r. ⌜ (r .pieces ≡ fitted terms curve sigma) × (r .fit ≡ endedFit (solvedBy terms curve)) ⌝ }
 {
     let mut scales = [0.0; 16];
     fill_scales(&mut scales, terms);
@@ -107,20 +115,21 @@ fn fit_samples(
     add_samples(&mut m, terms, &scales, curve, us, targets);
     add_ridge(&mut m, terms);
     let mut coefficients = [0.0; 16];
-    solve_for(&mut coefficients, &mut m, terms);
+    let fit = solve_for(&mut coefficients, &mut m, terms);
     let none = Pieces {
         count: 0,
         sigma: [0.0; 16],
         coefficient: [0.0; 16],
         error: peak_error(terms, &scales, &coefficients, curve, us, targets),
     };
-    keep_pieces(none, terms, sigma, &scales, &coefficients)
+    let pieces = keep_pieces(none, terms, sigma, &scales, &coefficients);
+    Decomposition { pieces, fit }
 }
 
 // Samples the curve and fits it.
-fn fit(terms: usize, curve: Curve, sigma: f64) -> Pieces
+fn fit(terms: usize, curve: Curve, sigma: f64) -> Decomposition
     requires { ⌜ (terms ≤ 16) × (terms ≡ 1 → ⊥) × (1 < curve .samples) × (curve .samples ≤ 48) ⌝ }
-    ensures { λ r. ⌜ r ≡ fitted terms curve sigma ⌝ }
+    ensures { λ r. ⌜ (r .pieces ≡ fitted terms curve sigma) × (r .fit ≡ endedFit (solvedBy terms curve)) ⌝ }
 {
     let mut us = [0.0; 48];
     fill_points(&mut us, curve);
@@ -129,21 +138,21 @@ fn fit(terms: usize, curve: Curve, sigma: f64) -> Pieces
     fit_samples(terms, curve, &us, &targets, sigma)
 }
 
-// The pieces of a kernel on a body of this radius.
-pub fn decompose(k: Kernel, radius: f64) -> Pieces
-    ensures { λ r. ⌜ r ≡ decomposed k radius ⌝ }
+// The pieces of a kernel on a body of this radius, and how their fit ended.
+pub fn decompose(k: Kernel, radius: f64) -> Decomposition
+    ensures { λ r. ⌜ (r .pieces ≡ decomposed k radius) × (r .fit ≡ fitOf k radius) ⌝ }
 {
     let delta = abs(k.alpha - 1.0);
     if delta <= 1e-9 {
-        let mut out = Pieces {
+        let mut pieces = Pieces {
             count: 1,
             sigma: [0.0; 16],
             coefficient: [0.0; 16],
             error: 0.0,
         };
-        out.sigma[0] = k.sigma;
-        out.coefficient[0] = 1.0;
-        return out;
+        pieces.sigma[0] = k.sigma;
+        pieces.coefficient[0] = 1.0;
+        return Decomposition { pieces, fit: Fit::Kept };
     }
     let size = size_of(delta);
     let reach = log10(greater_of(1.0, k.sigma * greater_of(1.0, radius)));
@@ -152,7 +161,15 @@ pub fn decompose(k: Kernel, radius: f64) -> Pieces
         samples: size.samples,
         reach,
     };
-    fit(size.terms, curve, k.sigma)
+    let d = fit(size.terms, curve, k.sigma);
+    if k.alpha != k.alpha {
+        let pieces = d.pieces;
+        return Decomposition {
+            pieces,
+            fit: Fit::NoExponent,
+        };
+    }
+    d
 }
 
 // The exponent of every piece of a kernel of exponent alpha.

@@ -8,7 +8,7 @@ use Rattle.base.specs.Constants.{flatLimit}
 use Rattle.base.specs.Loops.{times}
 use Rattle.base.specs.LoopLaws.{Left, turn}
 use Rattle.solve.specs.declared.eliminate.Pivot.{Pivot}
-use Rattle.solve.specs.Elimination.{Matrix, better, pivotOf, exchanged, scaled, swept, Ended, reduced, flat, columnAt}
+use Rattle.solve.specs.Elimination.{Matrix, better, pivotOf, exchanged, scaled, swept, Ended, reduced, flat, smaller, columnAt}
 
 -- the better of two candidates has one of the two rows
 pub better-below : (p : Pivot) (row : ℕ) (v : Float) {n : ℕ} → p .row < n → row < n → better p row v .row < n
@@ -22,15 +22,16 @@ stays n zero i c = refl
 stays n (suc k) i c = stays n k (suc i) c
 
 -- a flat pivot ends the elimination
-pub stops : {n col : ℕ} {m : Matrix} {w : Ended} → Left (columnAt n) n col (reduced m) w → col < n
+pub stops : {n col : ℕ} {s : Float} {m : Matrix} {w : Ended} → Left (columnAt n) n col (reduced s m) w → col < n
     → le (pivotOf n col m .value) flatLimit ≡ true → flat col ≡ w
 unfolding columnAt
-stops {n} {col} {m} {w} l h e =
-    let f : columnAt n col (reduced m) ≡ flat col = simp e in
+stops {n} {col} {s} {m} {w} l h e =
+    let f : columnAt n col (reduced s m) ≡ flat col = simp e in
     sym (stays n (n - (col + 1)) (col + 1) col) ∙ (rw f at (turn l h .same))
 
 -- a column whose pivot is not flat, step by step
-pub passes : (n col : ℕ) (m m₁ m₂ m₃ : Matrix) (p : Pivot) → p ≡ pivotOf n col m → le (p .value) flatLimit ≡ false
-    → m₁ ≡ exchanged col (p .row) m → m₂ ≡ scaled n col m₁ → m₃ ≡ swept n col m₂ → reduced m₃ ≡ columnAt n col (reduced m)
+pub passes : (n col : ℕ) (s s₁ : Float) (m m₁ m₂ m₃ : Matrix) (p : Pivot) → p ≡ pivotOf n col m → le (p .value) flatLimit ≡ false
+    → m₁ ≡ exchanged col (p .row) m → m₂ ≡ scaled n col m₁ → m₃ ≡ swept n col m₂ → s₁ ≡ smaller s (p .value)
+    → reduced s₁ m₃ ≡ columnAt n col (reduced s m)
 unfolding columnAt
-passes n col m m₁ m₂ m₃ p b e h₁ h₂ h₃ = simp (sym b, e, h₃, h₂, h₁)
+passes n col s s₁ m m₁ m₂ m₃ p b e h₁ h₂ h₃ h₄ = simp (sym b, e, h₄, h₃, h₂, h₁)

@@ -1,16 +1,15 @@
 -- The solver's answer where the matrix is not refused, and rows within a run. Assumes nothing.
 use mathlib.Core.Path.{_≡_}
-use mathlib.Core.List.{List}
+use mathlib.Core.List.{List, [], _∷_}
 use Prim.Native.Nat.{ℕ, suc, _+_, _*_, _≤_, _<_}
 use native.Mathlib.Nat.{mul-le-mul-right, suc-mul, le-trans}
 use native.Mathlib.Omega.{arith}
 use borrow.Author.Tests.{eq-eqb, le-ltb}
 use lib.ListN.{length}
 use lib.Ieee.{Float}
-use Rattle.base.specs.declared.refusal.Refusal.the-variants.{FlatPivot}
-use Rattle.base.specs.Answers.{done, refused, outcome}
+use Rattle.base.specs.Answers.{accepted, outcome}
 use Rattle.solve.specs.Elimination.{Matrix, eliminated, endedAs}
-use Rattle.solve.specs.Solve.{loaded, answers, blank, concluded, solution}
+use Rattle.solve.specs.Solve.{loaded, answers, blank, flatAt, concluded, solution}
 use Rattle.solve.specs.declared.eliminate.Elimination.{Elimination}
 use Rattle.solve.specs.declared.eliminate.Elimination.the-variants.{Reduced, Flat}
 
@@ -30,10 +29,10 @@ module _ (n : ℕ) (cells xs : List Float) (m₁ m₂ : Matrix) (r : Elimination
   unfolding solution
   concludes = simp (le-ltb 16 n small, eq-eqb (length cells) (n * (n + 1)) whole, le-ltb (length xs) n room, ended, read)
 
-  pub solves : {ys : List Float} → r ≡ Reduced → ys ≡ answers n m₂ xs → outcome done ys ≡ solution n cells xs
+  pub solves : {s : Float} {ys : List Float} → r ≡ Reduced s → ys ≡ answers n m₂ xs → outcome (accepted (s ∷ [])) ys ≡ solution n cells xs
   unfolding concluded
   solves e h = simp (h, concludes, e)
 
-  pub refuses : {k : ℕ} → r ≡ Flat k → outcome (refused FlatPivot) xs ≡ solution n cells xs
+  pub refuses : {k : ℕ} → r ≡ Flat k → outcome (flatAt k) xs ≡ solution n cells xs
   unfolding concluded
   refuses e = simp (concludes, e)

@@ -1,10 +1,10 @@
--- 01, "Solve": the choice of pivot and the elimination, on a matrix that is a list of rows. Definitions only.
+-- 01, "Solve": the choice of pivot and the elimination, on a matrix that is a list of rows; 02, L4: what it tells of its pivots. Definitions only.
 use Prim.Native.Nat.{ℕ, _+_, _-_}
-use mathlib.Core.Bool.{cond}
+use mathlib.Core.Bool.{false, cond, _||_}
 use mathlib.Core.List.{List, []}
 use lib.Dec.{eqb}
 use lib.ListN.{getD, set}
-use lib.Ieee.{Float, nan, lt, le}
+use lib.Ieee.{Float, nan, inf, lt, le, ne}
 use Rattle.base.specs.Floats.{_⊖_, _⊗_, _⊘_, abs}
 use Rattle.base.specs.Constants.{flatLimit, skipLimit}
 use Rattle.base.specs.Loops.{times}
@@ -72,20 +72,30 @@ column n col p m = swept n col (scaled n col (exchanged col p m))
 
 -- ---- all columns
 
--- how an elimination ended: with a reduced matrix, or at the column of a flat pivot
+-- how an elimination ended: with its smallest accepted pivot and a reduced matrix, or at the column of a flat pivot, "counted from 0"
 pub data Ended : Type 0 where
-  reduced : Matrix → Ended
+  reduced : Float → Matrix → Ended
   flat : ℕ → Ended
 
--- "leaves all its loops when a pivot's absolute value is at most 1e-18"
+-- the smallest pivot s with one more, v: "A NaN pivot makes the reported one NaN", and no later one is below a NaN
+unfoldable pub smaller : Float → Float → Float
+smaller s v = cond (lt v s || ne v v) v s
+
+-- "leaves all its loops when a pivot's absolute value is at most 1e-18"; any other is accepted, a NaN too, and divided by
 unfoldable pub columnAt : ℕ → ℕ → Ended → Ended
 columnAt n col (flat c) = flat c
-columnAt n col (reduced m) = cond (le (pivotOf n col m .value) flatLimit) (flat col) (reduced (column n col (pivotOf n col m .row) m))
+columnAt n col (reduced s m) =
+    let p = pivotOf n col m in
+    cond (le (p .value) flatLimit) (flat col) (reduced (smaller s (p .value)) (column n col (p .row) m))
+
+-- "For n = 0 the smallest pivot is +inf"
+abbrev pub noPivot : Float
+noPivot = inf false
 
 unfoldable pub eliminated : ℕ → Matrix → Ended
-eliminated n m = times (columnAt n) n 0 (reduced m)
+eliminated n m = times (columnAt n) n 0 (reduced noPivot m)
 
 -- what the answer of `eliminate` says, with the matrix beside it
 abbrev pub endedAs : Elimination → Matrix → Ended
-endedAs Reduced m = reduced m
+endedAs (Reduced s) m = reduced s m
 endedAs (Flat c) m = flat c

@@ -1,3 +1,4 @@
 pub mod Elimination
 pub mod Solve
 pub mod Rows
+pub mod PivotLaws

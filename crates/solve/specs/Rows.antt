@@ -7,21 +7,20 @@ use mathlib.Core.Bool.{true}
 use mathlib.Core.List.{List, [], _∷_}
 use lib.ListN.{length, getD}
 use lib.Seq.{getD-set-other}
-use lib.Ieee.{Float, nan, ofBits, lt, le, eq, sub, mul, div}
-use Rattle.base.specs.Answers.{done, refused, Outcome, outcome}
+use lib.Ieee.{Float, nan, ofBits, lt, le, eq, ne, sub, mul, div}
+use Rattle.base.specs.Answers.{accepted, Outcome, outcome}
 use Rattle.base.specs.Floats.{+0, bits, abs}
 use Rattle.base.specs.Constants.{one, two, three, four, flatLimit}
 use Rattle.base.specs.Loops.{times}
 use Rattle.base.specs.ChoiceLaws.{cond-of}
 use Rattle.base.specs.OrderLaws.{lt-nan, eq-not-lt}
-use Rattle.base.specs.declared.refusal.Refusal.the-variants.{FlatPivot}
 use Rattle.solve.specs.declared.eliminate.Pivot.{Pivot}
-use Rattle.solve.specs.Elimination.{Matrix, cell, Ended, reduced, flat, better, pivotOf, over, less, cleared, swept, columnAt, eliminated}
-use Rattle.solve.specs.Solve.{badMatrix, answerAt, rowOf, loaded, answers, concluded, solution}
+use Rattle.solve.specs.Elimination.{Matrix, cell, Ended, reduced, flat, better, pivotOf, over, less, cleared, swept, smaller, columnAt, noPivot, eliminated}
+use Rattle.solve.specs.Solve.{badMatrix, flatAt, answerAt, rowOf, loaded, answers, concluded, solution}
 
 -- opens every definition on the way of a computed row
 unfoldable rows : ℕ
-unfolding solution times abs better pivotOf over less cleared swept columnAt eliminated rowOf loaded answers concluded ofBits lt le sub mul div
+unfolding solution times abs better pivotOf over less cleared swept smaller columnAt eliminated rowOf loaded answers concluded ofBits lt le ne eq sub mul div
 rows = 0
 
 abbrev five : Float
@@ -29,23 +28,23 @@ five = bits 0x4014_0000_0000_0000
 
 -- ---- 01's rows
 
--- "[2|4] solves to 2"
-pub one-row : solution 1 (two ∷ four ∷ []) (+0 ∷ []) ≡ outcome done (two ∷ [])
+-- "[2|4] solves to 2", with the pivot 2
+pub one-row : solution 1 (two ∷ four ∷ []) (+0 ∷ []) ≡ outcome (accepted (two ∷ [])) (two ∷ [])
 unfolding rows
 one-row = refl
 
--- "[1e-18|1] is 11"
-pub flat-row : solution 1 (flatLimit ∷ one ∷ []) (+0 ∷ []) ≡ outcome (refused FlatPivot) (+0 ∷ [])
+-- "[1e-18|1] is 11", in column 0
+pub flat-row : solution 1 (flatLimit ∷ one ∷ []) (+0 ∷ []) ≡ outcome (flatAt 0) (+0 ∷ [])
 unfolding rows
 flat-row = refl
 
--- "[1 1|3],[1 2|5] gives 1, 2"; a word past them stays
-pub two-rows : solution 2 (one ∷ one ∷ three ∷ one ∷ two ∷ five ∷ []) (+0 ∷ +0 ∷ four ∷ []) ≡ outcome done (one ∷ two ∷ four ∷ [])
+-- "[1 1|3],[1 2|5] gives 1, 2", with pivots of 1 both; a word past them stays
+pub two-rows : solution 2 (one ∷ one ∷ three ∷ one ∷ two ∷ five ∷ []) (+0 ∷ +0 ∷ four ∷ []) ≡ outcome (accepted (one ∷ [])) (one ∷ two ∷ four ∷ [])
 unfolding rows
 two-rows = refl
 
--- "n = 0 succeeds, writing nothing"
-pub no-rows : (xs : List Float) → solution 0 [] xs ≡ outcome done xs
+-- "n = 0 succeeds, writing nothing"; "For n = 0 the smallest pivot is +inf"
+pub no-rows : (xs : List Float) → solution 0 [] xs ≡ outcome (accepted (noPivot ∷ [])) xs
 unfolding rows
 no-rows xs = simp (le-ltb (length xs) 0 zero-le)
 
@@ -58,7 +57,7 @@ answers-past n m (suc k) row xs i h = answers-past n m k (suc row) (answerAt n m
 
 concluded-past : (n : ℕ) (xs : List Float) (e : Ended) (i : ℕ) → n ≤ i → getD (concluded n xs e .out) i nan ≡ getD xs i nan
 unfolding concluded answers
-concluded-past n xs (reduced m) i h = answers-past n m n 0 xs i (omega arith)
+concluded-past n xs (reduced s m) i h = answers-past n m n 0 xs i (omega arith)
 concluded-past n xs (flat c) i h = refl
 
 -- "Words of the answer past n are untouched"

@@ -1,17 +1,18 @@
--- 01, "Solve (`solve_linear_system`)": the runs, the refusals and the answer. Definitions only.
+-- 01, "Solve (`solve_linear_system`)": the runs, the refusals and the answer, with the pivot and the column of 02's L4. Definitions only.
 use Prim.Native.Nat.{ℕ, _+_, _*_}
 use mathlib.Core.Bool.{Bool, cond, not, _||_}
-use mathlib.Core.List.{List, []}
+use mathlib.Core.List.{List, [], _∷_}
 use lib.Dec.{eqb, ltb}
 use lib.ListN.{getD, set, length, replicate}
 use lib.Ieee.{Float, nan}
 use Rattle.base.specs.Floats.{+0}
 use Rattle.base.specs.Loops.{times}
-use Rattle.base.specs.Answers.{Answer, done, refused, Outcome, outcome}
+use Rattle.base.specs.Answers.{Answer, accepted, refused, Outcome, outcome}
+use Rattle.base.specs.Refusals.{number}
 use Rattle.base.specs.declared.refusal.Refusal.the-variants.{BadMatrix, FlatPivot}
 use Rattle.solve.specs.Elimination.{Matrix, cell, Ended, reduced, flat, eliminated}
 use Rattle.solve.specs.declared.Solve.{Solve}
-use Rattle.solve.specs.declared.Solve.the-variants.{Solved, Refused}
+use Rattle.solve.specs.declared.Solve.the-variants.{Solved, Flat, Refused}
 
 -- ---- the runs
 
@@ -46,10 +47,14 @@ answers n m xs = times (answerAt n m) n 0 xs
 abbrev pub badMatrix : ℕ → List Float → List Float → Bool
 badMatrix n cells xs = ltb 16 n || not (eqb (length cells) (n * (n + 1))) || ltb (length xs) n
 
--- row 11: "solve fails"
+-- row 11: "solve fails", answered "with the column of the flat pivot, counted from 0, beside its refusal"
+abbrev pub flatAt : ℕ → Answer
+flatAt c = record { refusal = number FlatPivot; counts = c ∷ []; floats = [] }
+
+-- "with its smallest accepted pivot, in absolute value, beside the coefficients"
 unfoldable pub concluded : ℕ → List Float → Ended → Outcome
-concluded n xs (reduced m) = outcome done (answers n m xs)
-concluded n xs (flat c) = outcome (refused FlatPivot) xs
+concluded n xs (reduced s m) = outcome (accepted (s ∷ [])) (answers n m xs)
+concluded n xs (flat c) = outcome (flatAt c) xs
 
 -- n rows in a run, and the words of the answer before
 unfoldable pub solution : ℕ → List Float → List Float → Outcome
@@ -57,5 +62,6 @@ solution n cells xs = cond (badMatrix n cells xs) (outcome (refused BadMatrix) x
 
 -- 01's number for each case of the code's answer
 abbrev pub solvedAs : Solve → Answer
-solvedAs Solved = done
+solvedAs (Solved s) = accepted (s ∷ [])
+solvedAs (Flat c) = flatAt c
 solvedAs (Refused r) = refused r

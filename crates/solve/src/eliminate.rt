@@ -2,16 +2,17 @@
 // Internal: a function with a `requires` is called by proved code alone.
 ghost use mathlib.Core.Path.{_≡_};
 ghost use Prim.Native.Nat.{_≤_};
-ghost use Rattle.solve.specs.Elimination.{better, endedAs, eliminated};
+ghost use Rattle.solve.specs.Elimination.{better, smaller, endedAs, eliminated};
 use crate::matrix::exchange;
 use crate::matrix::scale;
 use crate::matrix::sweep;
 use base::floats::abs;
 
-// How an elimination ended: with a reduced matrix, or at the column of a flat pivot.
+// How an elimination ended: with a reduced matrix and its smallest accepted pivot, in absolute value; or at
+// the column of a flat pivot, from 0.
 pub enum Elimination {
-    Reduced,
-    Flat(usize),
+    Reduced(f64),
+    Flat(u32),
 }
 
 // A pivot candidate: its row, and its absolute value.
@@ -30,12 +31,26 @@ fn better(best: Pivot, row: usize, value: f64) -> Pivot
     Pivot { row, value }
 }
 
+// The smallest pivot with one more; a NaN stays.
+fn smaller_of(smallest: f64, value: f64) -> f64
+    ensures { λ r. ⌜ r ≡ smaller smallest value ⌝ }
+{
+    if value < smallest {
+        return value;
+    }
+    if value != value {
+        return value;
+    }
+    smallest
+}
+
 // Reduces the matrix of n rows, column by column. A flat pivot leaves both loops.
 pub fn eliminate(m: &mut [[f64; 17]; 16], n: usize) -> Elimination
     requires { ⌜ n ≤ 16 ⌝ }
     ensures { λ r. ⌜ endedAs r (now (m .exit)) ≡ eliminated n (now (m .entry)) ⌝ }
 {
     let mut stop = n;
+    let mut smallest = 1.0 / 0.0;
     let mut col = 0;
     'columns: while col < n {
         let mut best = Pivot {
@@ -58,11 +73,13 @@ pub fn eliminate(m: &mut [[f64; 17]; 16], n: usize) -> Elimination
         exchange(m, col, pivot);
         scale(m, n, col);
         sweep(m, n, col);
+        smallest = smaller_of(smallest, best.value);
         col += 1;
     }
     if stop == n {
-        Elimination::Reduced
+        Elimination::Reduced(smallest)
     } else {
-        Elimination::Flat(stop)
+        let column = stop as u32;
+        Elimination::Flat(column)
     }
 }

@@ -13,9 +13,11 @@ use crate::runs::copy_out;
 use crate::runs::load;
 use base::refusal::Refusal;
 
-// How a system was answered: its solution is written, or a refusal.
+// How a system was answered: its solution is written, with the smallest accepted pivot in absolute value; or
+// a pivot is flat, which is refusal 11, in the column told, from 0; or another refusal.
 pub enum Solve {
-    Solved,
+    Solved(f64),
+    Flat(u32),
     Refused(Refusal),
 }
 
@@ -38,10 +40,10 @@ pub fn solve_linear_system(n: usize, cells: &[f64], answer: &mut [f64]) -> Solve
     load(&mut m, cells, n);
     let end = eliminate(&mut m, n);
     match end {
-        Elimination::Reduced => {
+        Elimination::Reduced(pivot) => {
             copy_out(&m, n, answer);
-            Solve::Solved
+            Solve::Solved(pivot)
         }
-        Elimination::Flat(_) => Solve::Refused(Refusal::FlatPivot),
+        Elimination::Flat(column) => Solve::Flat(column),
     }
 }

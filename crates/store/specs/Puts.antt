@@ -1,16 +1,18 @@
--- 01, "The store": what put answers, and what it leaves in the two runs. Definitions only.
+-- 01, "The store": what put answers, with 02's L4, and what it leaves in the two runs. Definitions only.
 use mathlib.Core.Bool.{cond}
 use mathlib.Core.List.{List, [], _∷_}
 use Prim.Native.Nat.{ℕ, zero, suc, _+_, _*_}
 use lib.Dec.{eqb}
 use lib.ListN.{getD}
 use lib.Ieee.{Float, nan}
-use Rattle.base.specs.Answers.{counted}
+use Rattle.base.specs.Answers.{Answer}
 use Rattle.base.specs.Floats.{+0}
 use Rattle.layout.specs.Runs.{write}
 use Rattle.kernel.specs.declared.kernel.Kernel.{Kernel}
+use Rattle.pieces.specs.declared.fit.Fit.{Fit}
 use Rattle.pieces.specs.declared.pieces.Pieces.{Pieces}
 use Rattle.pieces.specs.Pieces.{decomposed}
+use Rattle.pieces.specs.FitEnd.{fitOf, kindOf, columnOf, pivotOf}
 use Rattle.layout.specs.Layout.{pieceLimit, radiusOf, kernelFrom, piecesFrom, stateFrom, facesOf}
 use Rattle.layout.specs.Soundness.{placeCheck}
 use Rattle.layout.specs.After.{After, after, guarded}
@@ -35,8 +37,13 @@ putFloats fs i k fit = write (write fs (kernelFrom i) (seven k (fit .error))) (p
 unfoldable pub putWords : ℕ → List ℕ → ℕ → Pieces → List ℕ
 putWords q ws i fit = write ws (stateFrom q i) ((1 + fit .count) ∷ atFirst (facesOf ws) (fit .count) ∷ 0 ∷ [])
 
--- "Put: .. p = 0. Answers pieces and need."
+-- "Answers pieces and need"; 02, L4: "put answers one of kept, fitted with that pivot, fallback with that column, or no exponent"
+abbrev pub placedWith : ℕ → ℕ → Fit → Answer
+placedWith pieces need fit = record { refusal = 0; counts = pieces ∷ need ∷ kindOf fit ∷ columnOf fit ∷ []; floats = pivotOf fit ∷ [] }
+
+-- "Put: .. p = 0"
 unfoldable pub putStep : ℕ → List Float → List ℕ → ℕ → Kernel → After
 putStep q fs ws i k =
     let fit = decomposed k (radiusOf fs) in
-    guarded (placeCheck q fs ws i) fs ws (after (counted (fit .count ∷ (fit .count * facesOf ws) ∷ [])) (putFloats fs i k fit) (putWords q ws i fit))
+    guarded (placeCheck q fs ws i) fs ws
+    (after (placedWith (fit .count) (fit .count * facesOf ws) (fitOf k (radiusOf fs))) (putFloats fs i k fit) (putWords q ws i fit))

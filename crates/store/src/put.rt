@@ -19,12 +19,13 @@ use layout::offsets::PIECES;
 use layout::offsets::PIECES_SIZE;
 use layout::offsets::STATE;
 use layout::offsets::WIDTH;
+use pieces::fit::Fit;
 use pieces::pieces::Pieces;
 use pieces::pieces::decompose;
 
-// The answer of a put: the kernel's pieces, and the steps that they need.
+// The answer of a put: the kernel's pieces, the steps that they need, and how their fit ended.
 pub enum Placed {
-    Needs(u32, u32),
+    Needs(u32, u32, Fit),
     Refused(Refusal),
 }
 
@@ -93,11 +94,13 @@ pub fn put(floats: &mut [f64], words: &mut [u32], place: u32, k: Kernel) -> Plac
     match check_place(floats, words, place) {
         Checked::Failed(r) => Placed::Refused(r),
         Checked::Passed => {
-            let fit = decompose(k, floats[0]);
-            let count = fit.count as u32;
+            let d = decompose(k, floats[0]);
+            let fit = d.fit;
+            let pieces = d.pieces;
+            let count = pieces.count as u32;
             let need = count * words[1];
-            fill(floats, words, place as usize, k, fit);
-            Placed::Needs(count, need)
+            fill(floats, words, place as usize, k, pieces);
+            Placed::Needs(count, need, fit)
         }
     }
 }

@@ -21,7 +21,7 @@ returns-3 c = simp (le-ltb _ _ (c .before .before .if1 .left), eq-eqb _ _ (c .be
 
 returns-4 : tie.Need-returns-4
 returns-4 c =
-    let e = c .before .before .before .before .before .before .before in
+    let e = c .before .before .before .before .before .before .before .before in
     let s = e .before .before .before .before in
     solves _ _ _ _ _ _
     (s .before .before .if1 .left)
@@ -29,12 +29,12 @@ returns-4 c =
     (s .if3 .left)
     (e .before .before .load .ensures)
     (e .eliminate .ensures)
-    (c .before .before .before .before .before .enum-told .given .1)
+    (c .before .before .before .before .before .before .end .given .1)
     (c .before .before .copy-out .ensures)
 
 returns-5 : tie.Need-returns-5
 returns-5 c =
-    let e = c .before .before in
+    let e = c .before .before .before in
     let s = e .before .before .before .before in
     refuses _ _ _ _ (e .eliminate .last .0) _
     (s .before .before .if1 .left)
@@ -42,7 +42,7 @@ returns-5 c =
     (s .if3 .left)
     (e .before .before .load .ensures)
     (e .eliminate .ensures)
-    (c .enum-told2 .given .1)
+    (c .before .end2 .given .1)
 
 pub solve-linear-system-spec : {M : Type 1} → statement M
 solve-linear-system-spec =

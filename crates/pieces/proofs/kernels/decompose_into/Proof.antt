@@ -10,10 +10,10 @@ decompose-into-spec =
     tie.close
     (tie.spec
     (λ c κs. search needs)
-    (λ c. omega (arith, few _ _ _ (c .before .decompose .ensures)))
-    (λ c. refuses _ _ _ (c .before .before .decompose .ensures) _ (search needs))
-    (λ c κs. omega (arith, few _ _ _ (c .before .before .before .decompose .ensures)))
+    (λ c. omega (arith, few _ _ _ (c .before .before .decompose .ensures .0)))
+    (λ c. refuses _ _ _ (c .before .before .before .decompose .ensures .0) _ (search needs))
+    (λ c κs. omega (arith, few _ _ _ (c .before .before .before .before .decompose .ensures .0)))
     (λ c. search needs)
     (λ c.
-    let d = c .before .before .before .before in
-    writes _ _ _ (d .before .before .decompose .ensures) _ _ (search needs) (c .before .before .lay-pieces .ensures)))
+    let d = c .before .before .before .before .before .before .before .decompose in
+    writes _ _ _ (d .ensures .0) _ (d .ensures .1) _ _ (search needs) (c .before .before .lay-pieces .ensures)))

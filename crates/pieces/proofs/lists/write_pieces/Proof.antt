@@ -15,27 +15,27 @@ abbrev μ-loop : tie.MeasureT-loop
 
 lay-pieces-requires : tie.Need-lay-pieces-requires Inv-loop μ-loop
 lay-pieces-requires c κs =
-    let w = c .before in
+    let w = c .before .before in
     let t = w .before .before in
     let l = t .before .loop in
     let z = t .before .before .before .before in
-    let m = next-within (z .args .kernels .now) (z .args .radius) (l .i) (z .args .n) (t .loop-test .taken) (w .before .kernel-at .ensures) (w .decompose .ensures) in
-    (few _ _ _ (w .decompose .ensures), omega (arith, m, l .inv .1 .count, l .inv .1 .long, z .pre))
+    let m = next-within (z .args .kernels .now) (z .args .radius) (l .i) (z .args .n) (t .loop-test .taken) (w .before .kernel-at .ensures) (w .decompose .ensures .0) in
+    (few _ _ _ (w .decompose .ensures .0), omega (arith, m, l .inv .1 .count, l .inv .1 .long, z .pre))
 
 add-pieces : tie.Need-add-pieces Inv-loop μ-loop
 add-pieces c =
-    let w = c .before .before .before .before .before in
+    let w = c .before .before .before .before .before .before in
     let t = w .before .before in
     let l = t .before .loop in
     let z = t .before .before .before .before in
-    let m = next-within (z .args .kernels .now) (z .args .radius) (l .i) (z .args .n) (t .loop-test .taken) (w .before .kernel-at .ensures) (w .decompose .ensures) in
+    let m = next-within (z .args .kernels .now) (z .args .radius) (l .i) (z .args .n) (t .loop-test .taken) (w .before .kernel-at .ensures) (w .decompose .ensures .0) in
     omega (arith, m, l .inv .1 .count, z .pre)
 
 loop-again : tie.Need-loop-again Inv-loop μ-loop
 loop-again c =
-    let w = c .before .before .before .before .before .before in
+    let w = c .before .before .before .before .before .before .before in
     let l = w .before .before .before .loop in
-    (omega arith, kernel-spread _ _ (l .inv .1) (w .before .kernel-at .ensures) (w .decompose .ensures) (c .before .before .before .before .lay-pieces .ensures) (c .greater-of .ensures))
+    (omega arith, kernel-spread _ _ (l .inv .1) (w .before .kernel-at .ensures) (w .decompose .ensures .0) (c .before .before .before .before .lay-pieces .ensures) (c .greater-of .ensures))
 
 returns : tie.Need-returns Inv-loop μ-loop
 returns c = spread-all _ _ (c .before .loop .inv .1) (omega arith)

@@ -2,14 +2,15 @@
 use borrow.Author.Needs.{needs}
 use mathlib.Core.Path.{sym}
 use Rattle.pieces.specs.Pieces.{decomposed}
+use Rattle.pieces.specs.FitEnd.{fitOf}
 use Rattle.pieces.specs.PieceLaws.{Sized, sized}
-use Rattle.pieces.proofs.Fits.{far}
+use Rattle.pieces.proofs.Fits.{far-none, far-fit}
 use Rattle.pieces.proofs.pieces.decompose.Statement.{statement}
 use Rattle.pieces.proofs.pieces.decompose.Tie as tie
 
 returns : tie.Need-returns
-unfolding decomposed
-returns c = simp (sym (c .before .abs .ensures), c .if1 .taken)
+unfolding decomposed fitOf
+returns c = let h = sym (c .before .abs .ensures) in (simp (h, c .if1 .taken), simp (h, c .if1 .taken))
 
 fit-requires : tie.Need-fit-requires
 fit-requires c κs =
@@ -19,9 +20,17 @@ fit-requires c κs =
 
 returns-2 : tie.Need-returns-2
 returns-2 c =
-    let g = c .before .before .before .before in
+    let f = c .before .before .before in
+    let g = f .before .before .before .before in
     let i = g .before .before in
-    far _ _ _ _ _ _ _ _ (i .before .abs .ensures) (i .if1 .left) (g .before .size-of .ensures) (g .greater-of .ensures) (c .before .before .greater-of2 .ensures) (c .before .log10 .ensures) (c .fit .ensures)
+    far-none _ _ _ _ _ _ _ (i .before .abs .ensures) (i .if1 .left) (g .before .size-of .ensures) (g .greater-of .ensures) (f .before .before .greater-of2 .ensures) (f .before .log10 .ensures) _ (f .fit .ensures .0) (c .before .if2 .taken)
+
+returns-3 : tie.Need-returns-3
+returns-3 c =
+    let f = c .before .before in
+    let g = f .before .before .before .before in
+    let i = g .before .before in
+    far-fit _ _ _ _ _ _ _ (i .before .abs .ensures) (i .if1 .left) (g .before .size-of .ensures) (g .greater-of .ensures) (f .before .before .greater-of2 .ensures) (f .before .log10 .ensures) _ _ (f .fit .ensures .0) (f .fit .ensures .1) (c .if2 .left)
 
 pub decompose-spec : {M : Type 1} → statement M
 decompose-spec =
@@ -36,4 +45,5 @@ decompose-spec =
     (λ c κs. search needs)
     (λ c κs. search needs)
     fit-requires
-    returns-2)
+    returns-2
+    returns-3)

@@ -6,6 +6,7 @@ use mathlib.Core.Logic.{⊎-elim}
 use native.Mathlib.Omega.{arith}
 use lib.Ieee.{le}
 use Rattle.base.specs.Constants.{flatLimit}
+use Rattle.base.specs.FloatLaws.{one-over-zero}
 use Rattle.base.specs.LoopLaws.{Left, from-zero, begins, goes, ended}
 use Rattle.solve.specs.declared.eliminate.Pivot.{Pivot}
 use Rattle.solve.specs.Elimination.{pivotOf, candidate, columnAt, reduced, flat, eliminated}
@@ -14,20 +15,20 @@ use Rattle.solve.proofs.eliminate.eliminate.Statement.{statement}
 use Rattle.solve.proofs.eliminate.eliminate.Tie as tie
 
 abbrev Inv-pivots : tie.InvT-pivots
-Inv-pivots m n stop₀ col best₀ row₀ stop best row = (Left (candidate m col) n row best (pivotOf n col m)) × (best .row < n) × (stop ≡ n)
+Inv-pivots m n stop₀ smallest col best₀ row₀ stop best row = (Left (candidate m col) n row best (pivotOf n col m)) × (best .row < n) × (stop ≡ n)
 
 abbrev μ-pivots : tie.MeasureT-pivots
-μ-pivots m n stop₀ col best₀ row₀ stop best row = n - row
+μ-pivots m n stop₀ smallest col best₀ row₀ stop best row = n - row
 
 abbrev Inv-columns : tie.InvT-columns
-Inv-columns m₀ n stop₀ col₀ m stop col = (Left (columnAt n) n col (reduced m) (eliminated n m₀)) × (stop ≡ n)
+Inv-columns m₀ n stop₀ smallest₀ col₀ m stop smallest col = (Left (columnAt n) n col (reduced smallest m) (eliminated n m₀)) × (stop ≡ n)
 
 abbrev μ-columns : tie.MeasureT-columns
-μ-columns m₀ n stop₀ col₀ m stop col = n - col
+μ-columns m₀ n stop₀ smallest₀ col₀ m stop smallest col = n - col
 
 columns-holds : tie.Need-columns-holds Inv-pivots μ-pivots Inv-columns μ-columns
 unfolding eliminated
-columns-holds c = (from-zero refl, refl)
+columns-holds c = (from-zero (rw one-over-zero refl), refl)
 
 pivots-holds : tie.Need-pivots-holds Inv-pivots μ-pivots Inv-columns μ-columns
 unfolding pivotOf
@@ -43,18 +44,19 @@ pivots-again c =
 
 columns-again : tie.Need-columns-again Inv-pivots μ-pivots Inv-columns μ-columns
 columns-again c =
-    let e = c .before .before .before .before .before .before in
+    let e = c .before .before .before .before .before .before .before in
     let p = e .before .before .before in
     let i = p .before .before .before in (
       goes
           (i .before .columns .inv .0)
           (i .columns-test .taken)
-          (passes _ _ _ _ _ _ _
+          (passes _ _ _ _ _ _ _ _ _
           (ended (p .pivots .inv .0) (search needs))
           (e .if2 .left)
-          (c .before .before .before .before .exchange .ensures)
-          (c .before .before .scale .ensures)
-          (c .sweep .ensures)),
+          (c .before .before .before .before .before .exchange .ensures)
+          (c .before .before .before .scale .ensures)
+          (c .before .sweep .ensures)
+          (c .smaller-of .ensures)),
       search needs,
     )
 
@@ -64,12 +66,21 @@ returns c =
     let a = c .before .before .columns in
     ⊎-elim (λ w. ended (a .inv .0) (w .0 .left)) (λ w. absurd (omega (arith, w .7, w .0 .taken, c .if3 .taken))) (c .before .columns-test .came)
 
+-- the column where it stopped is one of the n, which are few
+cast-column : tie.Need-cast-column Inv-pivots μ-pivots Inv-columns μ-columns
+cast-column c =
+    let i = c .before in
+    ⊎-elim (λ w. absurd (i .if3 .left (w .1 ∙ i .before .before .columns .inv .1)))
+    (λ w. omega (arith, w .7, w .0 .taken))
+    (i .before .columns-test .came)
+
 returns-2 : tie.Need-returns-2 Inv-pivots μ-pivots Inv-columns μ-columns
 returns-2 c =
-    let a = c .before .before .columns in
-    ⊎-elim (λ w. absurd (c .if3 .left (w .1 ∙ a .inv .1)))
+    let i = c .before in
+    let a = i .before .before .columns in
+    ⊎-elim (λ w. absurd (i .if3 .left (w .1 ∙ a .inv .1)))
     (λ w. ap flat (w .7) ∙ stops (a .inv .0) (w .0 .taken) (ap (λ (p : Pivot). le (p .value) flatLimit) (sym (ended (w .3 .inv .0) (search needs))) ∙ w .6 .taken))
-    (c .before .columns-test .came)
+    (i .before .columns-test .came)
 
 pub eliminate-spec : {M : Type 1} → statement M
 eliminate-spec =
@@ -99,8 +110,10 @@ eliminate-spec =
     (λ c κs. search needs)
     (λ c κs. search needs)
     (λ c κs. search needs)
+    (λ c κs. search needs)
     (λ c. search needs)
     (λ c. search needs)
     columns-again
+    cast-column
     returns
     returns-2)
