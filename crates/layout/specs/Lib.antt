@@ -1,6 +1,7 @@
 pub mod Layout
 pub mod Soundness
 pub mod SoundLaws
+pub mod Layers
 pub mod Left
 pub mod LeftLaws
 pub mod Runs

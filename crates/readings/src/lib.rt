@@ -6,6 +6,7 @@ pub mod held;
 pub mod listing;
 pub mod lists;
 pub mod reports;
+pub mod seen;
 pub mod shared;
 pub mod sums;
 pub mod tracks;
