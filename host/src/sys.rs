@@ -154,6 +154,7 @@ unsafe extern "C" {
         n_words: usize,
         place: u32,
         kernel: Kernel,
+        layer: u32,
     ) -> Placed;
     pub fn cauchy_store_clear(
         floats: *mut f64,
@@ -189,6 +190,7 @@ unsafe extern "C" {
         words: *const u32,
         n_words: usize,
         convention: Convention,
+        layers: u32,
         point: Vector,
     ) -> Value;
     pub fn cauchy_store_report(
@@ -197,6 +199,7 @@ unsafe extern "C" {
         words: *const u32,
         n_words: usize,
         convention: Convention,
+        layers: u32,
     ) -> StoreReport;
     pub fn cauchy_store_list(
         floats: *const f64,
@@ -204,6 +207,7 @@ unsafe extern "C" {
         words: *const u32,
         n_words: usize,
         convention: Convention,
+        layers: u32,
         out: *mut f64,
         n_out: usize,
     ) -> Listed;
@@ -213,6 +217,7 @@ unsafe extern "C" {
         words: *const u32,
         n_words: usize,
         convention: Convention,
+        layers: u32,
         points: *const f64,
         n_points: usize,
         out: *mut f64,
