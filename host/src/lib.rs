@@ -59,7 +59,7 @@ pub use kernel::{FileKernel, Kernel, MAX_PIECES, Pieces, density, pieces};
 pub use layers::{LAYERS, Layers, Seen};
 pub use mesh::Mesh;
 pub use refusal::Refusal;
-pub use report::{MassReport, StoreReport};
+pub use report::{Finished, MassReport, StoreReport};
 pub use snapshot::SnapshotError;
 pub use solve::solve;
 pub use store::{Held, MAX_PAGE, MAX_TRACK, OpenError, PLACES, Placed, Steps, Store};
