@@ -23,6 +23,7 @@ const char *cauchy_refusal_text(uint32_t no) {
     case CAUCHY_EXPONENT: return "exponent: some exponent is not 1";
     case CAUCHY_BAD_TRACK: return "bad track: more than 4,096 points, or lengths that do not fit";
     case CAUCHY_MANY_KERNELS: return "many kernels: a bill takes at most 32";
+    case CAUCHY_NO_LAYER: return "no layer: the layers are 0 to 15";
     case CAUCHY_NO_FIGURE: return "no figure: the mass of a place is NaN or exceeds 10^15 kg";
     case CAUCHY_SHORT_PAGE: return "short page: 65 bytes are needed for each filled place and for the total";
     case CAUCHY_BAD_KERNEL_LINE: return "bad kernel line: not (kernel (c h h h) (sigma h) (w h) (alpha h or none))";
@@ -33,6 +34,7 @@ const char *cauchy_refusal_text(uint32_t no) {
     case CAUCHY_HOST_CHECKSUM: return "damaged: its checksum does not fit its bytes";
     case CAUCHY_HOST_FLOAT_STATE: return "floating-point state is not the default";
     case CAUCHY_HOST_SHORT_BYTES: return "short bytes: the snapshot needs more of them";
+    case CAUCHY_HOST_OLDER: return "a snapshot of the form before layers, which this version does not read";
     default: return "a number that no refusal has";
     }
 }
@@ -48,7 +50,8 @@ int cauchy_float_state_default(void) {
 /* ---- Snapshots ------------------------------------------------------------------------------------ */
 
 enum { HEAD = 24, CHECKSUM = 8 };
-static const uint8_t magic[8] = {'C', 'A', 'U', 'C', 'H', 'Y', '0', '1'};
+static const uint8_t magic[8] = {'C', 'A', 'U', 'C', 'H', 'Y', '0', '2'};
+static const uint8_t older_magic[8] = {'C', 'A', 'U', 'C', 'H', 'Y', '0', '1'};
 
 static void put_number(uint8_t *at, uint64_t number, int size) {
     for (int i = 0; i < size; i++) at[i] = (uint8_t)(number >> 8 * i);
@@ -84,7 +87,7 @@ static CauchySnapshot snapshot(uint32_t no, size_t floats, size_t words) {
 static uint32_t unsound(const double *floats, size_t n_floats, const uint32_t *words, size_t n_words) {
     const CauchyConvention raw = {CAUCHY_RAW, 0, 0};
     const CauchyVector origin = {0, 0, 0};
-    return cauchy_store_density(floats, n_floats, words, n_words, raw, origin).no;
+    return cauchy_store_density(floats, n_floats, words, n_words, raw, CAUCHY_ALL_LAYERS, origin).no;
 }
 
 /* Whether all that stands past the mesh is what squeezes leave: no word, and the zeros of whole vertices. */
@@ -113,7 +116,9 @@ CauchySnapshot cauchy_snapshot_write(const double *floats, size_t n_floats, cons
 }
 
 CauchySnapshot cauchy_snapshot_look(const uint8_t *bytes, size_t n_bytes) {
-    if (n_bytes < sizeof magic || memcmp(bytes, magic, sizeof magic) != 0) return snapshot(CAUCHY_HOST_FOREIGN, 0, 0);
+    const int long_enough = n_bytes >= sizeof magic;
+    if (long_enough && !memcmp(bytes, older_magic, sizeof magic)) return snapshot(CAUCHY_HOST_OLDER, 0, 0);
+    if (!long_enough || memcmp(bytes, magic, sizeof magic) != 0) return snapshot(CAUCHY_HOST_FOREIGN, 0, 0);
     if (n_bytes < HEAD + CHECKSUM) return snapshot(CAUCHY_HOST_LENGTH, 0, 0);
     const size_t body = n_bytes - HEAD - CHECKSUM;
     const uint64_t floats = get_number(bytes + 8, 8), words = get_number(bytes + 16, 8);

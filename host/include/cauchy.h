@@ -14,6 +14,10 @@
  *   store        floats and words: the store itself, which has no memory elsewhere
  * A run that a call only reads is const.
  *
+ * Layers. A set of layers is a uint32_t, bit l for layer l: (1u << 2 | 1u << 5) is layers 2 and 5, CAUCHY_ALL_LAYERS all sixteen.
+ * A bit from 16 on names a layer that there is not (16). A reading sees only the places whose layer is in its set, as if
+ * all others were empty; the volume is that of the whole mesh. The set of no layer is good: nothing is seen.
+ *
  * Answers. The first field, `no`, is 0 where the call is accepted, else the number of the refusal. The
  * numbers before a declaration are the refusals that it may answer: the first of those listed that applies
  * is answered. A refused call changes no element of any run, and its other fields are 0.
@@ -75,6 +79,7 @@ enum {
     CAUCHY_EXPONENT = 12,        /* an exponent is not 1, where only 1 can be integrated */
     CAUCHY_BAD_TRACK = 14,       /* a track of more than 4,096 points or not of threes, or its run is too short */
     CAUCHY_MANY_KERNELS = 15,    /* more kernels to be billed than a store has places */
+    CAUCHY_NO_LAYER = 16,        /* a layer above 15, given to a put or in a set of layers */
     CAUCHY_NO_FIGURE = 17,       /* the mass of a place is NaN or exceeds 10^15 kg, and a page cannot show it */
     CAUCHY_SHORT_PAGE = 18,      /* the bytes to be written are too few for the page */
     CAUCHY_BAD_KERNEL_LINE = 20, /* a line of a file is no kernel line */
@@ -89,12 +94,14 @@ enum {
     CAUCHY_MAX_FACES = 2097152,
     CAUCHY_PLACES = 32,     /* places of a store, numbered from 0 */
     CAUCHY_MAX_PIECES = 16, /* pieces of one kernel, so a store's list is at most 32 * 16 * 6 doubles */
-    CAUCHY_MAX_TRACK = 4096 /* points of one track */
+    CAUCHY_MAX_TRACK = 4096, /* points of one track */
+    CAUCHY_LAYERS = 16,      /* layers of a store, numbered from 0 */
+    CAUCHY_ALL_LAYERS = 0xFFFF /* the set of all layers */
 };
 
 /* The lengths that a store needs for V vertices and F faces; longer runs are good, and keep their excess. */
 #define CAUCHY_STORE_FLOATS(V) ((size_t)1761 + (size_t)3 * (size_t)(V))
-#define CAUCHY_STORE_WORDS(F) ((size_t)98 + (size_t)3 * (size_t)(F))
+#define CAUCHY_STORE_WORDS(F) ((size_t)130 + (size_t)3 * (size_t)(F))
 
 /* The bytes of the page of P filled places: 64 characters and a newline for each of them, and for the total. */
 #define CAUCHY_PAGE_BYTES(P) ((size_t)65 * ((size_t)(P) + 1))
@@ -194,6 +201,14 @@ typedef struct CauchyStoreReport {
     double error;             /* the greatest error of a fit, as a fraction of its kernel's peak */
 } CauchyStoreReport;
 
+typedef struct CauchyFinished {
+    uint32_t no;
+    CauchyMassReport report;
+    uint32_t kernels, pieces; /* filled places that are complete, and their pieces */
+    double error;             /* the greatest error of a fit among them, as a fraction of its kernel's peak */
+    uint32_t passed_over;     /* filled places of the layers that have work left */
+} CauchyFinished;
+
 typedef struct CauchyListed {
     uint32_t no, pieces; /* pieces written */
 } CauchyListed;
@@ -237,16 +252,16 @@ CAUCHY_MUST_USE
 CauchyOpened cauchy_store_open(double *floats, size_t n_floats, uint32_t *words, size_t n_words, double radius,
                                const double *xyz, size_t n_xyz, const uint32_t *faces, size_t n_faces);
 
-/* Puts a kernel into a place, whatever that held, with all its work to do.                       4 5 6 */
+/* Puts a kernel into a place, whatever that held, with all its work to do, in a layer from 0 to 15. 4 5 6 16 */
 CAUCHY_MUST_USE
 CauchyPlaced cauchy_store_put(double *floats, size_t n_floats, uint32_t *words, size_t n_words, uint32_t place,
-                              CauchyKernel kernel);
+                              CauchyKernel kernel, uint32_t layer);
 
 /* Empties a place; answers `no`.                                                               4 5 6 7 */
 CAUCHY_MUST_USE
 uint32_t cauchy_store_clear(double *floats, size_t n_floats, uint32_t *words, size_t n_words, uint32_t place);
 
-/* Gives the kernel of a place another weight, its work kept; answers `no`.                     4 5 6 7 */
+/* Gives the kernel of a place another weight, its work and its layer kept; answers `no`.       4 5 6 7 */
 CAUCHY_MUST_USE
 uint32_t cauchy_store_reweigh(double *floats, size_t n_floats, uint32_t *words, size_t n_words, uint32_t place,
                               double w);
@@ -262,32 +277,41 @@ CauchySqueezed cauchy_store_squeeze(double *floats, size_t n_floats, uint32_t *w
 CAUCHY_MUST_USE
 CauchySteps cauchy_store_advance(double *floats, size_t n_floats, uint32_t *words, size_t n_words, uint64_t budget);
 
-/* The density at a point.              4 5 8; 8 while work is left, by mass with a target above 0 only */
+/* The density at a point, of the places in some layers.
+ *                4 5 16 8; 8 while work is left in these places, by mass with a target above 0 only */
 CAUCHY_MUST_USE
 CauchyValue cauchy_store_density(const double *floats, size_t n_floats, const uint32_t *words, size_t n_words,
-                                 CauchyConvention convention, CauchyVector point);
+                                 CauchyConvention convention, uint32_t layers, CauchyVector point);
 
-/* Masses, counts and the greatest error.                                                         4 5 8 */
+/* Masses, counts and the greatest error of the places in some layers.
+ *                                               4 5 16 8; 8 while work is left in these places */
 CAUCHY_MUST_USE
 CauchyStoreReport cauchy_store_report(const double *floats, size_t n_floats, const uint32_t *words, size_t n_words,
-                                      CauchyConvention convention);
+                                      CauchyConvention convention, uint32_t layers);
 
-/* Writes the pieces as a kernel list, weights rescaled; doubles past them stay.
- *                                                                          4 5 8 9; 8 as for a density */
+/* The report of what is finished, which may be taken while work is left: of those places in some layers whose steps are
+ * complete (a place without pieces, and any place of a mesh without faces, is), and how many filled places of these
+ * layers it passed over. It is the report of a store that holds just those places.              4 5 16 */
+CAUCHY_MUST_USE
+CauchyFinished cauchy_store_finished(const double *floats, size_t n_floats, const uint32_t *words, size_t n_words,
+                                     CauchyConvention convention, uint32_t layers);
+
+/* Writes the pieces of the places in some layers as a kernel list, weights rescaled; doubles past them stay.
+ *                                                                       4 5 16 8 9; 8 as for a density */
 CAUCHY_MUST_USE
 CauchyListed cauchy_store_list(const double *floats, size_t n_floats, const uint32_t *words, size_t n_words,
-                               CauchyConvention convention, double *out, size_t n_out);
+                               CauchyConvention convention, uint32_t layers, double *out, size_t n_out);
 
 /* Writes the density at each point of a track, in order; doubles past them stay. Each is what
  * cauchy_store_density answers at that point, but the store is looked over and the scale is worked once
  * for the whole track. `n_points` counts doubles, three a point. No points: nothing is written.
- *                                                                         4 5 8 14; 8 as for a density */
+ *                                                                      4 5 16 8 14; 8 as for a density */
 CAUCHY_MUST_USE
 CauchyTrack cauchy_store_track(const double *floats, size_t n_floats, const uint32_t *words, size_t n_words,
-                               CauchyConvention convention, const double *points, size_t n_points, double *out,
-                               size_t n_out);
+                               CauchyConvention convention, uint32_t layers, const double *points, size_t n_points,
+                               double *out, size_t n_out);
 
-/* Writes the wall page; bytes past it stay. Each filled place has a line, in order: its number in columns 1-2, its
+/* Writes the wall page, of every layer; bytes past it stay. Each filled place has a line, in order: its number in columns 1-2, its
  * pieces in 4-5 and its own field mass in 45-64, by the weight as entered and in whole kilograms, to the nearest and
  * ties to even. All are right-aligned, with spaces elsewhere; a mass below 0 has a minus sign, and zero is 0. A last
  * line has TOTAL in columns 1-5 and the sum of the printed masses in 45-64. CAUCHY_PAGE_BYTES tells the length; that of

@@ -17,7 +17,8 @@ enum {
     CAUCHY_HOST_LENGTH = 1002,      /* the bytes are fewer or more than their counts say */
     CAUCHY_HOST_CHECKSUM = 1003,    /* the checksum does not fit */
     CAUCHY_HOST_FLOAT_STATE = 1004, /* the thread's floating-point state is not the default one */
-    CAUCHY_HOST_SHORT_BYTES = 1005  /* the bytes to be written are too few for the snapshot */
+    CAUCHY_HOST_SHORT_BYTES = 1005, /* the bytes to be written are too few for the snapshot */
+    CAUCHY_HOST_OLDER = 1006        /* the bytes are a snapshot of the form before layers */
 };
 
 /* What a refusal means, in a line: any `no` of cauchy.h or of this file. Never NULL. */
@@ -33,7 +34,7 @@ int cauchy_float_state_default(void);
 /* ---- Snapshots ------------------------------------------------------------------------------------ */
 
 /* A store as bytes, the same in C, Rust and Python. Numbers have their lowest byte first: the eight bytes
- * CAUCHY01; the count of floats and the count of words, eight bytes each; the floats, eight bytes each, by their
+ * CAUCHY02; the count of floats and the count of words, eight bytes each; the floats, eight bytes each, by their
  * bits; the words, four bytes each; and the CRC-64/XZ of all bytes before it, eight bytes. */
 
 /* The bytes that a snapshot needs for V vertices and F faces. */
@@ -52,14 +53,14 @@ CauchySnapshot cauchy_snapshot_write(const double *floats, size_t n_floats, cons
                                      uint8_t *bytes, size_t n_bytes);
 
 /* Whether bytes are a whole snapshot, and the lengths of the runs that cauchy_snapshot_read needs for them.
- *                                                                                       1001 1002 1003 */
+ *                                                                                       1006 1001 1002 1003 */
 CAUCHY_MUST_USE
 CauchySnapshot cauchy_snapshot_look(const uint8_t *bytes, size_t n_bytes);
 
 /* Makes two runs the store of a snapshot, from which it goes on. Longer runs are good, and keep their excess.
  * A damaged snapshot changes no element. One that is whole by its checksum but holds no store (5, or 4 where its
  * own runs are too short for its mesh) has been written to the runs when that is seen: they hold no store then.
- *                                                                          1004 1001 1002 1003 4 5 */
+ *                                                                          1004 1006 1001 1002 1003 4 5 */
 CAUCHY_MUST_USE
 CauchyOpened cauchy_snapshot_read(double *floats, size_t n_floats, uint32_t *words, size_t n_words,
                                   const uint8_t *bytes, size_t n_bytes);

@@ -2,7 +2,8 @@
 //!
 //! A [`Store`] keeps up to 32 density [`Kernel`]s inside a triangle [`Mesh`]. Its work, the integral of each
 //! kernel over the mesh, is done in portions ([`Store::advance`]); then it gives density, masses and rescaled
-//! weights. A [`Convention`] belongs to one reading; no reading alters a kept weight.
+//! weights. A [`Convention`] belongs to one reading; no reading alters a kept weight. A kernel is in one of sixteen
+//! layers, and [`Store::layers`] reads some of them alone.
 //!
 //! Lengths are metres, densities kg/m³, masses kg; only a [`FileKernel`] and the lines that [`convert`] takes are in
 //! kilometres.
@@ -39,6 +40,7 @@ mod convention;
 mod convert;
 mod float_state;
 mod kernel;
+mod layers;
 mod mesh;
 pub mod numbers;
 mod refusal;
@@ -54,9 +56,10 @@ pub use convention::Convention;
 pub use convert::{Loader, convert};
 pub use float_state::FloatState;
 pub use kernel::{FileKernel, Kernel, MAX_PIECES, Pieces, density, pieces};
+pub use layers::{LAYERS, Layers, Seen};
 pub use mesh::Mesh;
 pub use refusal::Refusal;
-pub use report::{MassReport, StoreReport};
+pub use report::{Finished, MassReport, StoreReport};
 pub use snapshot::SnapshotError;
 pub use solve::solve;
 pub use store::{Held, MAX_PAGE, MAX_TRACK, OpenError, PLACES, Placed, Steps, Store};

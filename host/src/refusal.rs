@@ -43,6 +43,8 @@ pub enum Refusal {
     BadTrack = 14,
     /// More kernels are to be billed than a store has places.
     ManyKernels = 15,
+    /// A layer is above 15.
+    NoLayer = 16,
     /// The mass of a place is NaN or exceeds 10^15 kg, and a page cannot show it.
     NoFigure = 17,
     /// The bytes to be written are too few for the page.
@@ -57,7 +59,7 @@ pub enum Refusal {
 
 impl Refusal {
     /// All refusals, by rising number.
-    pub const ALL: [Refusal; 19] = [
+    pub const ALL: [Refusal; 20] = [
         Refusal::Ragged,
         Refusal::Oversize,
         Refusal::LooseCorner,
@@ -72,6 +74,7 @@ impl Refusal {
         Refusal::Exponent,
         Refusal::BadTrack,
         Refusal::ManyKernels,
+        Refusal::NoLayer,
         Refusal::NoFigure,
         Refusal::ShortPage,
         Refusal::BadKernelLine,
@@ -83,7 +86,7 @@ impl Refusal {
     ///
     /// ```
     /// let numbers = cauchy::Refusal::ALL.map(|refusal| refusal.number());
-    /// assert_eq!(numbers, [1, 2, 3, 4, 5, 6, 7, 8, 9, 10, 11, 12, 14, 15, 17, 18, 20, 21, 22]);
+    /// assert_eq!(numbers, [1, 2, 3, 4, 5, 6, 7, 8, 9, 10, 11, 12, 14, 15, 16, 17, 18, 20, 21, 22]);
     /// ```
     pub fn number(self) -> u32 {
         self as u32
@@ -110,6 +113,7 @@ impl Refusal {
             Refusal::Exponent => "exponent: some exponent is not 1",
             Refusal::BadTrack => "bad track: more than 4,096 points, or lengths that do not fit",
             Refusal::ManyKernels => "many kernels: a bill takes at most 32",
+            Refusal::NoLayer => "no layer: the layers are 0 to 15",
             Refusal::NoFigure => "no figure: the mass of a place is NaN or exceeds 10^15 kg",
             Refusal::ShortPage => "short page: 65 bytes are needed for each filled place and for the total",
             Refusal::BadKernelLine => {

@@ -1,13 +1,15 @@
 //! A store as bytes, and back.
 //!
-//! A snapshot is, numbers with their lowest byte first: the eight bytes `CAUCHY01`; the count of floats and the
+//! A snapshot is, numbers with their lowest byte first: the eight bytes `CAUCHY02`; the count of floats and the
 //! count of words, eight bytes each; the floats, eight bytes each, by their bits; the words, four bytes each; and
 //! the CRC-64/XZ of all bytes before it, eight bytes.
 use crate::{FloatState, Refusal, Store};
 use std::error::Error;
 use std::fmt;
 
-const MAGIC: &[u8; 8] = b"CAUCHY01";
+const MAGIC: &[u8; 8] = b"CAUCHY02";
+/// What a snapshot of the form before layers begins with: three words to a place.
+const OLDER_MAGIC: &[u8; 8] = b"CAUCHY01";
 const HEAD: usize = 24;
 const CHECKSUM: usize = 8;
 
@@ -16,6 +18,8 @@ const CHECKSUM: usize = 8;
 pub enum SnapshotError {
     /// They do not begin as a snapshot does.
     Foreign,
+    /// They are a snapshot of the form before layers.
+    Older,
     /// They are fewer or more than their counts say.
     Length,
     /// The checksum does not fit.
@@ -58,6 +62,7 @@ impl Store {
     /// bytes[100] ^= 1;
     /// assert_eq!(Store::from_bytes(&bytes).unwrap_err(), SnapshotError::Checksum);
     /// assert_eq!(Store::from_bytes(b"v 0 0 0").unwrap_err(), SnapshotError::Foreign);
+    /// assert_eq!(Store::from_bytes(b"CAUCHY01..").unwrap_err(), SnapshotError::Older);
     /// # Ok::<(), Box<dyn std::error::Error>>(())
     /// ```
     pub fn from_bytes(bytes: &[u8]) -> Result<Store, SnapshotError> {
@@ -71,7 +76,9 @@ impl Store {
 
 /// The two runs of a snapshot whose checksum fits.
 fn runs(bytes: &[u8]) -> Result<(Vec<f64>, Vec<u32>), SnapshotError> {
-    let after_magic = bytes.strip_prefix(MAGIC).ok_or(SnapshotError::Foreign)?;
+    let of_no_form =
+        if bytes.starts_with(OLDER_MAGIC) { SnapshotError::Older } else { SnapshotError::Foreign };
+    let after_magic = bytes.strip_prefix(MAGIC).ok_or(of_no_form)?;
     let (counts, _) = after_magic.split_at_checked(16).ok_or(SnapshotError::Length)?;
     let [n_floats, n_words] = [&counts[..8], &counts[8..]].map(|count| number(count) as usize);
     let sizes = n_floats.checked_mul(8).zip(n_words.checked_mul(4));
@@ -121,6 +128,9 @@ impl fmt::Display for SnapshotError {
     fn fmt(&self, f: &mut fmt::Formatter<'_>) -> fmt::Result {
         match self {
             SnapshotError::Foreign => f.write_str("not a snapshot of a store"),
+            SnapshotError::Older => {
+                f.write_str("a snapshot of the form before layers, which this version does not read")
+            }
             SnapshotError::Length => f.write_str("damaged: bytes are missing, or there are too many"),
             SnapshotError::Checksum => f.write_str("damaged: its checksum does not fit its bytes"),
             SnapshotError::Refused(refusal) => write!(f, "whole, but no store: {refusal}"),
@@ -153,19 +163,19 @@ mod tests {
             other => panic!("{other:?}"),
         };
         assert_eq!(refused(&[], &[]), Refusal::ShortStore);
-        assert_eq!(refused(&[0.0; 1760], &[0; 98]), Refusal::ShortStore);
-        assert_eq!(refused(&[0.0; 1762], &[0; 98]), Refusal::Unsound);
-        assert_eq!(refused(&[0.0; 1761], &[0; 101]), Refusal::Unsound);
+        assert_eq!(refused(&[0.0; 1760], &[0; 130]), Refusal::ShortStore);
+        assert_eq!(refused(&[0.0; 1762], &[0; 130]), Refusal::Unsound);
+        assert_eq!(refused(&[0.0; 1761], &[0; 133]), Refusal::Unsound);
         for stray in [1.0, -0.0, f64::NAN] {
             let mut floats = [0.0; 1764];
             floats[1763] = stray;
-            assert_eq!(refused(&floats, &[0; 98]), Refusal::Unsound);
+            assert_eq!(refused(&floats, &[0; 130]), Refusal::Unsound);
         }
-        let mut words = [0; 98];
+        let mut words = [0; 130];
         words[2] = 18;
         assert_eq!(refused(&[0.0; 1761], &words), Refusal::Unsound);
-        assert!(Store::from_bytes(&forged(&[f64::NAN; 1761], &[0; 98])).is_ok());
-        assert!(Store::from_bytes(&forged(&[0.0; 1764], &[0; 98])).is_ok());
+        assert!(Store::from_bytes(&forged(&[f64::NAN; 1761], &[0; 130])).is_ok());
+        assert!(Store::from_bytes(&forged(&[0.0; 1764], &[0; 130])).is_ok());
     }
 
     #[test]

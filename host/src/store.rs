@@ -1,5 +1,5 @@
 //! The store, over two vectors of its own.
-use crate::{Convention, FloatState, Kernel, MAX_PIECES, Mesh, Refusal, StoreReport, sys};
+use crate::{Convention, Finished, FloatState, Kernel, Layers, Mesh, Refusal, StoreReport, sys};
 use std::error::Error;
 use std::fmt;
 
@@ -14,11 +14,12 @@ pub const MAX_PAGE: usize = 65 * (PLACES as usize + 1);
 
 // The layout of 01: what stands before the mesh in each run, and the fields of a place.
 const FLOATS_BEFORE_MESH: usize = 1761;
-const WORDS_BEFORE_MESH: usize = 98;
+const WORDS_BEFORE_MESH: usize = 130;
 const KERNELS_AT: usize = 1;
 const KERNEL_FLOATS: usize = 7;
 const STATES_AT: usize = 2;
-const STATE_WORDS: usize = 3;
+const STATE_WORDS: usize = 4;
+const LAYER_IN_STATE: usize = 3;
 
 /// Up to 32 kernels inside a mesh, with the work on them as far as it is done.
 ///
@@ -54,6 +55,8 @@ pub struct Steps {
 pub struct Held {
     /// The kernel, its weight as it was last entered.
     pub kernel: Kernel,
+    /// Its layer.
+    pub layer: u32,
     /// Its pieces.
     pub pieces: u32,
     /// The greatest error of its fit, as a fraction of its peak.
@@ -106,7 +109,7 @@ impl Store {
         Ok(Store { floats, words })
     }
 
-    /// Puts a kernel into a place, whatever that held, with all its work to do.
+    /// Puts a kernel into a place, whatever that held, with all its work to do, in layer 0.
     ///
     /// ```
     /// # use cauchy::{Kernel, Mesh, Refusal, Store};
@@ -118,11 +121,35 @@ impl Store {
     /// # Ok::<(), Box<dyn std::error::Error>>(())
     /// ```
     pub fn put(&mut self, place: u32, kernel: Kernel) -> Result<Placed, Refusal> {
+        self.put_in(place, kernel, 0)
+    }
+
+    /// Puts a kernel into a place, as [`Store::put`], in a layer from 0 to 15.
+    ///
+    /// ```
+    /// # use cauchy::{Kernel, Mesh, Refusal, Store};
+    /// # let mesh = Mesh { vertices: &[[0.0; 3]; 3], faces: &[[0, 1, 2]] };
+    /// let mut store = Store::open(500.0, mesh)?;
+    /// let kernel = Kernel { c: [0.0; 3], sigma: 0.01, w: 300.0, alpha: 1.0 };
+    /// store.put_in(4, kernel, 15)?;
+    /// assert_eq!(store.held(4).map(|held| held.layer), Some(15));
+    /// assert_eq!(store.put_in(4, kernel, 16), Err(Refusal::NoLayer));
+    /// # Ok::<(), Box<dyn std::error::Error>>(())
+    /// ```
+    pub fn put_in(&mut self, place: u32, kernel: Kernel, layer: u32) -> Result<Placed, Refusal> {
         let (floats, words) = (&mut self.floats, &mut self.words);
         let (n_floats, n_words) = (floats.len(), words.len());
         // SAFETY: two vectors of the store's own, borrowed for the call.
         let told = unsafe {
-            sys::cauchy_store_put(floats.as_mut_ptr(), n_floats, words.as_mut_ptr(), n_words, place, kernel)
+            sys::cauchy_store_put(
+                floats.as_mut_ptr(),
+                n_floats,
+                words.as_mut_ptr(),
+                n_words,
+                place,
+                kernel,
+                layer,
+            )
         };
         Refusal::check(told.no)?;
         Ok(Placed { pieces: told.pieces, need: told.need })
@@ -149,7 +176,7 @@ impl Store {
         })
     }
 
-    /// Gives the kernel of a place another weight, kg/m³; the work on it is kept.
+    /// Gives the kernel of a place another weight, kg/m³; the work on it and its layer are kept.
     ///
     /// ```
     /// # use cauchy::{Convention, Kernel, Mesh, Refusal, Store};
@@ -244,19 +271,7 @@ impl Store {
     /// # Ok::<(), Box<dyn std::error::Error>>(())
     /// ```
     pub fn density(&self, convention: Convention, point: [f64; 3]) -> Result<f64, Refusal> {
-        let (floats, words) = (&self.floats, &self.words);
-        // SAFETY: two vectors of the store's own, borrowed for the call and only read.
-        let told = unsafe {
-            sys::cauchy_store_density(
-                floats.as_ptr(),
-                floats.len(),
-                words.as_ptr(),
-                words.len(),
-                convention.crossing(),
-                point.into(),
-            )
-        };
-        Refusal::check(told.no).map(|()| told.value)
+        self.layers(Layers::ALL).density(convention, point)
     }
 
     /// The masses, counts and greatest error. It needs all work done.
@@ -276,19 +291,49 @@ impl Store {
     /// # Ok::<(), Box<dyn std::error::Error>>(())
     /// ```
     pub fn report(&self, convention: Convention) -> Result<StoreReport, Refusal> {
-        let (floats, words) = (&self.floats, &self.words);
-        // SAFETY: two vectors of the store's own, borrowed for the call and only read.
-        let told = unsafe {
-            sys::cauchy_store_report(
-                floats.as_ptr(),
-                floats.len(),
-                words.as_ptr(),
-                words.len(),
-                convention.crossing(),
-            )
-        };
-        Refusal::check(told.no)?;
-        Ok(StoreReport { mass: told.report, kernels: told.kernels, pieces: told.pieces, error: told.error })
+        self.layers(Layers::ALL).report(convention)
+    }
+
+    /// The report of what is finished: of the places whose work is done, while others may have some left, and how many
+    /// filled places it passed over. It is what [`Store::report`] gives of a store that holds just those places.
+    ///
+    /// ```
+    /// # use cauchy::{Convention, Kernel, Mesh, Refusal, Store};
+    /// # let mesh = Mesh { vertices: &[[0.0; 3]; 3], faces: &[[0, 1, 2]] };
+    /// let mut store = Store::open(500.0, mesh)?;
+    /// let kernel = Kernel { c: [0.0; 3], sigma: 0.01, w: 300.0, alpha: 1.0 };
+    /// store.put(0, kernel)?;
+    /// store.put(1, kernel)?;
+    /// store.advance(1)?;
+    /// assert_eq!(store.report(Convention::Raw), Err(Refusal::Unfinished));
+    /// let so_far = store.finished(Convention::Raw)?;
+    /// assert_eq!((so_far.report.kernels, so_far.passed_over), (1, 1));
+    /// # Ok::<(), Box<dyn std::error::Error>>(())
+    /// ```
+    pub fn finished(&self, convention: Convention) -> Result<Finished, Refusal> {
+        self.layers(Layers::ALL).finished(convention)
+    }
+
+    /// The steps that place has left; 0 where it is empty or 32 or above.
+    ///
+    /// ```
+    /// # use cauchy::{Kernel, Mesh, Store};
+    /// # let mesh = Mesh { vertices: &[[0.0; 3]; 3], faces: &[[0, 1, 2]; 10] };
+    /// # let kernel = Kernel { c: [0.0; 3], sigma: 0.01, w: 300.0, alpha: 1.0 };
+    /// let mut store = Store::open(500.0, mesh)?;
+    /// store.put(4, kernel)?;
+    /// store.advance(3)?;
+    /// assert_eq!((store.left_at(4), store.left_at(5)), (7, 0));
+    /// # Ok::<(), Box<dyn std::error::Error>>(())
+    /// ```
+    pub fn left_at(&self, place: u32) -> u64 {
+        if place >= PLACES {
+            return 0;
+        }
+        let state = &self.words[STATES_AT + STATE_WORDS * place as usize..][..STATE_WORDS];
+        let [status, finished, done] = [state[0], state[1], state[2]].map(u64::from);
+        let faces = u64::from(self.faces());
+        status.saturating_sub(1) * faces - (finished * faces + done)
     }
 
     /// The pieces of all places, in order, with weights rescaled by the convention. By mass with a target
@@ -305,21 +350,7 @@ impl Store {
     /// # Ok::<(), Box<dyn std::error::Error>>(())
     /// ```
     pub fn list(&self, convention: Convention) -> Result<Vec<Kernel>, Refusal> {
-        let mut out = vec![0.0; PLACES as usize * MAX_PIECES * 6];
-        let (floats, words) = (&self.floats, &self.words);
-        // SAFETY: vectors of the store's own, only read, and a new one.
-        let told = unsafe {
-            sys::cauchy_store_list(
-                floats.as_ptr(),
-                floats.len(),
-                words.as_ptr(),
-                words.len(),
-                convention.crossing(),
-                out.as_mut_ptr(),
-                out.len(),
-            )
-        };
-        Refusal::check(told.no).map(|()| Kernel::listed(&out, told.pieces as usize))
+        self.layers(Layers::ALL).list(convention)
     }
 
     /// Writes the density at each point of a track of up to [`MAX_TRACK`] points, kg/m³, in order, and answers how
@@ -343,23 +374,7 @@ impl Store {
         points: &[[f64; 3]],
         out: &mut [f64],
     ) -> Result<usize, Refusal> {
-        let (floats, words) = (&self.floats, &self.words);
-        let points = points.as_flattened();
-        // SAFETY: vectors of the store's own and a slice, only read, and a slice that is unshared.
-        let told = unsafe {
-            sys::cauchy_store_track(
-                floats.as_ptr(),
-                floats.len(),
-                words.as_ptr(),
-                words.len(),
-                convention.crossing(),
-                points.as_ptr(),
-                points.len(),
-                out.as_mut_ptr(),
-                out.len(),
-            )
-        };
-        Refusal::check(told.no).map(|()| told.points as usize)
+        self.layers(Layers::ALL).track(convention, points, out)
     }
 
     /// The density at each point, kg/m³, in order: tracks of [`MAX_TRACK`] points, as many as that takes.
@@ -374,16 +389,7 @@ impl Store {
     /// # Ok::<(), Box<dyn std::error::Error>>(())
     /// ```
     pub fn densities(&self, convention: Convention, points: &[[f64; 3]]) -> Result<Vec<f64>, Refusal> {
-        let mut out = vec![0.0; points.len()];
-        let mut done = 0;
-        // no points are a track too, which may be refused
-        loop {
-            let portion = &points[done..points.len().min(done + MAX_TRACK)];
-            done += self.track(convention, portion, &mut out[done..])?;
-            if done == points.len() {
-                return Ok(out);
-            }
-        }
+        self.layers(Layers::ALL).densities(convention, points)
     }
 
     /// The wall page: a line of 64 characters and a newline for each filled place, in order, with its number in columns
@@ -461,11 +467,12 @@ impl Store {
             return None;
         }
         let place = place as usize;
-        let pieces = self.words[STATES_AT + STATE_WORDS * place].checked_sub(1)?;
+        let state = &self.words[STATES_AT + STATE_WORDS * place..][..STATE_WORDS];
+        let pieces = state[0].checked_sub(1)?;
         let fields = &self.floats[KERNELS_AT + KERNEL_FLOATS * place..][..KERNEL_FLOATS];
         let kernel =
             Kernel { c: [fields[0], fields[1], fields[2]], sigma: fields[3], w: fields[4], alpha: fields[5] };
-        Some(Held { kernel, pieces, error: fields[6] })
+        Some(Held { kernel, layer: state[LAYER_IN_STATE], pieces, error: fields[6] })
     }
 
     /// The count of the mesh's vertices.

@@ -87,6 +87,16 @@ pub struct StoreReport {
 }
 
 #[repr(C)]
+pub struct Finished {
+    pub no: u32,
+    pub report: MassReport,
+    pub kernels: u32,
+    pub pieces: u32,
+    pub error: f64,
+    pub passed_over: u32,
+}
+
+#[repr(C)]
 pub struct Listed {
     pub no: u32,
     pub pieces: u32,
@@ -154,6 +164,7 @@ unsafe extern "C" {
         n_words: usize,
         place: u32,
         kernel: Kernel,
+        layer: u32,
     ) -> Placed;
     pub fn cauchy_store_clear(
         floats: *mut f64,
@@ -189,6 +200,7 @@ unsafe extern "C" {
         words: *const u32,
         n_words: usize,
         convention: Convention,
+        layers: u32,
         point: Vector,
     ) -> Value;
     pub fn cauchy_store_report(
@@ -197,13 +209,23 @@ unsafe extern "C" {
         words: *const u32,
         n_words: usize,
         convention: Convention,
+        layers: u32,
     ) -> StoreReport;
+    pub fn cauchy_store_finished(
+        floats: *const f64,
+        n_floats: usize,
+        words: *const u32,
+        n_words: usize,
+        convention: Convention,
+        layers: u32,
+    ) -> Finished;
     pub fn cauchy_store_list(
         floats: *const f64,
         n_floats: usize,
         words: *const u32,
         n_words: usize,
         convention: Convention,
+        layers: u32,
         out: *mut f64,
         n_out: usize,
     ) -> Listed;
@@ -213,6 +235,7 @@ unsafe extern "C" {
         words: *const u32,
         n_words: usize,
         convention: Convention,
+        layers: u32,
         points: *const f64,
         n_points: usize,
         out: *mut f64,

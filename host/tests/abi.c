@@ -14,7 +14,7 @@ static int near(double got, double want, double relative) { return fabs(got - wa
 
 /* ---- A mesh of 5 vertices, the last in no face, and 4 faces; two kernels ---------------------------- */
 
-enum { V = 5, F = 4, N_XYZ = 3 * V, N_FACES = 3 * F, N_FLOATS = 1761 + N_XYZ + 2, N_WORDS = 98 + N_FACES + 3 };
+enum { V = 5, F = 4, N_XYZ = 3 * V, N_FACES = 3 * F, N_FLOATS = 1761 + N_XYZ + 2, N_WORDS = 130 + N_FACES + 3 };
 
 static const double xyz[N_XYZ] = {-1, -2, -3, 7, 1, 0.5, 0.25, 8, 2, 1.5, 3, 9, 11, 12, 13};
 static const uint32_t faces[N_FACES] = {0, 2, 1, 0, 1, 3, 0, 3, 2, 1, 2, 3};
@@ -136,18 +136,18 @@ static void open_store(void) {
     CHECK(no.no == CAUCHY_LOOSE_CORNER && no.verts == 0 && no.faces == 0 && unchanged());
     no = cauchy_store_open(floats, 1761 + N_XYZ - 1, words, N_WORDS, radius, xyz, N_XYZ, faces, N_FACES);
     CHECK(no.no == CAUCHY_SHORT_STORE && no.verts == 0 && no.faces == 0 && unchanged());
-    no = cauchy_store_open(floats, N_FLOATS, words, 98 + N_FACES - 1, radius, xyz, N_XYZ, faces, N_FACES);
+    no = cauchy_store_open(floats, N_FLOATS, words, 130 + N_FACES - 1, radius, xyz, N_XYZ, faces, N_FACES);
     CHECK(no.no == CAUCHY_SHORT_STORE && no.verts == 0 && no.faces == 0 && unchanged());
 
-    CHECK(CAUCHY_STORE_FLOATS(V) == 1761 + N_XYZ && CAUCHY_STORE_WORDS(F) == 98 + N_FACES);
+    CHECK(CAUCHY_STORE_FLOATS(V) == 1761 + N_XYZ && CAUCHY_STORE_WORDS(F) == 130 + N_FACES);
     CauchyOpened o = cauchy_store_open(floats, N_FLOATS, words, N_WORDS, radius, xyz, N_XYZ, faces, N_FACES);
     CHECK(o.no == CAUCHY_ACCEPTED && o.verts == V && o.faces == F);
     CHECK(floats[0] == radius && words[0] == V && words[1] == F);
-    CHECK(!memcmp(floats + 1761, xyz, sizeof xyz) && !memcmp(words + 98, faces, sizeof faces));
+    CHECK(!memcmp(floats + 1761, xyz, sizeof xyz) && !memcmp(words + 130, faces, sizeof faces));
     for (int i = 1; i < 1761; i++) CHECK(floats[i] == 0);
-    for (int i = 2; i < 98; i++) CHECK(words[i] == 0);
+    for (int i = 2; i < 130; i++) CHECK(words[i] == 0);
     CHECK(floats[N_FLOATS - 2] == floats_before[N_FLOATS - 2] && floats[N_FLOATS - 1] == floats_before[N_FLOATS - 1]);
-    CHECK(!memcmp(words + 98 + N_FACES, words_before + 98 + N_FACES, 3 * sizeof(uint32_t)));
+    CHECK(!memcmp(words + 130 + N_FACES, words_before + 130 + N_FACES, 3 * sizeof(uint32_t)));
 }
 
 static int holds(int place, CauchyKernel k) {
@@ -156,15 +156,15 @@ static int holds(int place, CauchyKernel k) {
 }
 
 static void put_clear_reweigh(void) {
-    CauchyPlaced p = cauchy_store_put(floats, N_FLOATS, words, N_WORDS, 3, flat());
+    CauchyPlaced p = cauchy_store_put(floats, N_FLOATS, words, N_WORDS, 3, flat(), 2);
     CHECK(p.no == 0 && p.pieces == 1 && p.need == F && holds(3, flat()));
-    p = cauchy_store_put(floats, N_FLOATS, words, N_WORDS, 31, steep());
+    p = cauchy_store_put(floats, N_FLOATS, words, N_WORDS, 31, steep(), 15);
     CHECK(p.no == 0 && p.pieces == 13 && p.need == 13 * F && holds(31, steep()) && holds(3, flat()));
 
     remember();
-    p = cauchy_store_put(floats, N_FLOATS, words, N_WORDS, 32, flat());
+    p = cauchy_store_put(floats, N_FLOATS, words, N_WORDS, 32, flat(), 16);
     CHECK(p.no == CAUCHY_NO_PLACE && p.pieces == 0 && p.need == 0 && unchanged());
-    p = cauchy_store_put(NULL, 0, NULL, 0, 3, flat());
+    p = cauchy_store_put(NULL, 0, NULL, 0, 3, flat(), 16);
     CHECK(p.no == CAUCHY_SHORT_STORE && p.pieces == 0 && p.need == 0);
     CHECK(cauchy_store_clear(floats, N_FLOATS, words, N_WORDS, 33) == CAUCHY_NO_PLACE && unchanged());
     CHECK(cauchy_store_clear(floats, N_FLOATS, words, N_WORDS, 4) == CAUCHY_VACANT && unchanged());
@@ -175,8 +175,13 @@ static void put_clear_reweigh(void) {
     floats_before[1 + 7 * 31 + 4] = -42.5;
     CHECK(unchanged());
     CHECK(cauchy_store_reweigh(floats, N_FLOATS, words, N_WORDS, 31, steep().w) == 0 && holds(31, steep()));
-    CHECK(cauchy_store_put(floats, N_FLOATS, words, N_WORDS, 8, flat()).no == 0 && words[2 + 3 * 8] == 2);
-    CHECK(cauchy_store_clear(floats, N_FLOATS, words, N_WORDS, 8) == 0 && words[2 + 3 * 8] == 0);
+    CHECK(words[5 + 4 * 3] == 2 && words[5 + 4 * 31] == 15);
+    CHECK(cauchy_store_put(floats, N_FLOATS, words, N_WORDS, 8, flat(), 7).no == 0 && words[2 + 4 * 8] == 2);
+    CHECK(words[5 + 4 * 8] == 7 && cauchy_store_clear(floats, N_FLOATS, words, N_WORDS, 8) == 0);
+    for (int i = 2 + 4 * 8; i < 6 + 4 * 8; i++) CHECK(words[i] == 0);
+    remember();
+    p = cauchy_store_put(floats, N_FLOATS, words, N_WORDS, 8, flat(), CAUCHY_LAYERS);
+    CHECK(p.no == CAUCHY_NO_LAYER && p.pieces == 0 && p.need == 0 && unchanged());
 }
 
 /* A mesh of 8 vertices: 0, 3 and 7 in no face, 5 where 1 is. A squeeze leaves 5 of them. */
@@ -192,26 +197,26 @@ static void squeeze(void) {
     for (int i = 0; i < N_OLD; i++) f[i] = 500 + i;
     for (int i = 0; i < N_WORDS; i++) w[i] = 600 + (uint32_t)i;
     CHECK(cauchy_store_open(f, N_OLD, w, N_WORDS, radius, old, 3 * OLD, old_faces, N_FACES).no == 0);
-    CHECK(cauchy_store_put(f, N_OLD, w, N_WORDS, 6, flat()).no == 0);
-    CHECK(cauchy_store_put(f, N_OLD, w, N_WORDS, 7, steep()).no == 0);
+    CHECK(cauchy_store_put(f, N_OLD, w, N_WORDS, 6, flat(), 0).no == 0);
+    CHECK(cauchy_store_put(f, N_OLD, w, N_WORDS, 7, steep(), 1).no == 0);
     CHECK(cauchy_store_advance(f, N_OLD, w, N_WORDS, 5).left == 14 * F - 5);
 
     memcpy(f_before, f, sizeof f), memcpy(w_before, w, sizeof w);
     CauchySqueezed s = cauchy_store_squeeze(f, 1761 + 3 * OLD - 1, w, N_WORDS);
     CHECK(s.no == CAUCHY_SHORT_STORE && s.freed == 0);
-    w[98] = w_before[98] = OLD;
+    w[130] = w_before[130] = OLD;
     s = cauchy_store_squeeze(f, N_OLD, w, N_WORDS);
     CHECK(s.no == CAUCHY_UNSOUND && s.freed == 0);
     CHECK(!memcmp(f, f_before, sizeof f) && !memcmp(w, w_before, sizeof w));
-    w[98] = w_before[98] = old_faces[0];
+    w[130] = w_before[130] = old_faces[0];
 
     s = cauchy_store_squeeze(f, N_OLD, w, N_WORDS);
     CHECK(s.no == 0 && s.freed == 3 * (OLD - KEPT) && w[0] == KEPT && w[1] == F);
-    CHECK(!memcmp(f + 1761, kept, sizeof kept) && !memcmp(w + 98, kept_faces, sizeof kept_faces));
+    CHECK(!memcmp(f + 1761, kept, sizeof kept) && !memcmp(w + 130, kept_faces, sizeof kept_faces));
     for (int i = 1761 + 3 * KEPT; i < 1761 + 3 * OLD; i++) CHECK(f[i] == 0 && !signbit(f[i]));
-    CHECK(!memcmp(f, f_before, 1761 * sizeof *f) && !memcmp(w + 2, w_before + 2, 96 * sizeof *w));
+    CHECK(!memcmp(f, f_before, 1761 * sizeof *f) && !memcmp(w + 2, w_before + 2, 128 * sizeof *w));
     CHECK(f[N_OLD - 2] == f_before[N_OLD - 2] && f[N_OLD - 1] == f_before[N_OLD - 1]);
-    CHECK(!memcmp(w + 98 + N_FACES, w_before + 98 + N_FACES, 3 * sizeof *w));
+    CHECK(!memcmp(w + 130 + N_FACES, w_before + 130 + N_FACES, 3 * sizeof *w));
 
     /* the work goes on, with the mesh's shorter run too, and leaves the volumes that it would have left */
     CHECK(cauchy_store_advance(f, 1761 + 3 * KEPT, w, N_WORDS, UINT64_MAX).done == 14 * F - 5);
@@ -222,26 +227,31 @@ static void squeeze(void) {
 
 static void advance(void) {
     remember();
-    CauchySteps s = cauchy_store_advance(floats, N_FLOATS, words, 97, 5);
+    CauchySteps s = cauchy_store_advance(floats, N_FLOATS, words, 129, 5);
     CHECK(s.no == CAUCHY_SHORT_STORE && s.done == 0 && s.left == 0 && unchanged());
-    words[98] = V, words_before[98] = V;
+    words[130] = V, words_before[130] = V;
     s = cauchy_store_advance(floats, N_FLOATS, words, N_WORDS, 5);
     CHECK(s.no == CAUCHY_UNSOUND && s.done == 0 && s.left == 0 && unchanged());
-    words[98] = faces[0];
+    words[130] = faces[0];
 
     s = cauchy_store_advance(floats, N_FLOATS, words, N_WORDS, 5);
     CHECK(s.no == 0 && s.done == 5 && s.left == 14 * F - 5);
     CHECK(floats[225 + 48 * 3 + 2] == volume_of(flat().c, flat().sigma));
 
-    CauchyValue d = cauchy_store_density(floats, N_FLOATS, words, N_WORDS, convention(CAUCHY_MASS, 9e5, 1300), vector(1, 2, 3));
+    CauchyValue d = cauchy_store_density(floats, N_FLOATS, words, N_WORDS, convention(CAUCHY_MASS, 9e5, 1300), CAUCHY_ALL_LAYERS, vector(1, 2, 3));
     CHECK(d.no == CAUCHY_UNFINISHED && d.value == 0);
     /* ragged, and its run too short: work that is left is told first */
     const CauchyConvention by_mass = convention(CAUCHY_MASS, 9e5, 1300);
-    CauchyTrack t = cauchy_store_track(floats, N_FLOATS, words, N_WORDS, by_mass, xyz, 5, NULL, 0);
+    CauchyTrack t = cauchy_store_track(floats, N_FLOATS, words, N_WORDS, by_mass, CAUCHY_ALL_LAYERS, xyz, 5, NULL, 0);
     CHECK(t.no == CAUCHY_UNFINISHED && t.points == 0);
+    t = cauchy_store_track(floats, N_FLOATS, words, N_WORDS, by_mass, 1u << 16, xyz, 5, NULL, 0);
+    CHECK(t.no == CAUCHY_NO_LAYER && t.points == 0);
+    /* the work of place 3 is done, and a reading of its layer needs no other */
+    CHECK(cauchy_store_report(floats, N_FLOATS, words, N_WORDS, by_mass, 1u << 2).no == 0);
+    CHECK(cauchy_store_report(floats, N_FLOATS, words, N_WORDS, by_mass, 1u << 15).no == CAUCHY_UNFINISHED);
     CauchyBytes p = cauchy_store_page(floats, N_FLOATS, words, N_WORDS, NULL, 0);
     CHECK(p.no == CAUCHY_UNFINISHED && p.bytes == 0);
-    CauchyStoreReport r = cauchy_store_report(floats, N_FLOATS, words, N_WORDS, convention(CAUCHY_RAW, 0, 0));
+    CauchyStoreReport r = cauchy_store_report(floats, N_FLOATS, words, N_WORDS, convention(CAUCHY_RAW, 0, 0), CAUCHY_ALL_LAYERS);
     CHECK(r.no == CAUCHY_UNFINISHED && r.kernels == 0 && r.pieces == 0 && r.error == 0);
     CHECK(r.report.raw_mass == 0 && r.report.rho0_scale == 0 && r.report.rho0_mass == 0 && r.report.applied_scale == 0);
     CHECK(r.report.applied_mass == 0 && r.report.target_mass == 0 && r.report.volume == 0);
@@ -254,10 +264,10 @@ static double list[14 * 6 + 1];
 
 static void list_store(void) {
     for (int i = 0; i < 14 * 6 + 1; i++) list[i] = 700 + i;
-    CauchyListed l = cauchy_store_list(floats, N_FLOATS, words, N_WORDS, convention(CAUCHY_RAW, 0, 0), list, 14 * 6 - 1);
+    CauchyListed l = cauchy_store_list(floats, N_FLOATS, words, N_WORDS, convention(CAUCHY_RAW, 0, 0), CAUCHY_ALL_LAYERS, list, 14 * 6 - 1);
     CHECK(l.no == CAUCHY_SHORT_LIST && l.pieces == 0);
     for (int i = 0; i < 14 * 6 + 1; i++) CHECK(list[i] == 700 + i);
-    l = cauchy_store_list(floats, N_FLOATS, words, N_WORDS, convention(CAUCHY_RAW, 0, 0), list, 14 * 6);
+    l = cauchy_store_list(floats, N_FLOATS, words, N_WORDS, convention(CAUCHY_RAW, 0, 0), CAUCHY_ALL_LAYERS, list, 14 * 6);
     CHECK(l.no == 0 && l.pieces == 14 && list[14 * 6] == 700 + 14 * 6);
 
     double first[6], pieces[13 * 6 + 1];
@@ -345,7 +355,7 @@ static void check_track(CauchyConvention v, const double *scaled) {
     double points[3 * POINTS], out[POINTS + 2];
     for (int i = 0; i < 3 * POINTS; i++) points[i] = 0.375 * i - 4;
     for (int i = 0; i < POINTS + 2; i++) out[i] = 850 + i;
-    CauchyTrack t = cauchy_store_track(floats, N_FLOATS, words, N_WORDS, v, points, 3 * POINTS, out, POINTS + 2);
+    CauchyTrack t = cauchy_store_track(floats, N_FLOATS, words, N_WORDS, v, CAUCHY_ALL_LAYERS, points, 3 * POINTS, out, POINTS + 2);
     CHECK(t.no == 0 && t.points == POINTS && out[POINTS] == 850 + POINTS && out[POINTS + 1] == 851 + POINTS);
     for (int i = 0; i < POINTS; i++) {
         const double *p = points + 3 * i;
@@ -358,28 +368,28 @@ static void refused_tracks(void) {
     static double points[3 * MANY], out[MANY];
     const CauchyConvention raw = convention(CAUCHY_RAW, 0, 0);
     for (int i = 0; i < MANY; i++) out[i] = 860 + i;
-    CauchyTrack t = cauchy_store_track(floats, N_FLOATS, words, N_WORDS, raw, points, 3 * MANY, out, MANY);
+    CauchyTrack t = cauchy_store_track(floats, N_FLOATS, words, N_WORDS, raw, CAUCHY_ALL_LAYERS, points, 3 * MANY, out, MANY);
     CHECK(t.no == CAUCHY_BAD_TRACK && t.points == 0);
-    t = cauchy_store_track(floats, N_FLOATS, words, N_WORDS, raw, points, 10, out, MANY);
+    t = cauchy_store_track(floats, N_FLOATS, words, N_WORDS, raw, CAUCHY_ALL_LAYERS, points, 10, out, MANY);
     CHECK(t.no == CAUCHY_BAD_TRACK && t.points == 0);
-    t = cauchy_store_track(floats, N_FLOATS, words, N_WORDS, raw, points, 9, out, 2);
+    t = cauchy_store_track(floats, N_FLOATS, words, N_WORDS, raw, CAUCHY_ALL_LAYERS, points, 9, out, 2);
     CHECK(t.no == CAUCHY_BAD_TRACK && t.points == 0);
-    t = cauchy_store_track(floats, N_FLOATS, words, 97, raw, points, 10, out, MANY);
+    t = cauchy_store_track(floats, N_FLOATS, words, 129, raw, CAUCHY_ALL_LAYERS, points, 10, out, MANY);
     CHECK(t.no == CAUCHY_SHORT_STORE && t.points == 0);
-    words[98] = V;
-    t = cauchy_store_track(floats, N_FLOATS, words, N_WORDS, raw, points, 10, out, MANY);
+    words[130] = V;
+    t = cauchy_store_track(floats, N_FLOATS, words, N_WORDS, raw, CAUCHY_ALL_LAYERS, points, 10, out, MANY);
     CHECK(t.no == CAUCHY_UNSOUND && t.points == 0);
-    words[98] = faces[0];
+    words[130] = faces[0];
     for (int i = 0; i < MANY; i++) CHECK(out[i] == 860 + i);
-    t = cauchy_store_track(floats, N_FLOATS, words, N_WORDS, raw, NULL, 0, NULL, 0);
+    t = cauchy_store_track(floats, N_FLOATS, words, N_WORDS, raw, CAUCHY_ALL_LAYERS, NULL, 0, NULL, 0);
     CHECK(t.no == 0 && t.points == 0);
-    t = cauchy_store_track(floats, N_FLOATS, words, N_WORDS, raw, points, 3 * CAUCHY_MAX_TRACK, out, MANY);
+    t = cauchy_store_track(floats, N_FLOATS, words, N_WORDS, raw, CAUCHY_ALL_LAYERS, points, 3 * CAUCHY_MAX_TRACK, out, MANY);
     CHECK(t.no == 0 && t.points == CAUCHY_MAX_TRACK && out[MANY - 1] == 860 + MANY - 1);
     for (int i = 0; i < CAUCHY_MAX_TRACK; i++) CHECK(out[i] == density_of(list, 14, 0, 0, 0));
 }
 
 static void check_report(CauchyConvention v, double bulk, double target) {
-    CauchyStoreReport r = cauchy_store_report(floats, N_FLOATS, words, N_WORDS, v);
+    CauchyStoreReport r = cauchy_store_report(floats, N_FLOATS, words, N_WORDS, v, CAUCHY_ALL_LAYERS);
     double raw = mass_of(list, 14), rho0 = bulk / density_of(list, 14, 0, 0, 0);
     double applied = v.kind == CAUCHY_RAW ? 1 : v.kind == CAUCHY_RHO0 ? rho0 : target / raw;
     CHECK(r.no == 0 && r.kernels == 2 && r.pieces == 14 && r.error == floats[1 + 7 * 31 + 6]);
@@ -390,10 +400,10 @@ static void check_report(CauchyConvention v, double bulk, double target) {
     double scaled[14 * 6];
     memcpy(scaled, list, sizeof scaled);
     for (int i = 0; i < 14; i++) scaled[6 * i + 4] *= applied;
-    CauchyValue d = cauchy_store_density(floats, N_FLOATS, words, N_WORDS, v, vector(2.25, 1.125, 4.5));
+    CauchyValue d = cauchy_store_density(floats, N_FLOATS, words, N_WORDS, v, CAUCHY_ALL_LAYERS, vector(2.25, 1.125, 4.5));
     CHECK(d.no == 0 && d.value == density_of(scaled, 14, 2.25, 1.125, 4.5));
     double out[14 * 6];
-    CauchyListed l = cauchy_store_list(floats, N_FLOATS, words, N_WORDS, v, out, 14 * 6);
+    CauchyListed l = cauchy_store_list(floats, N_FLOATS, words, N_WORDS, v, CAUCHY_ALL_LAYERS, out, 14 * 6);
     CHECK(l.no == 0 && l.pieces == 14 && !memcmp(out, scaled, sizeof out));
     check_track(v, scaled);
 }
@@ -403,8 +413,48 @@ static void readings(void) {
     check_report(convention(CAUCHY_RHO0, 7e5, 1300), 1300, 0);
     check_report(convention(CAUCHY_MASS, 7e5, 1300), 1300, 7e5);
     check_report(convention(77, 7e5, 1300), 1300, 7e5);
-    CauchyValue d = cauchy_store_density(NULL, 0, NULL, 0, convention(CAUCHY_RAW, 0, 0), vector(1, 2, 3));
+    CauchyValue d = cauchy_store_density(NULL, 0, NULL, 0, convention(CAUCHY_RAW, 0, 0), CAUCHY_ALL_LAYERS, vector(1, 2, 3));
     CHECK(d.no == CAUCHY_SHORT_STORE && d.value == 0);
+}
+
+/* Place 3 is in layer 2, with one piece; place 31 in layer 15, with thirteen. */
+static void check_layers(uint32_t layers, int first, int pieces) {
+    const CauchyConvention by_mass = convention(CAUCHY_MASS, 7e5, 1300);
+    const double *seen = list + 6 * first;
+    double scaled[14 * 6], out[14 * 6], at[3] = {2.25, 1.125, 4.5}, rho;
+    const double raw = mass_of(seen, pieces), scale = pieces ? 7e5 / raw : 1;
+    CauchyStoreReport r = cauchy_store_report(floats, N_FLOATS, words, N_WORDS, by_mass, layers);
+    CHECK(r.no == 0 && (int)r.kernels == (pieces > 0) && (int)r.pieces == pieces && r.report.raw_mass == raw);
+    CHECK(r.report.applied_scale == scale && r.report.volume == body());
+    CHECK(r.error == (pieces == 13 ? floats[1 + 7 * 31 + 6] : 0));
+    memcpy(scaled, list, sizeof scaled);
+    for (int i = 0; i < pieces; i++) scaled[6 * (first + i) + 4] *= scale;
+    CauchyListed l = cauchy_store_list(floats, N_FLOATS, words, N_WORDS, by_mass, layers, out, 6 * (size_t)pieces);
+    CHECK(l.no == 0 && (int)l.pieces == pieces && !memcmp(out, scaled + 6 * first, 48 * (size_t)pieces));
+    CauchyValue d = cauchy_store_density(floats, N_FLOATS, words, N_WORDS, by_mass, layers, vector(at[0], at[1], at[2]));
+    CHECK(d.no == 0 && d.value == density_of(scaled + 6 * first, pieces, at[0], at[1], at[2]));
+    CauchyTrack t = cauchy_store_track(floats, N_FLOATS, words, N_WORDS, by_mass, layers, at, 3, &rho, 1);
+    CHECK(t.no == 0 && t.points == 1 && rho == d.value);
+}
+
+static void by_layers(void) {
+    check_layers(1u << 2, 0, 1);
+    check_layers(1u << 15 | 1u << 3, 1, 13);
+    check_layers(0, 0, 0);
+    const CauchyConvention raw = convention(CAUCHY_RAW, 0, 0);
+    for (uint32_t bit = 16; bit < 32; bit++) {
+        const uint32_t layers = CAUCHY_ALL_LAYERS | 1u << bit;
+        CHECK(cauchy_store_density(floats, N_FLOATS, words, N_WORDS, raw, layers, vector(1, 2, 3)).no == CAUCHY_NO_LAYER);
+        CHECK(cauchy_store_report(floats, N_FLOATS, words, N_WORDS, raw, layers).no == CAUCHY_NO_LAYER);
+        CHECK(cauchy_store_list(floats, N_FLOATS, words, N_WORDS, raw, layers, NULL, 0).no == CAUCHY_NO_LAYER);
+        CHECK(cauchy_store_track(floats, N_FLOATS, words, N_WORDS, raw, layers, xyz, 5, NULL, 0).no == CAUCHY_NO_LAYER);
+    }
+    words[5 + 4 * 3] = CAUCHY_LAYERS;
+    CHECK(cauchy_store_report(floats, N_FLOATS, words, N_WORDS, raw, 1u << 16).no == CAUCHY_UNSOUND);
+    words[5 + 4 * 3] = 2, words[5 + 4 * 4] = 1;
+    CHECK(cauchy_store_report(floats, N_FLOATS, words, N_WORDS, raw, CAUCHY_ALL_LAYERS).no == CAUCHY_UNSOUND);
+    words[5 + 4 * 4] = 0;
+    CHECK(cauchy_store_report(floats, N_FLOATS, words, N_WORDS, raw, CAUCHY_ALL_LAYERS).no == 0);
 }
 
 /* ---- The wall page ----------------------------------------------------------------------------------- */
@@ -450,11 +500,11 @@ static void pages(void) {
     CHECK(not_pinned(floats, words, 3 * LINE_BYTES - 1, CAUCHY_SHORT_PAGE));
     CHECK(not_pinned(floats, words, 0, CAUCHY_SHORT_PAGE) && unchanged());
     CHECK(cauchy_store_page(NULL, 0, NULL, 0, page, PAGE).no == CAUCHY_SHORT_STORE && page_untouched());
-    CauchyBytes p = cauchy_store_page(floats, N_FLOATS, words, 97, page, PAGE);
+    CauchyBytes p = cauchy_store_page(floats, N_FLOATS, words, 129, page, PAGE);
     CHECK(p.no == CAUCHY_SHORT_STORE && p.bytes == 0 && page_untouched());
-    words[98] = V;
+    words[130] = V;
     CHECK(not_pinned(floats, words, PAGE, CAUCHY_UNSOUND));
-    words[98] = faces[0];
+    words[130] = faces[0];
 }
 
 static double paged_floats[N_FLOATS];
@@ -465,7 +515,7 @@ static void fill_pages(uint32_t places) {
     double *f = paged_floats;
     uint32_t *w = paged_words;
     CHECK(cauchy_store_open(f, N_FLOATS, w, N_WORDS, radius, xyz, N_XYZ, faces, N_FACES).no == 0);
-    for (uint32_t i = 0; i < places; i++) CHECK(cauchy_store_put(f, N_FLOATS, w, N_WORDS, i, flat()).pieces == 1);
+    for (uint32_t i = 0; i < places; i++) CHECK(cauchy_store_put(f, N_FLOATS, w, N_WORDS, i, flat(), i % CAUCHY_LAYERS).pieces == 1);
     CHECK(cauchy_store_advance(f, N_FLOATS, w, N_WORDS, UINT64_MAX).left == 0);
     for (uint32_t i = 0; i < places; i++) f[225 + 48 * i + 2] = 1;
 }
@@ -532,7 +582,7 @@ static void full_pages(void) {
     fill_pages(0);
     CauchyKernel none = flat();
     none.alpha = NAN, none.w = NAN;
-    CHECK(cauchy_store_put(paged_floats, N_FLOATS, paged_words, N_WORDS, 9, none).pieces == 0);
+    CHECK(cauchy_store_put(paged_floats, N_FLOATS, paged_words, N_WORDS, 9, none, 0).pieces == 0);
     sprintf(wanted, " 9  0%59d\nTOTAL%59d\n", 0, 0);
     CHECK(pinned(paged_floats, paged_words));
 }
@@ -812,6 +862,7 @@ int main(void) {
     decompose_lists();
     bills();
     readings();
+    by_layers();
     refused_tracks();
     pages();
     rounded_pages();

@@ -166,7 +166,7 @@ EDITS = [
     ("host/src/sys.rs", "total: f64,\n        mean: f64,",
      "mean: f64,\n        total: f64,", "cauchy_source_calibrate, argument 7"),
     ("host/src/sys.rs", "budget: u64", "budget: u32", "cauchy_store_advance, argument 5"),
-    ("host/src/sys.rs", "points: *const f64", "points: *mut f64", "cauchy_store_track, argument 6"),
+    ("host/src/sys.rs", "points: *const f64", "points: *mut f64", "cauchy_store_track, argument 7"),
     ("host/src/sys.rs", "n_out: usize,\n    ) -> Listed", "n_out: usize,\n    ) -> Track", "cauchy_store_list, answer"),
     ("host/src/sys.rs", "    pub safe fn cauchy_ten(y: f64) -> f64;\n", "", "function cauchy_ten"),
     ("host/src/sys.rs", "pub done: u64,\n    pub left: u64,",

@@ -14,7 +14,7 @@
 
 /* ---- A store of 5 vertices, one of them in no face, with two kernels and some work done -------------- */
 
-enum { V = 5, F = 4, N_XYZ = 3 * V, N_FACES = 3 * F, N_FLOATS = 1761 + N_XYZ, N_WORDS = 98 + N_FACES, SPARE = 2 };
+enum { V = 5, F = 4, N_XYZ = 3 * V, N_FACES = 3 * F, N_FLOATS = 1761 + N_XYZ, N_WORDS = 130 + N_FACES, SPARE = 2 };
 enum { BYTES = 32 + 8 * N_FLOATS + 4 * N_WORDS };
 
 static const double xyz[N_XYZ] = {-1, -2, -3, 7, 1, 0.5, 11, 12, 13, 0.25, 8, 2, 1.5, 3, 9};
@@ -30,8 +30,8 @@ static void make_store(void) {
     for (int i = 0; i < N_WORDS + SPARE; i++) words[i] = 600 + (uint32_t)i;
     const size_t n = N_FLOATS + SPARE, m = N_WORDS + SPARE;
     CHECK(cauchy_store_open(floats, n, words, m, 17.5, xyz, N_XYZ, faces, N_FACES).no == 0);
-    CHECK(cauchy_store_put(floats, n, words, m, 3, flat).no == 0);
-    CHECK(cauchy_store_put(floats, n, words, m, 31, steep).no == 0);
+    CHECK(cauchy_store_put(floats, n, words, m, 3, flat, 0).no == 0);
+    CHECK(cauchy_store_put(floats, n, words, m, 31, steep, 4).no == 0);
     CHECK(cauchy_store_advance(floats, n, words, m, 6).left == 14 * F - 6);
 }
 
@@ -86,10 +86,10 @@ static void writing(void) {
     s = cauchy_snapshot_write(floats, N_FLOATS - 1, words, N_WORDS, bytes, BYTES);
     CHECK(s.no == CAUCHY_SHORT_STORE && s.bytes == 0 && s.floats == 0 && s.words == 0);
     CHECK(cauchy_snapshot_write(NULL, 0, NULL, 0, bytes, BYTES).no == CAUCHY_SHORT_STORE);
-    words[98] = V;
+    words[130] = V;
     s = cauchy_snapshot_write(floats, N_FLOATS, words, N_WORDS, bytes, BYTES);
     CHECK(s.no == CAUCHY_UNSOUND && s.bytes == 0 && s.floats == 0 && s.words == 0);
-    words[98] = faces[0];
+    words[130] = faces[0];
     CHECK(!memcmp(bytes, again, sizeof bytes));
 
     /* what stands in longer runs past the store is left out */
@@ -97,7 +97,7 @@ static void writing(void) {
     s = cauchy_snapshot_write(floats, N_FLOATS + SPARE, words, N_WORDS + SPARE, bytes, sizeof bytes);
     CHECK(s.no == 0 && s.bytes == BYTES && s.floats == N_FLOATS && s.words == N_WORDS);
     CHECK(cauchy_snapshot_write(floats, N_FLOATS, words, N_WORDS, again, BYTES).bytes == BYTES);
-    CHECK(!memcmp(bytes, again, sizeof bytes) && bytes[BYTES] == 0xaa && !memcmp(bytes, "CAUCHY01", 8));
+    CHECK(!memcmp(bytes, again, sizeof bytes) && bytes[BYTES] == 0xaa && !memcmp(bytes, "CAUCHY02", 8));
     CHECK(bytes[8] == N_FLOATS % 256 && bytes[9] == N_FLOATS / 256 && bytes[16] == N_WORDS);
     CHECK(!memcmp(bytes + 24, floats, 8 * N_FLOATS) && !memcmp(bytes + 24 + 8 * N_FLOATS, words, 4 * N_WORDS));
 }
@@ -134,6 +134,8 @@ static void damage(int stride) {
     for (int i = 8; i < BYTES; i++) CHECK(refused(read_again(again, i), CAUCHY_HOST_LENGTH));
     CHECK(refused(read_again(again, BYTES + 1), CAUCHY_HOST_LENGTH));
     CHECK(refused(read_again(NULL, 0), CAUCHY_HOST_FOREIGN) && again_untouched());
+    memcpy(again, "CAUCHY01", 8);
+    CHECK(refused(read_again(again, BYTES), CAUCHY_HOST_OLDER) && again_untouched());
 }
 
 static uint64_t crc_bit_by_bit(const uint8_t *from, size_t count) {
@@ -149,7 +151,7 @@ static uint64_t crc_bit_by_bit(const uint8_t *from, size_t count) {
 static size_t forge(const double *f, size_t n_f, const uint32_t *w, size_t n_w) {
     const uint64_t counts[2] = {n_f, n_w};
     const size_t covered = 24 + 8 * n_f + 4 * n_w;
-    memcpy(again, "CAUCHY01", 8), memcpy(again + 8, counts, 16);
+    memcpy(again, "CAUCHY02", 8), memcpy(again + 8, counts, 16);
     memcpy(again + 24, f, 8 * n_f), memcpy(again + 24 + 8 * n_f, w, 4 * n_w);
     const uint64_t sum = crc_bit_by_bit(again, covered);
     memcpy(again + covered, &sum, 8);
@@ -159,21 +161,21 @@ static size_t forge(const double *f, size_t n_f, const uint32_t *w, size_t n_w) 
 /* the cases of the Rust crate's own test, with the same answers */
 static void forgeries(void) {
     static double f[1764];
-    static uint32_t w[101];
+    static uint32_t w[133];
     CHECK(crc_bit_by_bit((const uint8_t *)"123456789", 9) == 0x995dc9bbdf1939fa);
     CHECK(refused(read_again(again, forge(f, 0, w, 0)), CAUCHY_SHORT_STORE));
-    CHECK(refused(read_again(again, forge(f, 1760, w, 98)), CAUCHY_SHORT_STORE));
-    CHECK(refused(read_again(again, forge(f, 1762, w, 98)), CAUCHY_UNSOUND));
-    CHECK(refused(read_again(again, forge(f, 1761, w, 101)), CAUCHY_UNSOUND));
+    CHECK(refused(read_again(again, forge(f, 1760, w, 130)), CAUCHY_SHORT_STORE));
+    CHECK(refused(read_again(again, forge(f, 1762, w, 130)), CAUCHY_UNSOUND));
+    CHECK(refused(read_again(again, forge(f, 1761, w, 133)), CAUCHY_UNSOUND));
     const double strays[3] = {1, -0.0, NAN};
     for (int i = 0; i < 3; i++) {
         f[1763] = strays[i];
-        CHECK(refused(read_again(again, forge(f, 1764, w, 98)), CAUCHY_UNSOUND));
+        CHECK(refused(read_again(again, forge(f, 1764, w, 130)), CAUCHY_UNSOUND));
     }
     f[1763] = 0;
-    CHECK(read_again(again, forge(f, 1764, w, 98)).no == 0 && read_again(again, forge(f, 1761, w, 98)).no == 0);
+    CHECK(read_again(again, forge(f, 1764, w, 130)).no == 0 && read_again(again, forge(f, 1761, w, 130)).no == 0);
     w[2] = 18;
-    CHECK(refused(read_again(again, forge(f, 1761, w, 98)), CAUCHY_UNSOUND));
+    CHECK(refused(read_again(again, forge(f, 1761, w, 130)), CAUCHY_UNSOUND));
     const uint64_t counts[3] = {UINT64_MAX, (uint64_t)1 << 61, (uint64_t)1 << 62};
     for (int i = 0; i < 3; i++) {
         memcpy(again + 8, &counts[i], 8), memcpy(again + 16, &counts[i], 8);

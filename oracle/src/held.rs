@@ -2,23 +2,23 @@
 //! the store holds ("Readings use pieces and volumes as the store holds them"). Written from 01's text, sharing nothing with the proved
 //! code but the powers.
 use crate::conventions::{Convention, Reading, Report, write_list, write_track};
-use crate::machine::squeezed;
+use crate::machine::{ALL_LAYERS, CORNERS, RECORD, in_set, set_number, squeezed};
 use crate::page::{self, Row};
 use crate::pieces::Kernel;
 use crate::text::{ByArchive, Text, volume_on};
 
 /// Rows 4 and 5, of a store given to a call; 0 where it is sound.
 pub fn store_number(floats: &[f64], words: &[u32]) -> u32 {
-    if words.len() < 98 {
+    if words.len() < CORNERS {
         return 4;
     }
     let (v, f) = (u64::from(words[0]), u64::from(words[1]));
-    if (floats.len() as u64) < 1_761 + 3 * v || (words.len() as u64) < 98 + 3 * f {
+    if (floats.len() as u64) < 1_761 + 3 * v || (words.len() as u64) < CORNERS as u64 + 3 * f {
         return 4;
     }
     let in_limit = v <= 1_048_576 && f <= 2_097_152;
-    let places = || words[2..98].chunks(3).all(|s| place_sound(s[0], s[1], s[2], words[1]));
-    let corners = || words[98..98 + 3 * f as usize].iter().all(|i| *i < words[0]);
+    let places = || words[2..CORNERS].chunks(RECORD).all(|s| place_sound(s[0], s[1], s[2], words[1]) && layer_sound(s[0], s[3]));
+    let corners = || words[CORNERS..][..3 * f as usize].iter().all(|i| *i < words[0]);
     if in_limit && places() && corners() { 0 } else { 5 }
 }
 
@@ -30,6 +30,11 @@ fn place_sound(status: u32, finished: u32, done: u32, faces: u32) -> bool {
         1..=17 if finished < status - 1 => done < faces,
         _ => false,
     }
+}
+
+/// 02's L5: "a kept layer above 15, or any but 0 at an empty place, makes a store unsound".
+fn layer_sound(status: u32, layer: u32) -> bool {
+    if status == 0 { layer == 0 } else { layer <= 15 }
 }
 
 /// A store's two runs, as a call finds them.
@@ -54,12 +59,12 @@ impl Held {
 
     fn filled(&self, place: u32) -> Result<usize, u32> {
         let i = self.place(place)?;
-        if self.words[2 + 3 * i] == 0 { Err(7) } else { Ok(i) }
+        if self.words[2 + RECORD * i] == 0 { Err(7) } else { Ok(i) }
     }
 
     /// Status, pieces finished, faces done.
     fn state(&self, i: usize) -> [usize; 3] {
-        [0, 1, 2].map(|k| self.words[2 + 3 * i + k] as usize)
+        [0, 1, 2].map(|k| self.words[2 + RECORD * i + k] as usize)
     }
 
     pub fn face_count(&self) -> usize {
@@ -67,20 +72,29 @@ impl Held {
     }
 
     fn mesh(&self) -> (&[f64], &[u32]) {
-        (&self.floats[1_761..][..3 * self.words[0] as usize], &self.words[98..][..3 * self.face_count()])
+        (&self.floats[1_761..][..3 * self.words[0] as usize], &self.words[CORNERS..][..3 * self.face_count()])
     }
 
     /// need - p over the places: a sound store's, else 0.
     pub fn left(&self) -> u64 {
-        let owed = |i| {
-            let [status, finished, done] = self.state(i);
-            (status.saturating_sub(1) * self.face_count() - (finished * self.face_count() + done)) as u64
-        };
-        if self.sound().is_ok() { (0..32).map(owed).sum() } else { 0 }
+        if self.sound().is_ok() { (0..32).map(|i| self.owed(i)).sum() } else { 0 }
     }
 
-    pub fn put(&mut self, place: u32, k: Kernel) -> Result<(u32, u32), u32> {
+    fn owed(&self, i: usize) -> u64 {
+        let [status, finished, done] = self.state(i);
+        (status.saturating_sub(1) * self.face_count() - (finished * self.face_count() + done)) as u64
+    }
+
+    /// Whether a reading of these layers sees a place.
+    fn seen(&self, layers: u32, i: usize) -> bool {
+        in_set(layers, self.words[2 + RECORD * i + 3])
+    }
+
+    pub fn put(&mut self, place: u32, k: Kernel, layer: u32) -> Result<(u32, u32), u32> {
         let i = self.place(place)?;
+        if layer > 15 {
+            return Err(16);
+        }
         let (pieces, error) = ByArchive::decompose(&[Kernel { w: 1.0, ..k }], self.floats[0]);
         let count = pieces.len() as u32;
         self.floats[1 + 7 * i..][..7].copy_from_slice(&[k.c[0], k.c[1], k.c[2], k.sigma, k.w, k.alpha, error]);
@@ -90,7 +104,7 @@ impl Held {
             self.floats[225 + 48 * i + 3 * j + 1] = piece.w;
         }
         let finished = if self.words[1] == 0 { count } else { 0 };
-        self.words[2 + 3 * i..][..3].copy_from_slice(&[1 + count, finished, 0]);
+        self.words[2 + RECORD * i..][..RECORD].copy_from_slice(&[1 + count, finished, 0, layer]);
         Ok((count, count * self.words[1]))
     }
 
@@ -98,7 +112,7 @@ impl Held {
         let i = self.filled(place)?;
         self.floats[1 + 7 * i..][..7].fill(0.0);
         self.floats[225 + 48 * i..][..48].fill(0.0);
-        self.words[2 + 3 * i..][..3].fill(0);
+        self.words[2 + RECORD * i..][..RECORD].fill(0);
         Ok(())
     }
 
@@ -123,8 +137,8 @@ impl Held {
                     (finished, at) = (finished + 1, 0);
                 }
             }
-            self.words[2 + 3 * i + 1] = finished as u32;
-            self.words[2 + 3 * i + 2] = at as u32;
+            self.words[2 + RECORD * i + 1] = finished as u32;
+            self.words[2 + RECORD * i + 2] = at as u32;
         }
         Ok((done, self.left()))
     }
@@ -144,7 +158,7 @@ impl Held {
         let (all, (kept, corners)) = (xyz.len(), squeezed(xyz, faces));
         self.floats[1_761..][..kept.len()].copy_from_slice(&kept);
         self.floats[1_761 + kept.len()..1_761 + all].fill(0.0);
-        self.words[98..][..corners.len()].copy_from_slice(&corners);
+        self.words[CORNERS..][..corners.len()].copy_from_slice(&corners);
         self.words[0] = (kept.len() / 3) as u32;
         Ok((all - kept.len()) as u32)
     }
@@ -160,49 +174,71 @@ impl Held {
         })
     }
 
-    /// Those of the filled places, in order.
-    fn pieces(&self) -> (Vec<Kernel>, Vec<f64>) {
-        (0..32).flat_map(|i| self.pieces_of(i)).unzip()
+    /// Those of the filled places in these layers, in order.
+    fn pieces(&self, layers: u32) -> (Vec<Kernel>, Vec<f64>) {
+        (0..32).filter(|i| self.seen(layers, *i)).flat_map(|i| self.pieces_of(i)).unzip()
     }
 
     fn filled_places(&self) -> impl Iterator<Item = usize> {
         (0..32).filter(|i| self.state(*i)[0] > 0)
     }
 
-    fn finished_for(&self, reading: Reading, by: Convention) -> Result<(), u32> {
+    /// Rows 4 and 5, 16, row 8.
+    fn finished_for(&self, reading: Reading, by: Convention, layers: u32) -> Result<(), u32> {
         self.sound()?;
-        if by.needs_work(reading) && self.left() > 0 { Err(8) } else { Ok(()) }
+        set_number(layers)?;
+        let left: u64 = (0..32).filter(|i| self.seen(layers, *i)).map(|i| self.owed(i)).sum();
+        if by.needs_work(reading) && left > 0 { Err(8) } else { Ok(()) }
     }
 
-    fn rescaled(&self, by: Convention) -> Vec<Kernel> {
-        let (pieces, volumes) = self.pieces();
+    fn rescaled(&self, by: Convention, layers: u32) -> Vec<Kernel> {
+        let (pieces, volumes) = self.pieces(layers);
         by.rescaled::<ByArchive>(&pieces, || raw_mass(&pieces, &volumes))
     }
 
-    pub fn density(&self, by: Convention, at: [f64; 3]) -> Result<f64, u32> {
-        self.finished_for(Reading::Density, by)?;
-        Ok(ByArchive::densitize(&self.rescaled(by), at))
+    pub fn density(&self, by: Convention, layers: u32, at: [f64; 3]) -> Result<f64, u32> {
+        self.finished_for(Reading::Density, by, layers)?;
+        Ok(ByArchive::densitize(&self.rescaled(by, layers), at))
     }
 
     /// The greatest error is the greatest of the held ones above +0.
-    pub fn report(&self, by: Convention) -> Result<Report, u32> {
-        self.finished_for(Reading::Report, by)?;
-        let (pieces, volumes) = self.pieces();
+    pub fn report(&self, by: Convention, layers: u32) -> Result<Report, u32> {
+        self.finished_for(Reading::Report, by, layers)?;
+        let (pieces, volumes) = self.pieces(layers);
         let (xyz, faces) = self.mesh();
+        let seen: Vec<usize> = self.filled_places().filter(|i| self.seen(layers, *i)).collect();
         let mass = by.mass::<ByArchive>(&pieces, raw_mass(&pieces, &volumes), ByArchive::body_volume(xyz, faces));
-        let error = self.filled_places().map(|i| self.floats[1 + 7 * i + 6]).fold(0.0, |most, e| if e > most { e } else { most });
-        Ok(Report { mass, kernels: self.filled_places().count() as u32, pieces: pieces.len() as u32, error })
+        let error = seen.iter().map(|i| self.floats[1 + 7 * i + 6]).fold(0.0, |most, e| if e > most { e } else { most });
+        Ok(Report { mass, kernels: seen.len() as u32, pieces: pieces.len() as u32, error })
     }
 
-    pub fn list(&self, by: Convention, out: &mut [f64]) -> Result<u32, u32> {
-        self.finished_for(Reading::List, by)?;
-        write_list(&self.rescaled(by), out)
+    /// 02's L7: the report of a store in which every place outside the layers, or with work left, is empty.
+    pub fn finished(&self, by: Convention, layers: u32) -> Result<(Report, u32), u32> {
+        self.sound()?;
+        set_number(layers)?;
+        let mut just = self.clone();
+        let mut passed = 0;
+        for i in 0..32 {
+            let seen = self.seen(layers, i);
+            if seen && self.owed(i) > 0 {
+                passed += 1;
+            }
+            if !seen || self.owed(i) > 0 {
+                just.words[2 + RECORD * i..][..RECORD].fill(0);
+            }
+        }
+        Ok((just.report(by, ALL_LAYERS)?, passed))
+    }
+
+    pub fn list(&self, by: Convention, layers: u32, out: &mut [f64]) -> Result<u32, u32> {
+        self.finished_for(Reading::List, by, layers)?;
+        write_list(&self.rescaled(by, layers), out)
     }
 
     /// 02's L1: "Every density equals the single reading at that point"; "for 8 a track counts as a density", and 14 is "checked after 8".
-    pub fn track(&self, by: Convention, points: &[f64], out: &mut [f64]) -> Result<u32, u32> {
-        self.finished_for(Reading::Density, by)?;
-        write_track::<ByArchive>(&self.rescaled(by), points, out)
+    pub fn track(&self, by: Convention, layers: u32, points: &[f64], out: &mut [f64]) -> Result<u32, u32> {
+        self.finished_for(Reading::Density, by, layers)?;
+        write_track::<ByArchive>(&self.rescaled(by, layers), points, out)
     }
 
     /// 02's L8: "The mass is the place's own field mass", a sum of its own over the held volumes.
@@ -225,7 +261,7 @@ impl Held {
     }
 
     pub fn piece_count(&self) -> usize {
-        if self.sound().is_ok() { self.pieces().0.len() } else { 0 }
+        if self.sound().is_ok() { self.pieces(ALL_LAYERS).0.len() } else { 0 }
     }
 }
 

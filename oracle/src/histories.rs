@@ -3,24 +3,25 @@ use crate::cases::{self, either_sign, near, odd, one};
 use crate::conventions::{Convention, MASS, RAW, RHO0, Report};
 use crate::held::Held;
 use crate::inputs::{self, Rng};
-use crate::machine::Machine;
+use crate::machine::{ALL_LAYERS, Machine};
 use crate::page;
 use crate::pieces::Kernel;
 use crate::text::Text;
 use std::sync::LazyLock;
 
-/// A call on an opened store; a list has a run of so many floats, a track its coordinates and such a run, a page so many bytes.
+/// A call on an opened store. A put has a layer, and each reading but the page a set of layers; a list has a run of so many floats, a track its coordinates and such a run, a page so many bytes.
 #[derive(Clone, Copy, Debug)]
 pub enum Call {
-    Put(u32, Kernel),
+    Put(u32, Kernel, u32),
     Clear(u32),
     Reweigh(u32, f64),
     Advance(u64),
     Squeeze,
-    Density(Convention, [f64; 3]),
-    Report(Convention),
-    List(Convention, usize),
-    Track(Convention, &'static [f64], usize),
+    Density(Convention, u32, [f64; 3]),
+    Report(Convention, u32),
+    Finished(Convention, u32),
+    List(Convention, u32, usize),
+    Track(Convention, u32, &'static [f64], usize),
     Page(usize),
 }
 
@@ -34,6 +35,7 @@ pub enum Answer {
     Freed(u32),
     Value(f64),
     Report(Report),
+    Finished(Report, u32),
     Listed(u32),
     Tracked(u32),
     Paged(u64),
@@ -56,15 +58,16 @@ macro_rules! model {
     ($advance:expr, $squeeze:expr) => {
         fn answer(&mut self, call: Call, out: &mut [f64]) -> Answer {
             match call {
-                Call::Put(place, k) => of(self.put(place, k), |(pieces, need)| Answer::Placed(pieces, need)),
+                Call::Put(place, k, layer) => of(self.put(place, k, layer), |(pieces, need)| Answer::Placed(pieces, need)),
                 Call::Clear(place) => of(self.clear(place), |()| Answer::Edited),
                 Call::Reweigh(place, w) => of(self.reweigh(place, w), |()| Answer::Edited),
                 Call::Advance(n) => of($advance(self, n), |(done, left)| Answer::Steps(done, left)),
                 Call::Squeeze => of($squeeze(self), Answer::Freed),
-                Call::Density(by, at) => of(self.density(by, at), Answer::Value),
-                Call::Report(by) => of(self.report(by), Answer::Report),
-                Call::List(by, _) => of(self.list(by, out), Answer::Listed),
-                Call::Track(by, points, _) => of(self.track(by, points, out), Answer::Tracked),
+                Call::Density(by, layers, at) => of(self.density(by, layers, at), Answer::Value),
+                Call::Report(by, layers) => of(self.report(by, layers), Answer::Report),
+                Call::Finished(by, layers) => of(self.finished(by, layers), |(report, passed)| Answer::Finished(report, passed)),
+                Call::List(by, layers, _) => of(self.list(by, layers, out), Answer::Listed),
+                Call::Track(by, layers, points, _) => of(self.track(by, layers, points, out), Answer::Tracked),
                 Call::Page(room) => of(self.page(&mut page::bytes(out)[..room]), Answer::Paged),
             }
         }
@@ -261,17 +264,38 @@ impl Places {
 
 /// The next call, by where the model stands.
 pub fn call(r: &mut Rng, model: &impl Model, places: &Places) -> Call {
-    match r.below(30) {
-        0..=5 => Call::Put(places.one(r), kernel(r)),
+    match r.below(32) {
+        0..=5 => Call::Put(places.one(r), kernel(r), layer(r)),
         6 | 7 => Call::Clear(places.one(r)),
         8 | 9 => Call::Reweigh(places.one(r), weight(r)),
         10..=15 => Call::Advance(budget(r, model)),
-        16..=18 => Call::Density(convention(r), [(); 3].map(|()| cases::value(r, 400.0))),
-        19 | 20 => Call::Report(convention(r)),
+        16..=18 => Call::Density(convention(r), layers(r), [(); 3].map(|()| cases::value(r, 400.0))),
+        19 | 20 => Call::Report(convention(r), layers(r)),
         21 | 22 => Call::Squeeze,
         23 | 24 => track(r),
         25 | 26 => Call::Page(page_room(r, model)),
-        _ => Call::List(convention(r), list_room(r, model)),
+        27 | 28 => Call::Finished(convention(r), layers(r)),
+        _ => Call::List(convention(r), layers(r), list_room(r, model)),
+    }
+}
+
+/// A layer: mostly one of a few, now and then any of the sixteen, or one that is none.
+pub fn layer(r: &mut Rng) -> u32 {
+    match r.below(16) {
+        0 => one(r, &[16, 16, 17, 31, 32, 1 << 31, u32::MAX]),
+        1..=3 => r.below(16) as u32,
+        _ => one(r, &[0, 0, 1, 2, 15]),
+    }
+}
+
+/// A set of layers: all, none, one, any of them, or one with a layer that is none.
+pub fn layers(r: &mut Rng) -> u32 {
+    match r.below(16) {
+        0 => 0,
+        1 => one(r, &[1 << 16, 0x1_FFFF, 1 << 31, u32::MAX, 0x1_0001]),
+        2..=4 => 1 << one(r, &[0, 0, 1, 2, 15]),
+        5..=8 => r.word() as u32 & ALL_LAYERS,
+        _ => ALL_LAYERS,
     }
 }
 
@@ -336,7 +360,7 @@ pub fn track(r: &mut Rng) -> Call {
         2 | 3 => points + r.below(20) as usize,
         _ => points,
     };
-    Call::Track(convention(r), &COORDINATES[from..][..count], room)
+    Call::Track(convention(r), layers(r), &COORDINATES[from..][..count], room)
 }
 
 /// A sound store that nobody opened: places in any state that 01 calls sound, floats of any kind where no mesh stands.
@@ -349,7 +373,8 @@ pub fn unopened(r: &mut Rng, body: &Body) -> Held {
         let pieces = status.saturating_sub(1);
         let finished = if faces == 0 { pieces } else { r.below(pieces + 1) };
         let done = if finished == pieces { 0 } else { r.below(faces as u64) };
-        words.extend([status, finished, done].map(|x| x as u32));
+        let layer = if status == 0 { 0 } else { r.below(16) };
+        words.extend([status, finished, done, layer].map(|x| x as u32));
         let alpha = near(r, 1.0 + 1e-9, 3);
         if r.below(2) == 0 {
             floats[1 + 7 * i + 5] = alpha;

@@ -10,12 +10,17 @@ use std::marker::PhantomData;
 use std::rc::Rc;
 
 pub const PLACES: usize = 32;
+/// 02's L5: "place records grow from three words to four, with the layer last [..] Corners then start at word 130".
+pub const RECORD: usize = 4;
+pub const CORNERS: usize = 130;
+/// The set of all sixteen layers; bit l is layer l.
+pub const ALL_LAYERS: u32 = 0xFFFF;
 pub const VERTS: usize = 1_048_576;
 pub const FACES: usize = 2_097_152;
 
 /// The floats and words that a store of so many vertices and faces takes.
 pub fn room(verts: usize, faces: usize) -> (usize, usize) {
-    (1_761 + 3 * verts, 98 + 3 * faces)
+    (1_761 + 3 * verts, CORNERS + 3 * faces)
 }
 
 /// Rows 1 to 4, of an opening into runs of so many floats and words; 0 where it is not refused.
@@ -42,11 +47,22 @@ pub fn squeezed(xyz: &[f64], faces: &[u32]) -> (Vec<f64>, Vec<u32>) {
     (kept, corners)
 }
 
-/// A filled place: its kernel and the steps done on it.
+/// A filled place: its kernel, its layer and the steps done on it.
 #[derive(Clone, Copy, Debug)]
 struct Filled {
     kernel: Kernel,
+    layer: u32,
     p: u64,
+}
+
+/// Whether a layer is in a set.
+pub fn in_set(layers: u32, layer: u32) -> bool {
+    (0..16).any(|l| l == layer && layers & 1 << l != 0)
+}
+
+/// "16 when a layer is above 15": a bit from 16 on names such a layer.
+pub fn set_number(layers: u32) -> Result<(), u32> {
+    if layers > ALL_LAYERS { Err(16) } else { Ok(()) }
 }
 
 /// What a kernel's decomposition is, whatever its w: the pieces with their coefficients as w, and the error. The volumes are those over
@@ -113,6 +129,16 @@ impl<T: Text> Machine<T> {
         (0..PLACES).map(|i| self.owed(i)).sum()
     }
 
+    /// "counted over the places in the set".
+    fn left_in(&self, layers: u32) -> u64 {
+        (0..PLACES).filter(|i| self.seen(layers, *i).is_some()).map(|i| self.owed(i)).sum()
+    }
+
+    /// What a reading of these layers sees of a place: "sees only places in it".
+    fn seen(&self, layers: u32, place: usize) -> Option<Filled> {
+        self.places[place].filter(|at| in_set(layers, at.layer))
+    }
+
     /// Row 6.
     fn place(&self, place: u32) -> Result<usize, u32> {
         if place >= 32 { Err(6) } else { Ok(place as usize) }
@@ -124,13 +150,17 @@ impl<T: Text> Machine<T> {
         self.places[i].as_mut().map(|at| (i, at)).ok_or(7)
     }
 
-    /// "charged += need, dropped += the old need - p (0 for an empty place), p = 0. Answers pieces and need."
-    pub fn put(&mut self, place: u32, kernel: Kernel) -> Result<(u32, u32), u32> {
+    /// "charged += need, dropped += the old need - p (0 for an empty place), p = 0. Answers pieces and need."; "16 when a layer is above 15,
+    /// after 6".
+    pub fn put(&mut self, place: u32, kernel: Kernel, layer: u32) -> Result<(u32, u32), u32> {
         let i = self.place(place)?;
+        if layer > 15 {
+            return Err(16);
+        }
         let need = self.need(&kernel);
         self.charged += need;
         self.dropped += self.owed(i);
-        self.places[i] = Some(Filled { kernel, p: 0 });
+        self.places[i] = Some(Filled { kernel, layer, p: 0 });
         Ok((self.known(&kernel).pieces.len() as u32, need as u32))
     }
 
@@ -169,46 +199,62 @@ impl<T: Text> Machine<T> {
         (before - self.xyz.len()) as u32
     }
 
-    /// The filled places' kernels, in order.
-    fn kernels(&self) -> Vec<Kernel> {
-        self.places.iter().flatten().map(|at| at.kernel).collect()
+    /// The kernels of the filled places in these layers, in order.
+    fn kernels(&self, layers: u32) -> Vec<Kernel> {
+        (0..PLACES).filter_map(|i| self.seen(layers, i)).map(|at| at.kernel).collect()
     }
 
-    /// Row 8.
-    fn finished_for(&self, reading: Reading, by: Convention) -> Result<(), u32> {
-        if by.needs_work(reading) && self.left() > 0 { Err(8) } else { Ok(()) }
+    /// 16, then row 8.
+    fn finished_for(&self, reading: Reading, by: Convention, layers: u32) -> Result<(), u32> {
+        set_number(layers)?;
+        if by.needs_work(reading) && self.left_in(layers) > 0 { Err(8) } else { Ok(()) }
     }
 
     /// The rescaled pieces, afresh.
-    fn rescaled(&self, by: Convention) -> Vec<Kernel> {
-        let (pieces, _) = T::decompose(&self.kernels(), self.radius);
+    fn rescaled(&self, by: Convention, layers: u32) -> Vec<Kernel> {
+        let (pieces, _) = T::decompose(&self.kernels(layers), self.radius);
         by.rescaled::<T>(&pieces, || T::kernel_field_mass(&self.xyz, &self.faces, &pieces))
     }
 
-    pub fn density(&self, by: Convention, at: [f64; 3]) -> Result<f64, u32> {
-        self.finished_for(Reading::Density, by)?;
-        Ok(T::densitize(&self.rescaled(by), at))
+    pub fn density(&self, by: Convention, layers: u32, at: [f64; 3]) -> Result<f64, u32> {
+        self.finished_for(Reading::Density, by, layers)?;
+        Ok(T::densitize(&self.rescaled(by, layers), at))
     }
 
-    pub fn report(&self, by: Convention) -> Result<Report, u32> {
-        self.finished_for(Reading::Report, by)?;
-        let kernels = self.kernels();
+    pub fn report(&self, by: Convention, layers: u32) -> Result<Report, u32> {
+        self.finished_for(Reading::Report, by, layers)?;
+        let kernels = self.kernels(layers);
         let (pieces, error) = T::decompose(&kernels, self.radius);
         let raw_mass = T::kernel_field_mass(&self.xyz, &self.faces, &pieces);
         let mass = by.mass::<T>(&pieces, raw_mass, T::body_volume(&self.xyz, &self.faces));
         Ok(Report { mass, kernels: kernels.len() as u32, pieces: pieces.len() as u32, error })
     }
 
+    /// 02's L7: "It covers only the places whose steps are complete, and says how many filled places of its layers it passed over. It
+    /// equals the ordinary report of a store holding just those places".
+    pub fn finished(&self, by: Convention, layers: u32) -> Result<(Report, u32), u32> {
+        set_number(layers)?;
+        let mut just = Machine::<T>::open(&self.xyz, &self.faces, self.radius);
+        let mut passed = 0;
+        for place in (0..PLACES).filter(|place| self.seen(layers, *place).is_some()) {
+            match self.owed(place) {
+                0 => just.places[place] = self.places[place],
+                _ => passed += 1,
+            }
+        }
+        Ok((just.report(by, ALL_LAYERS)?, passed))
+    }
+
     /// Writes c, sigma, rescaled w, alpha per piece; answers the piece count.
-    pub fn list(&self, by: Convention, out: &mut [f64]) -> Result<u32, u32> {
-        self.finished_for(Reading::List, by)?;
-        write_list(&self.rescaled(by), out)
+    pub fn list(&self, by: Convention, layers: u32, out: &mut [f64]) -> Result<u32, u32> {
+        self.finished_for(Reading::List, by, layers)?;
+        write_list(&self.rescaled(by, layers), out)
     }
 
     /// 02's L1: "Every density equals the single reading at that point"; "for 8 a track counts as a density", and 14 is "checked after 8".
-    pub fn track(&self, by: Convention, points: &[f64], out: &mut [f64]) -> Result<u32, u32> {
-        self.finished_for(Reading::Density, by)?;
-        write_track::<T>(&self.rescaled(by), points, out)
+    pub fn track(&self, by: Convention, layers: u32, points: &[f64], out: &mut [f64]) -> Result<u32, u32> {
+        self.finished_for(Reading::Density, by, layers)?;
+        write_track::<T>(&self.rescaled(by, layers), points, out)
     }
 
     /// 02's L8: "The mass is the place's own field mass", afresh.
@@ -232,7 +278,7 @@ impl<T: Text> Machine<T> {
 
     /// How many pieces the filled places have.
     pub fn piece_count(&self) -> usize {
-        self.kernels().iter().map(|k| self.known(k).pieces.len()).sum()
+        self.kernels(ALL_LAYERS).iter().map(|k| self.known(k).pieces.len()).sum()
     }
 
     /// The volume so far: `kernel_volume` over a piece's first faces.
@@ -244,7 +290,7 @@ impl<T: Text> Machine<T> {
 
     /// 01's fields of both runs, without excess.
     pub fn fields(&self) -> (Vec<f64>, Vec<u32>) {
-        let (mut floats, mut words) = (vec![0.0; 1_761], vec![0; 98]);
+        let (mut floats, mut words) = (vec![0.0; 1_761], vec![0; CORNERS]);
         floats[0] = self.radius;
         words[0] = (self.xyz.len() / 3) as u32;
         words[1] = self.face_count() as u32;
@@ -276,6 +322,6 @@ impl<T: Text> Machine<T> {
             let so_far = self.volume(&known, j, faces);
             floats[225 + 48 * i + 3 * j..][..3].copy_from_slice(&[piece.sigma, piece.w, so_far]);
         }
-        words[2 + 3 * i..][..3].copy_from_slice(&[1 + count as u32, finished as u32, done as u32]);
+        words[2 + RECORD * i..][..RECORD].copy_from_slice(&[1 + count as u32, finished as u32, done as u32, at.layer]);
     }
 }

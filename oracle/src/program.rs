@@ -3,7 +3,7 @@
 use crate::conventions::Convention;
 use crate::histories::{Answer, Call, Model};
 use crate::inputs::{self, Rng};
-use crate::machine::{Machine, open_number, room};
+use crate::machine::{ALL_LAYERS, Machine, open_number, room};
 use crate::pattern;
 use crate::pieces::Kernel;
 use crate::text::ByTranscription;
@@ -134,7 +134,7 @@ const FORMS: [Form; 9] = [
         s.text(") (alpha ")?;
         let alpha = s.h()?;
         s.text("))")?;
-        Some(Line::Call(Call::Put(place, Kernel { c, sigma, w, alpha })))
+        Some(Line::Call(Call::Put(place, Kernel { c, sigma, w, alpha }, 0)))
     },
     |s| {
         s.text("(clear ")?;
@@ -162,13 +162,13 @@ const FORMS: [Form; 9] = [
         s.text(" ")?;
         let at = s.three(Rest::h)?;
         s.text(")")?;
-        Some(Line::Call(Call::Density(by, at)))
+        Some(Line::Call(Call::Density(by, ALL_LAYERS, at)))
     },
     |s| {
         s.text("(report ")?;
         let by = s.convention()?;
         s.text(")")?;
-        Some(Line::Call(Call::Report(by)))
+        Some(Line::Call(Call::Report(by, ALL_LAYERS)))
     },
 ];
 
@@ -198,7 +198,7 @@ fn no(number: u32) -> String {
 fn printed(call: Call, answer: Answer) -> String {
     match (call, answer) {
         (_, Answer::Refused(number)) => no(number),
-        (Call::Put(place, _), Answer::Placed(pieces, need)) => format!("(put {place} (pieces {pieces}) (steps {need}))"),
+        (Call::Put(place, ..), Answer::Placed(pieces, need)) => format!("(put {place} (pieces {pieces}) (steps {need}))"),
         (Call::Clear(place), _) => format!("(clear {place})"),
         (Call::Reweigh(place, _), _) => format!("(reweigh {place})"),
         (_, Answer::Steps(done, left)) => format!("(advance (done {done}) (left {left}))"),

@@ -48,7 +48,15 @@ unsafe extern "C" {
         faces: *const u32,
         faces_len: usize,
     ) -> Opened;
-    fn cauchy_store_put(floats: *mut f64, floats_len: usize, words: *mut u32, words_len: usize, place: u32, k: Kernel) -> Placed;
+    fn cauchy_store_put(
+        floats: *mut f64,
+        floats_len: usize,
+        words: *mut u32,
+        words_len: usize,
+        place: u32,
+        k: Kernel,
+        layer: u32,
+    ) -> Placed;
     fn cauchy_store_clear(floats: *mut f64, floats_len: usize, words: *mut u32, words_len: usize, place: u32) -> u32;
     fn cauchy_store_reweigh(floats: *mut f64, floats_len: usize, words: *mut u32, words_len: usize, place: u32, w: f64) -> u32;
     fn cauchy_store_advance(floats: *mut f64, floats_len: usize, words: *mut u32, words_len: usize, budget: u64) -> Steps;
@@ -62,8 +70,8 @@ pub fn open(floats: &mut [f64], words: &mut [u32], radius: f64, xyz: &[f64], fac
     unsafe { cauchy_store_open(f, floats.len(), w, words.len(), radius, xyz.as_ptr(), xyz.len(), faces.as_ptr(), faces.len()) }
 }
 
-pub fn put(floats: &mut [f64], words: &mut [u32], place: u32, k: Kernel) -> Placed {
-    unsafe { cauchy_store_put(floats.as_mut_ptr(), floats.len(), words.as_mut_ptr(), words.len(), place, k) }
+pub fn put(floats: &mut [f64], words: &mut [u32], place: u32, k: Kernel, layer: u32) -> Placed {
+    unsafe { cauchy_store_put(floats.as_mut_ptr(), floats.len(), words.as_mut_ptr(), words.len(), place, k, layer) }
 }
 
 pub fn clear(floats: &mut [f64], words: &mut [u32], place: u32) -> u32 {
@@ -82,7 +90,7 @@ pub fn squeeze(floats: &mut [f64], words: &mut [u32]) -> Squeezed {
     unsafe { cauchy_store_squeeze(floats.as_mut_ptr(), floats.len(), words.as_mut_ptr(), words.len()) }
 }
 
-pub use reading::{density, list, page, report, track};
+pub use reading::{density, finished, list, page, report, track};
 
 /// The readings.
 mod reading {
@@ -112,6 +120,16 @@ mod reading {
     }
 
     #[repr(C)]
+    struct Finished {
+        no: u32,
+        report: [f64; 7],
+        kernels: u32,
+        pieces: u32,
+        error: f64,
+        passed_over: u32,
+    }
+
+    #[repr(C)]
     struct Listed {
         no: u32,
         pieces: u32,
@@ -130,14 +148,16 @@ mod reading {
     }
 
     unsafe extern "C" {
-        fn cauchy_store_density(f: *const f64, f_len: usize, w: *const u32, w_len: usize, by: Convention, at: Point) -> Value;
-        fn cauchy_store_report(f: *const f64, f_len: usize, w: *const u32, w_len: usize, by: Convention) -> StoreReport;
+        fn cauchy_store_density(f: *const f64, f_len: usize, w: *const u32, w_len: usize, by: Convention, layers: u32, at: Point) -> Value;
+        fn cauchy_store_report(f: *const f64, f_len: usize, w: *const u32, w_len: usize, by: Convention, layers: u32) -> StoreReport;
+        fn cauchy_store_finished(f: *const f64, f_len: usize, w: *const u32, w_len: usize, by: Convention, layers: u32) -> Finished;
         fn cauchy_store_list(
             f: *const f64,
             f_len: usize,
             w: *const u32,
             w_len: usize,
             by: Convention,
+            layers: u32,
             out: *mut f64,
             out_len: usize,
         ) -> Listed;
@@ -147,6 +167,7 @@ mod reading {
             w: *const u32,
             w_len: usize,
             by: Convention,
+            layers: u32,
             points: *const f64,
             points_len: usize,
             out: *mut f64,
@@ -156,27 +177,35 @@ mod reading {
     }
 
     /// A number, and the density where it is 0.
-    pub fn density(floats: &[f64], words: &[u32], by: Convention, [x, y, z]: [f64; 3]) -> (u32, f64) {
-        let told = unsafe { cauchy_store_density(floats.as_ptr(), floats.len(), words.as_ptr(), words.len(), by, Point { x, y, z }) };
+    pub fn density(floats: &[f64], words: &[u32], by: Convention, layers: u32, [x, y, z]: [f64; 3]) -> (u32, f64) {
+        let told =
+            unsafe { cauchy_store_density(floats.as_ptr(), floats.len(), words.as_ptr(), words.len(), by, layers, Point { x, y, z }) };
         (told.no, told.value)
     }
 
-    pub fn report(floats: &[f64], words: &[u32], by: Convention) -> (u32, Report) {
-        let told = unsafe { cauchy_store_report(floats.as_ptr(), floats.len(), words.as_ptr(), words.len(), by) };
+    pub fn report(floats: &[f64], words: &[u32], by: Convention, layers: u32) -> (u32, Report) {
+        let told = unsafe { cauchy_store_report(floats.as_ptr(), floats.len(), words.as_ptr(), words.len(), by, layers) };
         (told.no, Report { mass: told.report, kernels: told.kernels, pieces: told.pieces, error: told.error })
     }
 
+    /// A number, the report, and the places passed over.
+    pub fn finished(floats: &[f64], words: &[u32], by: Convention, layers: u32) -> (u32, Report, u32) {
+        let told = unsafe { cauchy_store_finished(floats.as_ptr(), floats.len(), words.as_ptr(), words.len(), by, layers) };
+        let report = Report { mass: told.report, kernels: told.kernels, pieces: told.pieces, error: told.error };
+        (told.no, report, told.passed_over)
+    }
+
     /// A number, and the count of pieces.
-    pub fn list(floats: &[f64], words: &[u32], by: Convention, out: &mut [f64]) -> (u32, u32) {
+    pub fn list(floats: &[f64], words: &[u32], by: Convention, layers: u32, out: &mut [f64]) -> (u32, u32) {
         let (f, w) = (floats.as_ptr(), words.as_ptr());
-        let told = unsafe { cauchy_store_list(f, floats.len(), w, words.len(), by, out.as_mut_ptr(), out.len()) };
+        let told = unsafe { cauchy_store_list(f, floats.len(), w, words.len(), by, layers, out.as_mut_ptr(), out.len()) };
         (told.no, told.pieces)
     }
 
     /// A number, and the count of points.
-    pub fn track(floats: &[f64], words: &[u32], by: Convention, points: &[f64], out: &mut [f64]) -> (u32, u32) {
+    pub fn track(floats: &[f64], words: &[u32], by: Convention, layers: u32, points: &[f64], out: &mut [f64]) -> (u32, u32) {
         let (f, w, at, to) = (floats.as_ptr(), words.as_ptr(), points.as_ptr(), out.as_mut_ptr());
-        let told = unsafe { cauchy_store_track(f, floats.len(), w, words.len(), by, at, points.len(), to, out.len()) };
+        let told = unsafe { cauchy_store_track(f, floats.len(), w, words.len(), by, layers, at, points.len(), to, out.len()) };
         (told.no, told.points)
     }
 

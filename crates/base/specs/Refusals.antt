@@ -1,7 +1,7 @@
 -- The numbers of 01's table of refusals, "The store", and of 02's. Definitions only.
 use Prim.Native.Nat.{ℕ}
 use Rattle.base.specs.declared.refusal.Refusal.{Refusal}
-use Rattle.base.specs.declared.refusal.Refusal.the-variants.{Ragged, Oversize, LooseCorner, ShortStore, Unsound, NoPlace, Vacant, Unfinished, ShortList, BadMatrix, FlatPivot, Exponent, BadLine, BadTrack, ManyKernels, NoFigure, ShortPage, BadKernelLine, LoadersDiffer, Unclosed}
+use Rattle.base.specs.declared.refusal.Refusal.the-variants.{Ragged, Oversize, LooseCorner, ShortStore, Unsound, NoPlace, Vacant, Unfinished, ShortList, BadMatrix, FlatPivot, Exponent, BadLine, BadTrack, ManyKernels, NoLayer, NoFigure, ShortPage, BadKernelLine, LoadersDiffer, Unclosed}
 
 abbrev pub number : Refusal → ℕ
 -- coordinate or index count not a multiple of 3
@@ -34,6 +34,8 @@ number BadLine = 13
 number BadTrack = 14
 -- more than 32 kernels to be billed (02, L3)
 number ManyKernels = 15
+-- a layer is above 15 (02, L5)
+number NoLayer = 16
 -- a place's field mass is NaN or, unrounded, exceeds 10^15 in magnitude (02, L8)
 number NoFigure = 17
 -- the lent page is too short (02, L8)

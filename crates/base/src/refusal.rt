@@ -34,6 +34,8 @@ pub enum Refusal {
     BadTrack,
     // 15: more than 32 kernels are to be billed
     ManyKernels,
+    // 16: a layer is above 15
+    NoLayer,
     // 17: a place's field mass is NaN or beyond 10^15 kilograms, so that the page has no figure for it
     NoFigure,
     // 18: the page's bytes are too few
@@ -78,6 +80,7 @@ pub fn refusal_number(refusal: Refusal) -> u32
         Refusal::BadLine => 13,
         Refusal::BadTrack => 14,
         Refusal::ManyKernels => 15,
+        Refusal::NoLayer => 16,
         Refusal::NoFigure => 17,
         Refusal::ShortPage => 18,
         Refusal::BadKernelLine => 20,

@@ -1,6 +1,8 @@
 -- 01, "The store": where each field stands in the float run and in the u32 run. Definitions only.
 use mathlib.Core.List.{List, [], _∷_}
 use Prim.Native.Nat.{ℕ, _+_, _*_}
+use mathlib.Core.Bool.{cond}
+use lib.Dec.{ltb}
 use lib.ListN.{getD, take, drop}
 use lib.Ieee.{Float, nan}
 use Rattle.mesh.specs.declared.vectors.V3.{V3}
@@ -54,9 +56,10 @@ coordsFrom = 1761
 
 -- ---- the u32 run ws, with q words to a place
 
--- the words to a place: status, pieces finished, faces done
+-- the words to a place: status, pieces finished, faces done, and since 02's L5 the layer. A store of the form before it
+-- has three words to a place, and the definitions are of both forms
 abbrev pub width : ℕ
-width = 3
+width = 4
 
 -- "V, F"
 abbrev pub vertsOf : List ℕ → ℕ
@@ -84,7 +87,23 @@ doneAt q i = 4 + q * i
 abbrev pub doneOf : ℕ → List ℕ → ℕ → ℕ
 doneOf q ws i = getD ws (doneAt q i) 0
 
--- "from 98 corners"
+-- 02, L5: "Each place .. gets a layer number from 0 to 15"
+abbrev pub layerLimit : ℕ
+layerLimit = 16
+
+-- "place records grow from three words to four, with the layer last"
+abbrev pub layerAt : ℕ → ℕ → ℕ
+layerAt q i = 5 + q * i
+
+-- a form of three words has no layers: every place is in layer 0
+abbrev pub layerOf : ℕ → List ℕ → ℕ → ℕ
+layerOf q ws i = cond (ltb 3 q) (getD ws (layerAt q i) 0) 0
+
+-- the words of a layer in a place's record
+abbrev pub layerWords : ℕ → ℕ → List ℕ
+layerWords q layer = cond (ltb 3 q) (layer ∷ []) []
+
+-- "Corners then start at word 130"; at word 98 in the form before
 abbrev pub cornersFrom : ℕ → ℕ
 cornersFrom q = 2 + q * 32
 

@@ -1,8 +1,10 @@
 pub mod Layout
 pub mod Soundness
 pub mod SoundLaws
+pub mod Layers
 pub mod Left
 pub mod LeftLaws
 pub mod Runs
 pub mod RunLaws
+pub mod LayerLaws
 pub mod After

@@ -17,8 +17,8 @@ use Rattle.base.specs.declared.refusal.Checked.{Checked}
 use Rattle.base.specs.declared.refusal.Checked.the-variants.{Passed, Failed}
 use Rattle.mesh.specs.Checks.{vertexLimit, faceLimit}
 use Rattle.mesh.specs.CheckLaws.{below-each}
-use Rattle.layout.specs.Layout.{width, placeLimit, pieceLimit, kernelFrom, piecesFrom, pieceFrom, coordsFrom, stateFrom, cornersFrom, cornersOf, vertsOf, facesOf, statusOf, finishedOf, doneOf}
-use Rattle.layout.specs.Soundness.{every, longEnough, placeSound, placeSoundAt, sound, storeCheck, placeCheck, filledCheck}
+use Rattle.layout.specs.Layout.{width, placeLimit, pieceLimit, kernelFrom, piecesFrom, pieceFrom, coordsFrom, stateFrom, cornersFrom, cornersOf, vertsOf, facesOf, statusOf, finishedOf, doneOf, layerLimit, layerOf}
+use Rattle.layout.specs.Soundness.{every, longEnough, placeSound, layerSound, placeSoundAt, sound, storeCheck, placeCheck, filledCheck}
 
 -- ---- 01's numbers: each part of a run begins where the one before it ends
 pub pieces-follow : piecesFrom 0 ≡ kernelFrom placeLimit
@@ -33,7 +33,7 @@ next-place i = omega arith
 pub corners-follow : cornersFrom width ≡ stateFrom width placeLimit
 corners-follow = refl
 
-pub corners-are : cornersFrom width ≡ 98
+pub corners-are : cornersFrom width ≡ 130
 corners-are = refl
 
 -- ---- tests
@@ -91,6 +91,15 @@ place-ready m i s n d hi e = go (leb-true s 17 (both (leb s 17) _ e .0)) (eqb s 
         let d0 = ltb-true d m (both (leb n (s - 1)) (ltb d m) t .1) in
         record { place = hi; pieces = omega arith; fits = omega arith; part = λ h. omega arith; low = omega arith }
 
+-- its layer is one of sixteen
+pub layer-in : (status layer : ℕ) → layerSound status layer ≡ true → layer < layerLimit
+unfolding layerSound
+layer-in status layer e = go (eqb status 0) e
+  where
+    go : (b : Bool) → cond b (eqb layer 0) (ltb layer layerLimit) ≡ true → layer < layerLimit
+    go true h = let z = eqb-true layer 0 h in omega arith
+    go false h = ltb-true layer layerLimit h
+
 -- "with F = 0 all are finished"
 pub none-unfinished : (i s n d : ℕ) → i < 32 → placeSound s n d 0 ≡ true → n ≡ s - 1
 none-unfinished i s n d h e = let r = place-ready 0 i s n d h e in go (decLt n (s - 1)) r
@@ -111,6 +120,7 @@ pub record Worded (q : ℕ) (ws : List ℕ) (ms : ℕ) : Type 0 where
   pub long : cornersFrom q ≤ length ws
   pub few : ms ≤ faceLimit
   pub place : (i : ℕ) → i < 32 → Ready ms i (statusOf q ws i - 1) (finishedOf q ws i) (doneOf q ws i)
+  pub layer : (i : ℕ) → i < 32 → layerOf q ws i < layerLimit
 
 pub record Fine (q : ℕ) (fs : List Float) (ws : List ℕ) : Type 0 where
   pub mesh : Meshed q fs ws (vertsOf ws) (facesOf ws)
@@ -141,7 +151,14 @@ module _ (q : ℕ) (fs : List Float) (ws : List ℕ) where
         places = record {
           long = omega arith;
           few = leb-true (facesOf ws) faceLimit (s .1);
-          place = λ i h. place-ready (facesOf ws) i (statusOf q ws i) (finishedOf q ws i) (doneOf q ws i) h (every-at (placeSoundAt q ws) placeLimit i h (t .0));
+          place = λ i h.
+              place-ready (facesOf ws) i (statusOf q ws i) (finishedOf q ws i) (doneOf q ws i) h
+              (both (placeSound (statusOf q ws i) (finishedOf q ws i) (doneOf q ws i) (facesOf ws)) _
+              (every-at (placeSoundAt q ws) placeLimit i h (t .0)) .0);
+          layer = λ i h.
+              layer-in (statusOf q ws i) (layerOf q ws i)
+              (both (placeSound (statusOf q ws i) (finishedOf q ws i) (doneOf q ws i) (facesOf ws)) _
+              (every-at (placeSoundAt q ws) placeLimit i h (t .0)) .1);
         };
       }
 

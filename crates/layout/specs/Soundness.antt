@@ -6,18 +6,18 @@ use lib.Dec.{ltb, leb, eqb}
 use lib.ListN.{length}
 use lib.Ieee.{Float}
 use Rattle.base.specs.Answers.{andThen}
-use Rattle.base.specs.declared.refusal.Refusal.the-variants.{ShortStore, Unsound, NoPlace, Vacant}
+use Rattle.base.specs.declared.refusal.Refusal.the-variants.{ShortStore, Unsound, NoPlace, Vacant, NoLayer}
 use Rattle.base.specs.declared.refusal.Checked.{Checked}
 use Rattle.base.specs.declared.refusal.Checked.the-variants.{Passed, Failed}
 use Rattle.mesh.specs.Checks.{vertexLimit, faceLimit, allBelow}
-use Rattle.layout.specs.Layout.{placeLimit, pieceLimit, coordsFrom, cornersFrom, cornersOf, vertsOf, facesOf, statusOf, finishedOf, doneOf}
+use Rattle.layout.specs.Layout.{placeLimit, pieceLimit, coordsFrom, cornersFrom, cornersOf, vertsOf, facesOf, statusOf, finishedOf, doneOf, layerLimit, layerOf}
 
 -- each number below n passes
 unfoldable pub every : (ℕ → Bool) → ℕ → Bool
 every test zero = true
 every test (suc n) = every test n && test n
 
--- "both lengths suffice"; a run of under 98 words is too short for any F, so also for the 0 that is read past its end
+-- "both lengths suffice"; a run of under 130 words is too short for any F, so also for the 0 that is read past its end
 unfoldable pub longEnough : ℕ → List Float → List ℕ → Bool
 longEnough q fs ws = leb (cornersFrom q + 3 * facesOf ws) (length ws) && leb (coordsFrom + 3 * vertsOf ws) (length fs)
 
@@ -34,9 +34,15 @@ placeSound status finished done faces =
     -- "faces done 0 if all are finished and else below F": with F = 0 nothing is below F, so all must be finished
     && cond (eqb finished (status - 1)) (eqb done 0) (ltb done faces))
 
+-- 02, L5: "a kept layer above 15, or any but 0 at an empty place, makes a store unsound"
+unfoldable pub layerSound : ℕ → ℕ → Bool
+layerSound status layer = cond (eqb status 0) (eqb layer 0) (ltb layer layerLimit)
+
 -- place i of a run
 unfoldable pub placeSoundAt : ℕ → List ℕ → ℕ → Bool
-placeSoundAt q ws i = placeSound (statusOf q ws i) (finishedOf q ws i) (doneOf q ws i) (facesOf ws)
+placeSoundAt q ws i =
+    placeSound (statusOf q ws i) (finishedOf q ws i) (doneOf q ws i) (facesOf ws)
+    && layerSound (statusOf q ws i) (layerOf q ws i)
 
 -- "Sound", but for the lengths
 unfoldable pub sound : ℕ → List ℕ → Bool
@@ -48,7 +54,7 @@ sound q ws =
     -- "corners < V"
     && allBelow (vertsOf ws) (cornersOf q ws))
 
--- rows 4 and 5, of every call on a store: "too short for them, or under 98 words, is 4; any other fault in it .. is 5"
+-- rows 4 and 5, of every call on a store: "too short for them, or under 98 words [130 since 02's L5], is 4; any other fault in it .. is 5"
 unfoldable pub storeCheck : ℕ → List Float → List ℕ → Checked
 storeCheck q fs ws = cond (longEnough q fs ws) (cond (sound q ws) Passed (Failed Unsound)) (Failed ShortStore)
 
@@ -59,3 +65,7 @@ placeCheck q fs ws i = andThen (storeCheck q fs ws) (cond (ltb i placeLimit) Pas
 -- and row 7, of a call that wants the place filled
 unfoldable pub filledCheck : ℕ → List Float → List ℕ → ℕ → Checked
 filledCheck q fs ws i = andThen (placeCheck q fs ws i) (cond (eqb (statusOf q ws i) 0) (Failed Vacant) Passed)
+
+-- 02, L5: "16 when a layer is above 15"; of the layer that a put gives
+unfoldable pub layerCheck : ℕ → Checked
+layerCheck layer = cond (ltb layer layerLimit) Passed (Failed NoLayer)

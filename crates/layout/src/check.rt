@@ -1,11 +1,13 @@
 // Refusals 4 to 7 of a call on a store. No exported check has a `requires`.
 ghost use mathlib.Core.Path.{_≡_};
+ghost use mathlib.Core.Bool.{_&&_};
 ghost use Prim.Native.Nat.{_+_, _*_, _≤_};
 ghost use lib.ListN.{length};
 ghost use Rattle.layout.specs.Layout.{width, placeLimit, cornersFrom, facesOf};
-ghost use Rattle.layout.specs.Soundness.{every, longEnough, placeSound, placeSoundAt, sound, storeCheck, placeCheck, filledCheck};
+ghost use Rattle.layout.specs.Soundness.{every, longEnough, placeSound, placeSoundAt, layerSound, layerCheck, sound, storeCheck, placeCheck, filledCheck};
 use crate::offsets::COORDS;
 use crate::offsets::CORNERS;
+use crate::offsets::LAYERS;
 use crate::offsets::PIECES;
 use crate::offsets::PLACES;
 use crate::offsets::STATE;
@@ -27,7 +29,7 @@ fn long_enough(floats: &[f64], words: &[u32]) -> bool
     (words.len() >= CORNERS + 3 * faces) & (floats.len() >= COORDS + 3 * verts)
 }
 
-// Whether a place's three words go together.
+// Whether a place's status, pieces finished and faces done go together.
 fn place_sound(status: u32, finished: u32, done: u32, faces: u32) -> bool
     ensures { λ r. ⌜ r ≡ placeSound status finished done faces ⌝ }
 {
@@ -48,6 +50,28 @@ fn place_sound(status: u32, finished: u32, done: u32, faces: u32) -> bool
     }
 }
 
+// Whether a place's layer goes with its status.
+fn layer_sound(status: u32, layer: u32) -> bool
+    ensures { λ r. ⌜ r ≡ layerSound status layer ⌝ }
+{
+    if status == 0 {
+        layer == 0
+    } else {
+        layer < LAYERS
+    }
+}
+
+// Whether a place's four words go together.
+fn record_sound(status: u32, finished: u32, done: u32, layer: u32, faces: u32) -> bool
+    ensures { λ r. ⌜ r ≡ (placeSound status finished done faces && layerSound status layer) ⌝ }
+{
+    if place_sound(status, finished, done, faces) {
+        layer_sound(status, layer)
+    } else {
+        false
+    }
+}
+
 // Whether every place's words go together.
 fn places_sound(words: &[u32]) -> bool
     requires { ⌜ cornersFrom width ≤ length (now words) ⌝ }
@@ -57,10 +81,11 @@ fn places_sound(words: &[u32]) -> bool
     let mut i: usize = 0;
     while i < PLACES {
         let at = WIDTH * i;
-        if !place_sound(
+        if !record_sound(
             words[STATE + at],
             words[STATE + 1 + at],
             words[STATE + 2 + at],
+            words[STATE + 3 + at],
             faces,
         ) {
             return false;
@@ -130,5 +155,16 @@ pub fn check_filled(floats: &[f64], words: &[u32], place: u32) -> Checked
         } else {
             Checked::Passed
         },
+    }
+}
+
+// Refusal 16 of a layer that is given to a put.
+pub fn check_layer(layer: u32) -> Checked
+    ensures { λ r. ⌜ r ≡ layerCheck layer ⌝ }
+{
+    if layer < LAYERS {
+        Checked::Passed
+    } else {
+        Checked::Failed(Refusal::NoLayer)
     }
 }

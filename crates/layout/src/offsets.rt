@@ -16,9 +16,12 @@ pub const PIECES_SIZE: usize = 48;
 
 pub const COORDS: usize = 1761;
 
+// Layers, from 0 to 15.
+pub const LAYERS: u32 = 16;
+
 // Words: a place's state from STATE + WIDTH * i, then the corners.
 pub const STATE: usize = 2;
 
-pub const WIDTH: usize = 3;
+pub const WIDTH: usize = 4;
 
-pub const CORNERS: usize = 98;
+pub const CORNERS: usize = 130;

@@ -44,7 +44,7 @@ module _ (m : Mesh) where
   parts-all : (ss : List Place) → freshAll m ss ≡ map (partOf m) (allPieces (m .radius) (kernelsOf ss))
   parts-all [] = refl
   parts-all (empty ∷ ss) = parts-all ss
-  parts-all (full k fit p ∷ ss) =
+  parts-all (full k fit p l ∷ ss) =
       let f = decomposed k (m .radius) in
       rw (parts-to k f (f .count), parts-all ss, map-append (partOf m) (piecesOf (m .radius) k) (allPieces (m .radius) (kernelsOf ss))) refl
 
@@ -100,8 +100,8 @@ module _ (m : Mesh) (g : Shape m) where
         (stretch-same (densityAt (map whole (map (rescaled s) ks))) (λ x. valueOf (densitized (scaledList v m ks) x)) (λ x. ap valueOf (sym (densitized-on (map (rescaled s) ks) x))) points 0 n))
 
   -- the mass of one place
-  pub place-mass : (k : Kernel) (fit : Pieces) (p : ℕ) → rawMass (freshPlace m (full k fit p)) ≡ massOf m (piecesOf (m .radius) k)
-  place-mass k fit p =
+  pub place-mass : (k : Kernel) (fit : Pieces) (p l : ℕ) → rawMass (freshPlace m (full k fit p l)) ≡ massOf m (piecesOf (m .radius) k)
+  place-mass k fit p l =
       let f = decomposed k (m .radius) in
       ap rawMass (parts-to m k f (f .count)) ∙ raw-on (piecesOf (m .radius) k)
 

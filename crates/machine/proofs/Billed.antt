@@ -3,7 +3,7 @@ use mathlib.Core.Path.{_≡_, refl, sym, ap, subst, _∙_}
 use mathlib.Core.Bool.{Bool, true, false, _&&_, cond}
 use mathlib.Core.Logic.{_⊎_, inl, inr}
 use mathlib.Core.List.{List, [], _∷_, _++_}
-use Prim.Native.Nat.{ℕ, zero, suc, _+_, _*_, _/_, _≤_, _<_}
+use Prim.Native.Nat.{ℕ, zero, suc, _+_, _*_, _/_, _^_, _≤_, _<_}
 use native.Mathlib.Nat.{add-zero, mul-le-mul-right, le-trans}
 use native.Mathlib.Omega.{arith}
 use lib.Dec.{ltb, leb}
@@ -24,17 +24,18 @@ use Rattle.bill.specs.Bill.{assumed, billSteps, billFloats}
 use Rattle.bill.specs.Rows.{refusals, due-is, nan-none}
 use Rattle.layout.specs.Layout.{width}
 use Rattle.readings.specs.Readings.{list, needsWork, refusing}
-use Rattle.machine.specs.Machine.{empty, workLeft, Machine, opened}
+use Rattle.machine.specs.Machine.{empty, seenPlaces, Machine, opened}
 use Rattle.machine.specs.Holding.{excessF, excessW}
 use Rattle.machine.specs.Fresh.{kernelsOf, allPieces, scaledList, workedAfresh}
-use Rattle.machine.specs.Calls.{Call, read, machine, Store, Result, store, after-all, holding, chargedIn}
+use Rattle.machine.specs.Calls.{Call, read, workSeen, machine, Store, Result, store, after-all, holding, chargedIn}
 use Rattle.machine.specs.Valid.{Valid}
-use Rattle.machine.specs.Bills.{kernelsFrom, kernelsIn, Reordered, Exact, Every, putIn, placesIn, InStore, Apart, listAfter, Due, BillBefore}
-use Rattle.machine.proofs.Rows.{Width, width3}
+use Rattle.machine.specs.Bills.{kernelsFrom, kernelsIn, Reordered, Exact, Every, putIn, placesIn, InStore, layersIn, InSixteen, Apart, listAfter, Due, BillBefore}
+use Rattle.machine.proofs.Rows.{Width, width4}
+use Rattle.machine.proofs.Layers.{all-seen}
 use Rattle.machine.proofs.Claim.{one-call}
 use Rattle.machine.proofs.Opened.{none-at, opened-valid}
 use Rattle.machine.proofs.Demand.{last, passed, holds}
-use Rattle.machine.proofs.Tally.{sumOf, sum-append, sum-reordered, fits, heldIn, pieces-held, charged-within, charged-all, radius-after, held-within, held-all}
+use Rattle.machine.proofs.Tally.{sumOf, sum-append, sum-reordered, fits, heldIn, pieces-held, seen-within, charged-within, charged-all, radius-after, held-within, held-all}
 
 -- ---- the pieces assumed are at least those of any radius
 abbrev most : Kernel → ℕ
@@ -82,21 +83,19 @@ granted-run Passed a run o = refl
 granted-run (Failed r) a run o = refl
 
 module _ (wd : ℕ) (fm : Width wd) (exF : List Float) (exW : List ℕ) (m : Machine) where
-  list-answer : Valid (m .mesh) (m .places) → (cv : Convention) (run : List Float) (n : ℕ)
-      → heldIn (m .mesh .radius) (m .places) ≡ n
-      → Listing (store wd (holding m exF exW) (read (list cv run)) .reply) n (length run)
+  list-answer : Valid (m .mesh) (m .places) → (layers : ℕ) → layers < 2 ^ 16 → (cv : Convention) (run : List Float) (n : ℕ)
+      → heldIn (m .mesh .radius) (seenPlaces layers (m .places)) ≡ n
+      → Listing (store wd (holding m exF exW) (read layers (list cv run)) .reply) n (length run)
   unfolding machine workedAfresh
-  list-answer v cv run n e =
-      let ks = allPieces (m .mesh .radius) (kernelsOf (m .places)) in
+  list-answer v layers few cv run n e =
+      let ss = seenPlaces layers (m .places) in
+      let ks = allPieces (m .mesh .radius) (kernelsOf ss) in
       let c = roomCheck (6 * length ks) (length run) in
       let g = granted-run c (counted (length ks ∷ [])) run (write run 0 (scaledList cv (m .mesh) ks)) in
-      let h = ap (λ (j : ℕ). granted (roomCheck (6 * j) (length run)) (counted (j ∷ []))) (held e) in
-      let o = ap (λ (x : Result). x .reply) (one-call wd fm m v exF exW (read (list cv run))) in
-      go (workedAfresh (m .mesh) (m .places) (list cv run)) (needsWork (list cv run) && ltb 0 (workLeft m)) (g ∙ h) o
+      let h = ap (λ (j : ℕ). granted (roomCheck (6 * j) (length run)) (counted (j ∷ []))) (pieces-held (m .mesh .radius) ss ∙ e) in
+      let o = rw (lt-leb (2 ^ 16) layers few) at (ap (λ (x : Result). x .reply) (one-call wd fm m v exF exW (read layers (list cv run)))) in
+      go (workedAfresh (m .mesh) ss (list cv run)) (needsWork (list cv run) && ltb 0 (workSeen m layers)) (g ∙ h) o
     where
-      held : heldIn (m .mesh .radius) (m .places) ≡ n → length (allPieces (m .mesh .radius) (kernelsOf (m .places))) ≡ n
-      held e = pieces-held (m .mesh .radius) (m .places) ∙ e
-
       go : {a x : Answer} (o : Outcome) (b : Bool) → o .reply ≡ x
           → a ≡ cond b (refusing (list cv run) Unfinished) o .reply → (a ≡ refused Unfinished) ⊎ (a ≡ x)
       go o true w e = inl e
@@ -144,17 +143,17 @@ module _
   abbrev due : ℕ
   due = sumOf most (kernelsIn kernels)
 
-  -- the pieces held after a list, and what a list then answers
-  abbrev after : List Call → ℕ
-  after cs = heldIn r (after-all M cs .places)
+  -- the pieces in some layers after the calls, and what a list of them then answers
+  abbrev after : List Call → ℕ → ℕ
+  after cs layers = heldIn r (seenPlaces layers (after-all M cs .places))
 
-  list-after : (cs : List Call) (cv : Convention) (run : List Float)
-      → Listing (listAfter wd S cs cv run) (after cs) (length run)
-  list-after cs cv run =
+  list-after : (cs : List Call) (layers : ℕ) → layers < 2 ^ 16 → (cv : Convention) (run : List Float)
+      → Listing (listAfter wd S cs layers cv run) (after cs layers) (length run)
+  list-after cs layers few cv run =
       let i = last wd fm exF exW cs M v in
-      let e = ap (λ (x : Float). heldIn x (after-all M cs .places)) (radius-after cs M v) in
-      subst (λ (s : Store). Listing (store wd s (read (list cv run)) .reply) (after cs) (length run)) (sym (i .0))
-      (list-answer wd fm exF exW (after-all M cs) (i .1) cv run (after cs) e)
+      let e = ap (λ (x : Float). heldIn x (seenPlaces layers (after-all M cs .places))) (radius-after cs M v) in
+      subst (λ (s : Store). Listing (store wd s (read layers (list cv run)) .reply) (after cs layers) (length run)) (sym (i .0))
+      (list-answer wd fm exF exW (after-all M cs) (i .1) layers few cv run (after cs layers) e)
 
   -- never below
   module _ (cs : List Call) (rest : List Kernel) (o : Reordered (putIn cs ++ rest) (kernelsIn kernels)) where
@@ -164,21 +163,25 @@ module _
     steps-due : chargedIn wd S cs ≤ due * F
     steps-due = le-trans (charged-within wd fm exF exW cs M v) (mul-le-mul-right F fits-due)
 
-    pieces-due : after cs ≤ due
-    pieces-due = omega (arith, held-within cs M v, no-piece r 32, fits-due)
+    pieces-due : (layers : ℕ) → after cs layers ≤ due
+    pieces-due layers =
+        omega (arith, seen-within r layers (after-all M cs .places), held-within cs M v, no-piece r 32, fits-due)
 
   -- exactly
   module _
       (x : Every Exact (kernelsIn kernels)) (cs : List Call)
-      (o : Reordered (putIn cs) (kernelsIn kernels)) (p : InStore (placesIn cs)) where
+      (o : Reordered (putIn cs) (kernelsIn kernels)) (p : InStore (placesIn cs)) (b : InSixteen (layersIn cs)) where
     fits-exact : sumOf (fits r) (putIn cs) ≡ due
     fits-exact = sum-reordered (fits r) o ∙ sum-exact r (kernelsIn kernels) x
 
     steps-exact : chargedIn wd S cs ≡ due * F
-    steps-exact = charged-all wd fm exF exW cs M v p ∙ ap (λ (n : ℕ). n * F) fits-exact
+    steps-exact = charged-all wd fm exF exW cs M v p b ∙ ap (λ (n : ℕ). n * F) fits-exact
 
-    pieces-exact : Apart (placesIn cs) → after cs ≡ due
-    pieces-exact a = held-all cs M v p a (all-vacant 32 (placesIn cs)) ∙ omega (arith, no-piece r 32, fits-exact)
+    pieces-exact : Apart (placesIn cs) → after cs 65535 ≡ due
+    pieces-exact a =
+        let w = last wd fm exF exW cs M v .1 .within in
+        ap (heldIn r) (all-seen (after-all M cs .mesh) (after-all M cs .places) w)
+        ∙ (held-all cs M v p b a (all-vacant 32 (placesIn cs)) ∙ omega (arith, no-piece r 32, fits-exact))
 
   holds-due : (steps floats : ℕ) → steps ≡ due * F → floats ≡ 6 * due → Due wd S kernels steps floats
   holds-due steps floats hs hf =
@@ -187,22 +190,25 @@ module _
             let n = pieces-due cs rest o in
             record {
               charged = omega (arith, steps-due cs rest o, hs);
-              room = λ cv run l. long-enough _ (after cs) (length run) (list-after cs cv run) (omega (arith, n));
-              listed = λ cv run j e. omega (arith, n, answers _ (after cs) (length run) (list-after cs cv run) j e);
+              room = λ ls b cv run l.
+                  long-enough _ (after cs ls) (length run) (list-after cs ls b cv run) (omega (arith, n ls));
+              listed = λ ls b cv run j e.
+                  omega (arith, n ls, answers _ (after cs ls) (length run) (list-after cs ls b cv run) j e);
             };
-        exact = λ x cs o p.
-            let n = pieces-exact x cs o p in
+        exact = λ x cs o p b.
+            let n = pieces-exact x cs o p b in
+            let all = list-after cs 65535 (omega arith) in
             record {
-              charged = steps-exact x cs o p ∙ sym hs;
-              room = λ a cv run l. too-short _ (after cs) (length run) (list-after cs cv run) (omega (arith, n a));
-              listed = λ a cv run j e. omega (arith, n a, answers _ (after cs) (length run) (list-after cs cv run) j e);
+              charged = steps-exact x cs o p b ∙ sym hs;
+              room = λ a cv run l. too-short _ (after cs 65535) (length run) (all cv run) (omega (arith, n a));
+              listed = λ a cv run j e. omega (arith, n a, answers _ (after cs 65535) (length run) (all cv run) j e);
             };
       }
 
 pub bill-before : BillBefore
 unfolding billSteps billFloats
 bill-before r xs ks fs ws h kernels =
-    let v = opened-valid width width3 r xs ks (length fs) (length ws) (passed width width3 r xs ks fs ws h) in
+    let v = opened-valid width width4 r xs ks (length fs) (length ws) (passed width width4 r xs ks fs ws h) in
     let g = assumed-all kernels in
     record {
       accepted =
@@ -210,7 +216,7 @@ bill-before r xs ks fs ws h kernels =
           (record { few-verts = v .mesh .verts; few-faces = v .mesh .faces });
       due = λ steps floats e.
           let d = due-is kernels (length xs / 3) (length ks / 3) steps floats e in
-          subst (λ (s : Store). Due width s kernels steps floats) (sym (holds width width3 r xs ks fs ws h))
-          (holds-due width width3 r xs ks v (excessF xs fs) (excessW width ks ws) kernels steps floats
+          subst (λ (s : Store). Due width s kernels steps floats) (sym (holds width width4 r xs ks fs ws h))
+          (holds-due width width4 r xs ks v (excessF xs fs) (excessW width ks ws) kernels steps floats
           (d .0 ∙ ap (λ (n : ℕ). n * (length ks / 3)) g) (d .1 ∙ ap (λ (n : ℕ). 6 * n) g));
     }

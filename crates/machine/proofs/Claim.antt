@@ -10,12 +10,12 @@ use lib.ListN.{length, getD, set, replicate, length-set}
 use lib.Seq.{set-getD}
 use lib.Dec.{ltb}
 use lib.Ieee.{Float, nan}
-use borrow.Author.Tests.{lt-ltb, le-ltb, ne-eqb}
+use borrow.Author.Tests.{lt-ltb, le-ltb, le-leb, lt-leb, ne-eqb}
 use Rattle.base.specs.Answers.{refused, counted, done}
 use Rattle.base.specs.Floats.{+0}
 use Rattle.base.specs.Loops.{times}
 use Rattle.base.specs.declared.refusal.Refusal.{Refusal}
-use Rattle.base.specs.declared.refusal.Refusal.the-variants.{NoPlace, Vacant}
+use Rattle.base.specs.declared.refusal.Refusal.the-variants.{NoPlace, NoLayer, Vacant}
 use Rattle.base.specs.declared.refusal.Checked.the-variants.{Passed, Failed}
 use Rattle.layout.specs.Runs.{write}
 use Rattle.volume.specs.Volume.{volumeTo}
@@ -28,7 +28,7 @@ use Rattle.pieces.specs.Pieces.{decomposed}
 use Rattle.pieces.specs.FitEnd.{fitOf, kindOf, columnOf, pivotOf}
 use Rattle.pieces.specs.PieceLaws.{same-pieces}
 use Rattle.layout.specs.Layout.{placeLimit, radiusOf, vertsOf, facesOf, statusOf}
-use Rattle.layout.specs.Soundness.{storeCheck, placeCheck, filledCheck}
+use Rattle.layout.specs.Soundness.{storeCheck, placeCheck, filledCheck, layerCheck}
 use Rattle.store.specs.Calls.{clearStep, reweighStep}
 use Rattle.advance.specs.Steps.{advanceStep}
 use Rattle.store.specs.Squeeze.{squeezeStep}
@@ -38,9 +38,9 @@ use Rattle.machine.specs.Holding.{placeRow, cells, wordsOf}
 use Rattle.readings.specs.Readings.{Reading}
 use Rattle.machine.specs.Calls.{Call, put, clear, reweigh, advance, squeeze, read, page, machine, Store, Result, result, seen, pinned, store, after-all, past, holding, chargedBy, doneBy, chargedIn, doneIn}
 use Rattle.machine.specs.Valid.{Within, Valid}
-use Rattle.machine.proofs.Rows.{Width, width3}
+use Rattle.machine.proofs.Rows.{Width, width4}
 use Rattle.machine.proofs.Sixteen.{sixteen, laidOut, okay, laid-out}
-use Rattle.machine.proofs.Held.{status-held, write-words, write-floats, set-seven, coords-held, corners-held}
+use Rattle.machine.proofs.Held.{at-least, zeros-row, status-held, write-words, write-floats, set-seven, coords-held, corners-held}
 use Rattle.machine.proofs.Sane.{no-fault}
 use Rattle.machine.proofs.Look.{read-held}
 use Rattle.machine.proofs.Pages.{page-held}
@@ -98,22 +98,16 @@ module _ (wd : ℕ) (fm : Width wd) (m : Machine) (v : Valid (m .mesh) (m .place
   unfolding filledCheck
   filled-none i h e = rw (place-in i h, status i h, e) refl
 
-  filled-in : (i : ℕ) → i < 32 → (k : Kernel) (fit : Pieces) (p : ℕ) → getD (m .places) i empty ≡ full k fit p → filledCheck wd FS WS i ≡ Passed
+  filled-in : (i : ℕ) → i < 32 → (k : Kernel) (fit : Pieces) (p l : ℕ) → getD (m .places) i empty ≡ full k fit p l → filledCheck wd FS WS i ≡ Passed
   unfolding filledCheck
-  filled-in i h k fit p e = rw (place-in i h, status i h, e, ne-eqb (1 + fit .count) 0 (λ z. omega arith)) refl
+  filled-in i h k fit p l e = rw (place-in i h, status i h, e, ne-eqb (1 + fit .count) 0 (λ z. omega arith)) refl
 
   -- ---- clear
-  zeros-row : replicate wd 0 ≡ placeRow (m .mesh) empty
-  zeros-row = go fm
-    where
-      go : {w : ℕ} → Width w → replicate w 0 ≡ placeRow (m .mesh) empty
-      go width3 = refl
-
   clear-in : (i : ℕ) → i < 32 → (s : Place) → getD (m .places) i empty ≡ s → result (clearStep wd FS WS i) ≡ shownIn xs ys (clearTurn m i s)
   unfolding clearStep
   clear-in i h empty e = rw (filled-none i h e) refl
-  clear-in i h (full k fit p) e =
-      rw (filled-in i h k fit p e, write-floats wd fm (m .mesh) (m .places) (v .places) (past m xs) i h empty, zeros-row, write-words wd fm (m .mesh) (m .places) (v .places) ys i h empty) refl
+  clear-in i h (full k fit p l) e =
+      rw (filled-in i h k fit p l e, write-floats wd fm (m .mesh) (m .places) (v .places) (past m xs) i h empty, zeros-row wd fm (m .mesh), write-words wd fm (m .mesh) (m .places) (v .places) ys i h empty) refl
 
   clear-held : (i : ℕ) → store wd (inner m xs ys) (clear i) ≡ shownIn xs ys (machine m (clear i))
   unfolding store machine clearStep
@@ -129,19 +123,19 @@ module _ (wd : ℕ) (fm : Width wd) (m : Machine) (v : Valid (m .mesh) (m .place
       sym (write-words wd fm (m .mesh) (m .places) (v .places) ys i h (getD (m .places) i empty) ∙ ap (λ (t : List Place). wordsOf (m .mesh) t ys) (set-getD (m .places) i empty))
       ∙ (ap (write WS (2 + wd * i)) e ∙ write-words wd fm (m .mesh) (m .places) (v .places) ys i h s)
 
-  same-volumes : (k : Kernel) (fit : Pieces) (w : Float) (p : ℕ) → sixteen (m .mesh) (full (weighed k w) fit p) ≡ sixteen (m .mesh) (full k fit p)
+  same-volumes : (k : Kernel) (fit : Pieces) (w : Float) (p l : ℕ) → sixteen (m .mesh) (full (weighed k w) fit p l) ≡ sixteen (m .mesh) (full k fit p l)
   unfolding centreOf
-  same-volumes k fit w p = refl
+  same-volumes k fit w p l = refl
 
   reweigh-in : (i : ℕ) (w : Float) → i < 32 → (s : Place) → getD (m .places) i empty ≡ s → result (reweighStep wd FS WS i w) ≡ shownIn xs ys (reweighTurn m i w s)
   unfolding reweighStep
   reweigh-in i w h empty e = rw (filled-none i h e) refl
-  reweigh-in i w h (full k fit p) e =
+  reweigh-in i w h (full k fit p l) e =
       let n : 5 + 7 * i ≡ 1 + (7 * i + 4) = omega arith in
-      let s = full (weighed k w) fit p in
-      let f = set-seven wd fm (m .mesh) (m .places) (v .places) (past m xs) i h s 4 w (omega arith) (rw e refl) (rw e (same-volumes k fit w p)) in
+      let s = full (weighed k w) fit p l in
+      let f = set-seven wd fm (m .mesh) (m .places) (v .places) (past m xs) i h s 4 w (omega arith) (rw e refl) (rw e (same-volumes k fit w p l)) in
       let g : WS ≡ wordsOf (m .mesh) (set (m .places) i s) ys = same-place i h s (rw e refl) in
-      rw (filled-in i h k fit p e, n, f)
+      rw (filled-in i h k fit p l e, n, f)
       (ap (λ (t : List ℕ). record { left = record { floats = laidOut (m .mesh) (set (m .places) i s) (past m xs); words = t }; reply = done; out = []; page = [] }) g)
 
   reweigh-held : (i : ℕ) (w : Float) → store wd (inner m xs ys) (reweigh i w) ≡ shownIn xs ys (machine m (reweigh i w))
@@ -173,21 +167,24 @@ module _ (wd : ℕ) (fm : Width wd) (m : Machine) (v : Valid (m .mesh) (m .place
       let b : 0 - m .mesh .faces ≡ 0 = omega arith in
       rw (a, b) (ap (λ (t : List Float). getD (fit .sigma) j nan ∷ getD (fit .coefficient) j nan ∷ +0 ∷ t) (fresh-cells k fit n (suc j)))
 
-  put-in : (i : ℕ) (k : Kernel) (fit : Pieces) (end : Fit) → i < 32
-      → result (record { reply = placedWith (fit .count) (need (m .mesh) fit) end; floats = putFloats FS i k fit; words = putWords wd WS i fit }) ≡ shownIn xs ys (putTurn m i k fit end)
+  put-in : (i : ℕ) (k : Kernel) (fit : Pieces) (end : Fit) (l : ℕ) → i < 32
+      → result (record { reply = placedWith (fit .count) (need (m .mesh) fit) end; floats = putFloats FS i k fit; words = putWords wd WS i fit l }) ≡ shownIn xs ys (putTurn m i k fit end l)
   unfolding putFloats putWords atFirst
-  put-in i k fit end h =
-      let f = write-floats wd fm (m .mesh) (m .places) (v .places) (past m xs) i h (full k fit 0) in
-      let g = rw (zero-div, zero-mod) at (write-words wd fm (m .mesh) (m .places) (v .places) ys i h (full k fit 0)) in
-      rw (faces-held, fresh-cells k fit 16 0, f, g, end-counts end, end-floats end) refl
+  put-in i k fit end l h =
+      let f = write-floats wd fm (m .mesh) (m .places) (v .places) (past m xs) i h (full k fit 0 l) in
+      let g = rw (zero-div, zero-mod) at (write-words wd fm (m .mesh) (m .places) (v .places) ys i h (full k fit 0 l)) in
+      rw (faces-held, lt-ltb 3 wd (at-least fm), fresh-cells k fit 16 0, f, g, end-counts end, end-floats end) refl
 
-  put-held : (i : ℕ) (k : Kernel) → store wd (inner m xs ys) (put i k) ≡ shownIn xs ys (machine m (put i k))
-  unfolding store machine putStep
-  put-held i k = go (decLt i 32)
+  put-held : (i : ℕ) (k : Kernel) (l : ℕ) → store wd (inner m xs ys) (put i k l) ≡ shownIn xs ys (machine m (put i k l))
+  unfolding store machine putStep layerCheck
+  put-held i k l = go (decLt i 32) (decLt l 16)
     where
-      go : Dec (i < 32) → store wd (inner m xs ys) (put i k) ≡ shownIn xs ys (machine m (put i k))
-      go (yes h) = rw (place-in i h, lt-ltb i 32 h, radius-held, faces-held) (put-in i k (decomposed k (m .mesh .radius)) (fitOf k (m .mesh .radius)) h)
-      go (no h) = rw (place-out i (omega arith), le-ltb i 32 (omega arith)) refl
+      go : Dec (i < 32) → Dec (l < 16) → store wd (inner m xs ys) (put i k l) ≡ shownIn xs ys (machine m (put i k l))
+      go (yes h) (yes b) =
+          rw (place-in i h, lt-ltb i 32 h, lt-ltb l 16 b, le-leb l 15 (omega arith), radius-held, faces-held)
+          (put-in i k (decomposed k (m .mesh .radius)) (fitOf k (m .mesh .radius)) l h)
+      go (yes h) (no b) = rw (place-in i h, lt-ltb i 32 h, le-ltb l 16 (omega arith), lt-leb l 15 (omega arith)) refl
+      go (no h) b = rw (place-out i (omega arith), le-ltb i 32 (omega arith)) refl
 
   -- ---- advance
   advance-held : (n : ℕ) → store wd (inner m xs ys) (advance n) ≡ shownIn xs ys (machine m (advance n))
@@ -209,9 +206,9 @@ module _ (wd : ℕ) (fm : Width wd) (m : Machine) (v : Valid (m .mesh) (m .place
       ) refl
 
   -- ---- a reading
-  reading-held : (r : Reading) → store wd (inner m xs ys) (read r) ≡ shownIn xs ys (machine m (read r))
+  reading-held : (ls : ℕ) (r : Reading) → store wd (inner m xs ys) (read ls r) ≡ shownIn xs ys (machine m (read ls r))
   unfolding store machine
-  reading-held r = ap (seen (inner m xs ys)) (read-held wd fm (m .mesh) (m .places) v (past m xs) ys r)
+  reading-held ls r = ap (seen (inner m xs ys)) (read-held wd fm (m .mesh) (m .places) v (past m xs) ys ls r)
 
   -- ---- a page
   page-of-held : (bs : List ℕ) → store wd (inner m xs ys) (page bs) ≡ shownIn xs ys (machine m (page bs))
@@ -234,12 +231,12 @@ module _ (wd : ℕ) (fm : Width wd) (m : Machine) (v : Valid (m .mesh) (m .place
       ) refl
 
   one-in : (c : Call) → store wd (inner m xs ys) c ≡ shownIn xs ys (machine m c)
-  one-in (put i k) = put-held i k
+  one-in (put i k l) = put-held i k l
   one-in (clear i) = clear-held i
   one-in (reweigh i w) = reweigh-held i w
   one-in (advance n) = advance-held n
   one-in squeeze = squeeze-held
-  one-in (read r) = reading-held r
+  one-in (read ls r) = reading-held ls r
   one-in (page bs) = page-of-held bs
 
 -- ---- what every turn keeps
@@ -267,8 +264,8 @@ module _ (m : Machine) (v : Valid (m .mesh) (m .places)) where
   with-place : (i : ℕ) (s : Place) → Within (m .mesh) s → Valid (m .mesh) (set (m .places) i s)
   with-place i s w = remade (set (m .places) i s) (length-set (m .places) i s ∙ v .places) (all-set (Within (m .mesh)) (m .places) i s w (v .within))
 
-  still-put : (i : ℕ) (k : Kernel) (r : Refusal) → Kept m (put i k) (turn m (refused r))
-  still-put i k r = record { valid = v; balance = refl; charged = omega arith }
+  still-put : (i : ℕ) (k : Kernel) (l : ℕ) (r : Refusal) → Kept m (put i k l) (turn m (refused r))
+  still-put i k l r = record { valid = v; balance = refl; charged = omega arith }
 
   still-clear : (i : ℕ) (r : Refusal) → Kept m (clear i) (turn m (refused r))
   still-clear i r = record { valid = v; balance = refl; charged = omega arith }
@@ -276,36 +273,37 @@ module _ (m : Machine) (v : Valid (m .mesh) (m .places)) where
   still-reweigh : (i : ℕ) (w : Float) (r : Refusal) → Kept m (reweigh i w) (turn m (refused r))
   still-reweigh i w r = record { valid = v; balance = refl; charged = omega arith }
 
-  keep-put : (i : ℕ) (k : Kernel) → i < 32 → Kept m (put i k) (putTurn m i k (decomposed k (m .mesh .radius)) (fitOf k (m .mesh .radius)))
-  keep-put i k h =
+  keep-put : (i : ℕ) (k : Kernel) (l : ℕ) → i < 32 → l < 16 → Kept m (put i k l) (putTurn m i k (decomposed k (m .mesh .radius)) (fitOf k (m .mesh .radius)) l)
+  keep-put i k l h b =
       let fit = decomposed k (m .mesh .radius) in
-      let z = left-set (m .mesh) (m .places) i (full k fit 0) (rw (v .places) h) in
-      record { valid = with-place i (full k fit 0) (okay (m .mesh) k fit 0 refl (omega arith)); balance = omega arith; charged = omega arith }
+      let z = left-set (m .mesh) (m .places) i (full k fit 0 l) (rw (v .places) h) in
+      record { valid = with-place i (full k fit 0 l) (okay (m .mesh) k fit 0 l refl (omega arith) b); balance = omega arith; charged = omega arith }
 
   keep-clear : (i : ℕ) → i < 32 → (s : Place) → getD (m .places) i empty ≡ s → Kept m (clear i) (clearTurn m i s)
   keep-clear i h empty e = still-clear i Vacant
-  keep-clear i h (full k fit p) e =
+  keep-clear i h (full k fit p l) e =
       let z = rw e at (left-set (m .mesh) (m .places) i empty (rw (v .places) h)) in
       record { valid = with-place i empty (tt {0}); balance = omega arith; charged = omega arith }
 
   keep-reweigh : (i : ℕ) (w : Float) → i < 32 → (s : Place) → getD (m .places) i empty ≡ s → Kept m (reweigh i w) (reweighTurn m i w s)
   keep-reweigh i w h empty e = still-reweigh i w Vacant
-  keep-reweigh i w h (full k fit p) e =
+  keep-reweigh i w h (full k fit p l) e =
       let o = subst (Within (m .mesh)) e (v .within i) in
-      let z = rw e at (left-set (m .mesh) (m .places) i (full (weighed k w) fit p) (rw (v .places) h)) in
+      let z = rw e at (left-set (m .mesh) (m .places) i (full (weighed k w) fit p l) (rw (v .places) h)) in
       record {
-        valid = with-place i (full (weighed k w) fit p) (okay (m .mesh) (weighed k w) fit p (o .fitted ∙ same-pieces (k .c) (k .c) (k .sigma) (k .w) w (k .alpha) (m .mesh .radius)) (o .steps));
+        valid = with-place i (full (weighed k w) fit p l) (okay (m .mesh) (weighed k w) fit p l (o .fitted ∙ same-pieces (k .c) (k .c) (k .sigma) (k .w) w (k .alpha) (m .mesh .radius)) (o .steps) (o .layer));
         balance = omega arith;
         charged = omega arith;
       }
 
   pub kept : (c : Call) → Kept m c (machine m c)
   unfolding machine
-  kept (put i k) = go (decLt i 32)
+  kept (put i k l) = go (decLt i 32) (decLt l 16)
     where
-      go : Dec (i < 32) → Kept m (put i k) (machine m (put i k))
-      go (yes h) = rw (lt-ltb i 32 h) (keep-put i k h)
-      go (no h) = rw (le-ltb i 32 (omega arith)) (still-put i k NoPlace)
+      go : Dec (i < 32) → Dec (l < 16) → Kept m (put i k l) (machine m (put i k l))
+      go (yes h) (yes b) = rw (lt-ltb i 32 h, le-leb l 15 (omega arith)) (keep-put i k l h b)
+      go (yes h) (no b) = rw (lt-ltb i 32 h, lt-leb l 15 (omega arith)) (still-put i k l NoLayer)
+      go (no h) b = rw (le-ltb i 32 (omega arith)) (still-put i k l NoPlace)
   kept (clear i) = go (decLt i 32)
     where
       go : Dec (i < 32) → Kept m (clear i) (machine m (clear i))
@@ -320,12 +318,12 @@ module _ (m : Machine) (v : Valid (m .mesh) (m .places)) where
       let l = leftSum (m .mesh) (m .places) in
       rw (lowest-first (m .mesh) (min n l) n (m .places) refl)
       (record {
-        valid = remade (spread (m .mesh) n (m .places)) (spread-length 3 width3 (m .mesh) n (m .places) ∙ v .places) (within-spread (m .mesh) n (m .places) (v .within));
+        valid = remade (spread (m .mesh) n (m .places)) (spread-length 4 width4 (m .mesh) n (m .places) ∙ v .places) (within-spread (m .mesh) n (m .places) (v .within));
         balance = rw (left-spread (m .mesh) n (m .places)) (omega arith);
         charged = omega arith;
       })
   kept squeeze = record { valid = slim-valid (m .mesh) (m .places) v; balance = rw (left-slim (m .mesh) (m .places) v) refl; charged = omega arith }
-  kept (read r) = record { valid = v; balance = refl; charged = omega arith }
+  kept (read ls r) = record { valid = v; balance = refl; charged = omega arith }
   kept (page bs) = record { valid = v; balance = refl; charged = omega arith }
 
 -- ---- one call, on the runs that hold the machine

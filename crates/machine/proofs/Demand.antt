@@ -1,15 +1,17 @@
 -- Demand 3. Assumes nothing.
 use mathlib.Core.Path.{_≡_, refl, sym, ap, subst, _∙_}
-use mathlib.Core.Bool.{Bool, true, false, _&&_, cond, and-eq-true-iff}
+use mathlib.Core.Bool.{Bool, true, false, _&&_, cond, and-eq-true-iff, true≢false}
+use mathlib.Core.Logic.{_⊎_, inl, inr}
 use mathlib.Core.List.{List, [], _∷_, map}
-use Prim.Native.Nat.{ℕ, _*_, _/_, _%_, _<_, min}
+use Prim.Native.Nat.{ℕ, _*_, _/_, _%_, _^_, _<_, min}
 use native.Mathlib.Omega.{arith}
 use lib.Dec.{ltb, leb, eqb}
 use lib.ListN.{length}
 use lib.Ieee.{Float}
-use borrow.Author.Tests.{lt-ltb, ltb-true}
+use borrow.Author.Tests.{lt-ltb, ltb-true, le-leb, lt-leb, leb-true, leb-false}
 use Rattle.base.specs.Answers.{Answer, refused, counted, Outcome, outcome, guardedRun, andThen}
-use Rattle.base.specs.declared.refusal.Refusal.the-variants.{Unfinished, ShortList, BadTrack, NoFigure, ShortPage}
+use Rattle.base.specs.declared.refusal.Refusal.{Refusal}
+use Rattle.base.specs.declared.refusal.Refusal.the-variants.{Unfinished, NoLayer, ShortList, BadTrack, NoFigure, ShortPage}
 use Rattle.base.specs.declared.refusal.Checked.the-variants.{Passed, Failed}
 use Rattle.layout.specs.Runs.{write}
 use Rattle.readings.specs.Along.{along}
@@ -18,57 +20,88 @@ use Rattle.layout.specs.After.{After, after}
 use Rattle.store.specs.Calls.{openCheck, openStep}
 use Rattle.readings.specs.Readings.{Reading, density, report, list, track, bare, applied, rescaled, densityAt, sixes, Seen, trackLimit, trackCheck, answerOf, refusing}
 use Rattle.page.specs.Page.{Row, Paged, paged, allPrintable, pageOf, guardedPage, pageAnswer}
-use Rattle.machine.specs.Machine.{Mesh, Place, leftSum, Machine, opened, openRow}
+use Rattle.machine.specs.Machine.{Mesh, Place, leftSum, seenPlaces, Machine, opened, openRow}
 use Rattle.machine.specs.Holding.{excessF, excessW}
 use Rattle.machine.specs.Fresh.{kernelsOf, freshRows, workedAfresh, pageAfresh}
 use Rattle.machine.specs.Calls.{Call, advance, read, page, needs, machine, Store, Result, store, leaves, after-all, holding, leftIn, without, heard}
 use Rattle.machine.specs.Demands.{Same, Read, Post, Each, end, next, Follows, leaving, Accepted, refusedBy, Opens, Demand3}
 use Rattle.machine.specs.Valid.{Valid}
-use Rattle.machine.proofs.Rows.{Width, width3}
+use Rattle.machine.proofs.Rows.{Width, width4}
 use Rattle.machine.proofs.Parts.{freshSeen}
 use Rattle.machine.proofs.Afresh.{joined}
+use Rattle.machine.proofs.Layers.{all-seen}
 use Rattle.machine.proofs.Claim.{one-call, kept, books, charges}
 use Rattle.machine.proofs.Unaltered.{From, from-start, from-next, on-opened, page-opened, unaltered}
 use Rattle.machine.proofs.Listed.{listed}
 use Rattle.machine.proofs.Opened.{opens, opened-valid}
 use Rattle.machine.proofs.Refused.{row}
 
--- ---- what is answered is never 8
-listed-not : (b : Bool) (n : ℕ) (o out : List Float) → guardedRun (cond b Passed (Failed ShortList)) out (outcome (counted (n ∷ [])) o) .reply .refusal ≡ 8 → ⊥
-listed-not true n o out e = omega arith
-listed-not false n o out e = omega arith
+-- ---- what is answered is never 8 or 16: it is accepted, 9 of a list or 14 of a track
+abbrev Answered : ℕ → Type 0
+Answered n = (n ≡ 0) ⊎ ((n ≡ 9) ⊎ (n ≡ 14))
 
-tracked-not : (a b n : ℕ) (o out : List Float) → guardedRun (trackCheck a b) out (outcome (counted (n ∷ [])) o) .reply .refusal ≡ 8 → ⊥
+listed-as : (b : Bool) (n : ℕ) (o out : List Float) → Answered (guardedRun (cond b Passed (Failed ShortList)) out (outcome (counted (n ∷ [])) o) .reply .refusal)
+listed-as true n o out = inl refl
+listed-as false n o out = inr (inl refl)
+
+tracked-as : (a b n : ℕ) (o out : List Float) → Answered (guardedRun (trackCheck a b) out (outcome (counted (n ∷ [])) o) .reply .refusal)
 unfolding trackCheck
-tracked-not a b n o out = go (eqb (a % 3) 0 && leb (a / 3) trackLimit && leb (a / 3) b)
+tracked-as a b n o out = go (eqb (a % 3) 0 && leb (a / 3) trackLimit && leb (a / 3) b)
   where
-    go : (t : Bool) → guardedRun (cond t Passed (Failed BadTrack)) out (outcome (counted (n ∷ [])) o) .reply .refusal ≡ 8 → ⊥
-    go true e = omega arith
-    go false e = omega arith
+    go : (t : Bool) → Answered (guardedRun (cond t Passed (Failed BadTrack)) out (outcome (counted (n ∷ [])) o) .reply .refusal)
+    go true = inl refl
+    go false = inr (inr refl)
 
-not-eight : (r : Reading) (s : Seen) → answerOf r s .reply ≡ refused Unfinished → ⊥
-not-eight (density v x) s e = let z : _≡_ {A = ℕ} 0 8 = ap (λ (a : Answer). a .refusal) e in omega arith
-not-eight (report v) s e = let z : _≡_ {A = ℕ} 0 8 = ap (λ (a : Answer). a .refusal) e in omega arith
-not-eight (list v out) s e =
+answered : (r : Reading) (s : Seen) → Answered (answerOf r s .reply .refusal)
+answered (density v x) s = inl refl
+answered (report v) s = inl refl
+answered (list v out) s =
     let ks = map bare (s .parts) in
-    listed-not (leb (6 * length ks) (length out)) (length ks) (write out 0 (sixes (map (rescaled (applied v (s .parts))) ks))) out (ap (λ (a : Answer). a .refusal) e)
-not-eight (track v points out) s e =
-    tracked-not (length points) (length out) (length points / 3) (write out 0 (along (densityAt (map (rescaled (applied v (s .parts))) (map bare (s .parts)))) points (length points / 3))) out (ap (λ (a : Answer). a .refusal) e)
+    listed-as (leb (6 * length ks) (length out)) (length ks) (write out 0 (sixes (map (rescaled (applied v (s .parts))) ks))) out
+answered (track v points out) s =
+    tracked-as (length points) (length out) (length points / 3) (write out 0 (along (densityAt (map (rescaled (applied v (s .parts))) (map bare (s .parts)))) points (length points / 3))) out
 
-eight : (r : Reading) → refusing r Unfinished .reply ≡ refused Unfinished
-eight (density v x) = refl
-eight (report v) = refl
-eight (list v out) = refl
-eight (track v points out) = refl
+refuses-as : (r : Reading) (e : Refusal) → refusing r e .reply ≡ refused e
+refuses-as (density v x) e = refl
+refuses-as (report v) e = refl
+refuses-as (list v out) e = refl
+refuses-as (track v points out) e = refl
 
+not-eight : (a : Answer) → Answered (a .refusal) → a ≡ refused Unfinished → ⊥
+not-eight a n e = let z : a .refusal ≡ 8 = ap (λ (x : Answer). x .refusal) e in go n z
+  where
+    go : {k : ℕ} → Answered k → k ≡ 8 → ⊥
+    go (inl x) z = omega arith
+    go (inr (inl x)) z = omega arith
+    go (inr (inr x)) z = omega arith
+
+not-sixteen : (a : Answer) → Answered (a .refusal) → a ≡ refused NoLayer → ⊥
+not-sixteen a n e = let z : a .refusal ≡ 16 = ap (λ (x : Answer). x .refusal) e in go n z
+  where
+    go : {k : ℕ} → Answered k → k ≡ 16 → ⊥
+    go (inl x) z = omega arith
+    go (inr (inl x)) z = omega arith
+    go (inr (inr x)) z = omega arith
+
+-- 16, then 8, then what is worked afresh
 module _ (r : Reading) (o : Outcome) where
-  when-eight : (o .reply ≡ refused Unfinished → ⊥) → (b : Bool) → cond b (refusing r Unfinished) o .reply ≡ refused Unfinished → b ≡ true
-  when-eight n true e = refl
-  when-eight n false e = absurd (n e)
+  abbrev turned : Bool → Bool → Outcome
+  turned a b = cond a (refusing r NoLayer) (cond b (refusing r Unfinished) o)
 
-  when-not : (b : Bool) → (cond b (refusing r Unfinished) o .reply ≡ refused Unfinished → ⊥) → cond b (refusing r Unfinished) o ≡ o
-  when-not true n = absurd (n (eight r))
-  when-not false n = refl
+  when-sixteen : Answered (o .reply .refusal) → (a b : Bool) → turned a b .reply ≡ refused NoLayer → a ≡ true
+  when-sixteen n true b e = refl
+  when-sixteen n false true e = absurd (let z : _≡_ {A = ℕ} 8 16 = ap (λ (x : Answer). x .refusal) (sym (refuses-as r Unfinished) ∙ e) in omega arith)
+  when-sixteen n false false e = absurd (not-sixteen (o .reply) n e)
+
+  when-eight : Answered (o .reply .refusal) → (a b : Bool) → turned a b .reply ≡ refused Unfinished → (a ≡ false) × (b ≡ true)
+  when-eight n true b e = absurd (let z : _≡_ {A = ℕ} 16 8 = ap (λ (x : Answer). x .refusal) (sym (refuses-as r NoLayer) ∙ e) in omega arith)
+  when-eight n false true e = (refl, refl)
+  when-eight n false false e = absurd (not-eight (o .reply) n e)
+
+  when-not : (a b : Bool) → a ≡ false → (turned a b .reply ≡ refused Unfinished → ⊥) → turned a b ≡ o
+  when-not true b h n = absurd (true≢false h)
+  when-not false true h n = absurd (n (refuses-as r Unfinished))
+  when-not false false h n = refl
 
 -- a page's neither
 paged-not : (rs : List Row) (bs : List ℕ) → pageAnswer rs bs .reply ≡ refused Unfinished → ⊥
@@ -100,23 +133,31 @@ module _ (wd : ℕ) (fm : Width wd) (exF : List Float) (exW : List ℕ) where
       let e = one-call wd fm m v exF exW c in
       record { before = refl; reply = ap (λ (r : Result). r .reply) e; lent = ap (λ (r : Result). r .out) e; shown = ap (λ (r : Result). r .page) e; fields = ap (λ (r : Result). r .left) e }
 
-  reading : (o : Mesh) (m : Machine) → Valid (m .mesh) (m .places) → From o (m .mesh) → (r : Reading) → Read wd o m (holding m exF exW) r
+  reading : (o : Mesh) (m : Machine) → Valid (m .mesh) (m .places) → From o (m .mesh) → (layers : ℕ) (r : Reading) → Read wd o m (holding m exF exW) layers r
   unfolding machine
-  reading o m v g r =
-      let e = one-call wd fm m v exF exW (read r) in
+  reading o m v g layers r =
+      let e = one-call wd fm m v exF exW (read layers r) in
       let er = ap (λ (x : Result). x .reply) e in
       let eo = ap (λ (x : Result). x .out) e in
-      let l = leftSum (m .mesh) (m .places) in
+      let ss = seenPlaces layers (m .places) in
+      let l = leftSum (m .mesh) ss in
+      let a = leb (2 ^ 16) layers in
       let b = needs r && ltb 0 l in
-      let f = workedAfresh (m .mesh) (m .places) r in
-      let j = joined (m .mesh) (v .mesh) (m .places) r in
-      let never : f .reply ≡ refused Unfinished → ⊥ = λ y. not-eight r (freshSeen (m .mesh) (m .places)) (ap (λ (a : Outcome). a .reply) j ∙ y) in
+      let f = workedAfresh (m .mesh) ss r in
+      let n : Answered (f .reply .refusal)
+      = subst (λ (x : Outcome). Answered (x .reply .refusal)) (joined (m .mesh) (v .mesh) ss r) (answered r (freshSeen (m .mesh) ss)) in
       record {
-        unfinished = λ n h. er ∙ rw (n, lt-ltb 0 l h) (eight r);
-        only-then = λ z. let t = and-eq-true-iff (needs r) (ltb 0 l) .0 (when-eight r f never b (sym er ∙ z)) in (t .0, ltb-true 0 l (t .1));
-        afresh = λ z.
-            let t = when-not r f b (λ y. z (er ∙ y)) ∙ on-opened o (m .mesh) g (m .places) r in
-            (er ∙ ap (λ (a : Outcome). a .reply) t, eo ∙ ap (λ (a : Outcome). a .out) t);
+        no-layer = λ h. er ∙ rw (le-leb (2 ^ 16) layers h) (refuses-as r NoLayer);
+        one-of-sixteen = λ z. leb-true (2 ^ 16) layers (when-sixteen r f n a b (sym er ∙ z));
+        unfinished = λ h w p. er ∙ rw (lt-leb (2 ^ 16) layers h, w, lt-ltb 0 l p) (refuses-as r Unfinished);
+        only-then = λ z.
+            let t = when-eight r f n a b (sym er ∙ z) in
+            let u = and-eq-true-iff (needs r) (ltb 0 l) .0 (t .1) in
+            (leb-false (2 ^ 16) layers (t .0), (u .0, ltb-true 0 l (u .1)));
+        afresh = λ h z.
+            let t = when-not r f a b (lt-leb (2 ^ 16) layers h) (λ y. z (er ∙ y)) ∙ on-opened o (m .mesh) g ss r in
+            (er ∙ ap (λ (x : Outcome). x .reply) t, eo ∙ ap (λ (x : Outcome). x .out) t);
+        all-sixteen = all-seen (m .mesh) (m .places) (v .within);
         kept = ap (λ (x : Result). x .left) e;
       }
 
@@ -198,4 +239,4 @@ module _ (wd : ℕ) (fm : Width wd) (r : Float) (xs : List Float) (ks : List ℕ
   opens-at = record { refused-as = refuses; accepted = accepts }
 
 pub demand3 : Demand3
-demand3 = opens-at width width3
+demand3 = opens-at width width4

@@ -4,51 +4,59 @@ use mathlib.Core.List.{List, [], _∷_, _++_, map, append-assoc}
 use Prim.Native.Nat.{ℕ, zero, suc, _+_, _*_, _-_, _≤_, _<_}
 use native.Mathlib.Nat.{mul-suc}
 use native.Mathlib.Omega.{arith}
-use lib.ListN.{length, take, drop, getD, set, length-append, length-map, length-set}
+use lib.ListN.{length, take, drop, getD, set, replicate, length-append, length-map, length-set}
 use lib.Seq.{getD-append-add, drop-at, take-at, set-set, set-getD, getD-set-same}
 use lib.Ieee.{Float, nan}
+use borrow.Author.Tests.{lt-ltb}
 use Rattle.layout.specs.Runs.{write}
-use Rattle.layout.specs.Layout.{cornersFrom, statusOf, finishedOf, doneOf}
+use Rattle.layout.specs.Layout.{cornersFrom, statusOf, finishedOf, doneOf, layerOf}
 use Rattle.kernel.specs.declared.kernel.Kernel.{Kernel}
 use Rattle.pieces.specs.declared.pieces.Pieces.{Pieces}
 use Rattle.machine.specs.Machine.{Mesh, Place, empty, full}
 use Rattle.machine.specs.Holding.{placeRow, floats7, cells, flat, wordsOf}
 use Rattle.machine.proofs.Sixteen.{sixteen, laidOut}
-use Rattle.machine.proofs.Rows.{Width, width3, Each, row-get, row-set, row-write, flat-length, map-set, map-getD, each-map, set-append-add, write-append-add, each-set}
+use Rattle.machine.proofs.Rows.{Width, width4, Each, row-get, row-set, row-write, flat-length, map-set, map-getD, each-map, set-append-add, write-append-add, each-set}
 
--- a form has at least three words per place
-pub at-least : {w : ℕ} → Width w → 3 ≤ w
-at-least width3 = omega arith
+-- a form has at least four words per place
+pub at-least : {w : ℕ} → Width w → 4 ≤ w
+at-least width4 = omega arith
 
 module _ (wd : ℕ) (fm : Width wd) where
-  three-in : 3 ≤ wd
-  three-in = at-least fm
+  four-in : 4 ≤ wd
+  four-in = at-least fm
 
   pub cells-length : (m : Mesh) (k : Kernel) (fit : Pieces) (n j t : ℕ) → length (cells m k fit n j t) ≡ 3 * n
   cells-length m k fit zero j t = refl
   cells-length m k fit (suc n) j t = rw mul-suc (omega (arith, cells-length m k fit n (suc j) (t - m .faces)))
 
   module _ (m : Mesh) where
-    pub len3 : (s : Place) → length (placeRow m s) ≡ wd
-    len3 empty = go fm
+    pub len-row : (s : Place) → length (placeRow m s) ≡ wd
+    len-row empty = go fm
       where
         go : {w : ℕ} → Width w → length (placeRow m empty) ≡ w
-        go width3 = refl
-    len3 (full k fit p) = go fm
+        go width4 = refl
+    len-row (full k fit p l) = go fm
       where
-        go : {w : ℕ} → Width w → length (placeRow m (full k fit p)) ≡ w
-        go width3 = refl
+        go : {w : ℕ} → Width w → length (placeRow m (full k fit p l)) ≡ w
+        go width4 = refl
+
+    -- an empty place's words, as a clear leaves them
+    pub zeros-row : replicate wd 0 ≡ placeRow m empty
+    zeros-row = go fm
+      where
+        go : {w : ℕ} → Width w → replicate w 0 ≡ placeRow m empty
+        go width4 = refl
 
     pub len7 : (s : Place) → length (floats7 s) ≡ 7
     len7 empty = refl
-    len7 (full k fit p) = refl
+    len7 (full k fit p l) = refl
 
     pub len48 : (s : Place) → length (sixteen m s) ≡ 48
     len48 empty = refl
-    len48 (full k fit p) = cells-length m k fit 16 0 p
+    len48 (full k fit p l) = cells-length m k fit 16 0 p
 
-    pub each3 : (ss : List Place) → Each wd (map (placeRow m) ss)
-    each3 ss = each-map wd (placeRow m) len3 ss
+    pub each-row : (ss : List Place) → Each wd (map (placeRow m) ss)
+    each-row ss = each-map wd (placeRow m) len-row ss
 
     pub each7 : (ss : List Place) → Each 7 (map floats7 ss)
     each7 ss = each-map 7 floats7 len7 ss
@@ -61,32 +69,37 @@ module _ (wd : ℕ) (fm : Width wd) where
       in-map g i h = rw (length-map, hs) h
 
       module _ (ys : List ℕ) (i : ℕ) (h : i < 32) where
-        abbrev rest3 : List ℕ
-        rest3 = m .corners ++ ys
+        abbrev rest-row : List ℕ
+        rest-row = m .corners ++ ys
 
         pub get-word : (j : ℕ) → j < wd → getD (wordsOf m ss ys) (2 + (wd * i + j)) 0 ≡ getD (placeRow m (getD ss i empty)) j 0
         unfolding wordsOf
         get-word j hj =
-            getD-append-add (m .verts ∷ m .faces ∷ []) (flat (map (placeRow m) ss) ++ rest3) (wd * i + j) 0
-            ∙ (row-get wd (map (placeRow m) ss) (each3 ss) rest3 i j 0 (in-map (placeRow m) i h) hj
+            getD-append-add (m .verts ∷ m .faces ∷ []) (flat (map (placeRow m) ss) ++ rest-row) (wd * i + j) 0
+            ∙ (row-get wd (map (placeRow m) ss) (each-row ss) rest-row i j 0 (in-map (placeRow m) i h) hj
             ∙ ap (λ (r : List ℕ). getD r j 0) (map-getD (placeRow m) ss i empty [] (rw hs h)))
 
         pub status-held : statusOf wd (wordsOf m ss ys) i ≡ getD (placeRow m (getD ss i empty)) 0 0
-        status-held = let e : 2 + wd * i ≡ 2 + (wd * i + 0) = omega arith in rw e (get-word 0 (omega (arith, three-in)))
+        status-held = let e : 2 + wd * i ≡ 2 + (wd * i + 0) = omega arith in rw e (get-word 0 (omega (arith, four-in)))
 
         pub finished-held : finishedOf wd (wordsOf m ss ys) i ≡ getD (placeRow m (getD ss i empty)) 1 0
-        finished-held = let e : 3 + wd * i ≡ 2 + (wd * i + 1) = omega arith in rw e (get-word 1 (omega (arith, three-in)))
+        finished-held = let e : 3 + wd * i ≡ 2 + (wd * i + 1) = omega arith in rw e (get-word 1 (omega (arith, four-in)))
 
         pub done-held : doneOf wd (wordsOf m ss ys) i ≡ getD (placeRow m (getD ss i empty)) 2 0
-        done-held = let e : 4 + wd * i ≡ 2 + (wd * i + 2) = omega arith in rw e (get-word 2 (omega (arith, three-in)))
+        done-held = let e : 4 + wd * i ≡ 2 + (wd * i + 2) = omega arith in rw e (get-word 2 (omega (arith, four-in)))
+
+        pub layer-held : layerOf wd (wordsOf m ss ys) i ≡ getD (placeRow m (getD ss i empty)) 3 0
+        layer-held =
+            let e : 5 + wd * i ≡ 2 + (wd * i + 3) = omega arith in
+            rw (lt-ltb 3 wd four-in, e) (get-word 3 (omega (arith, four-in)))
 
         pub write-words : (s : Place) → write (wordsOf m ss ys) (2 + wd * i) (placeRow m s) ≡ wordsOf m (set ss i s) ys
         unfolding wordsOf
         write-words s =
-            write-append-add (m .verts ∷ m .faces ∷ []) (flat (map (placeRow m) ss) ++ rest3) (wd * i) (placeRow m s)
+            write-append-add (m .verts ∷ m .faces ∷ []) (flat (map (placeRow m) ss) ++ rest-row) (wd * i) (placeRow m s)
             ∙ ap (λ (l : List ℕ). m .verts ∷ m .faces ∷ l)
-            (row-write wd (map (placeRow m) ss) (each3 ss) rest3 i (placeRow m s) (in-map (placeRow m) i h) (len3 s)
-            ∙ ap (λ (r : List (List ℕ)). flat r ++ rest3) (sym (map-set (placeRow m) ss i s)))
+            (row-write wd (map (placeRow m) ss) (each-row ss) rest-row i (placeRow m s) (in-map (placeRow m) i h) (len-row s)
+            ∙ ap (λ (r : List (List ℕ)). flat r ++ rest-row) (sym (map-set (placeRow m) ss i s)))
 
       module _ (xs : List Float) (i : ℕ) (h : i < 32) where
         abbrev rest48 : List Float
@@ -192,12 +205,12 @@ module _ (wd : ℕ) (fm : Width wd) where
     unfolding wordsOf
     corners-held ys e =
         let p = m .verts ∷ m .faces ∷ flat (map (placeRow m) ss) in
-        let n : length p ≡ cornersFrom wd = rw (flat-length wd (map (placeRow m) ss) (each3 m ss), length-map, hs) (omega arith) in
+        let n : length p ≡ cornersFrom wd = rw (flat-length wd (map (placeRow m) ss) (each-row m ss), length-map, hs) (omega arith) in
         ap (take (3 * m .faces)) (drop-at p (m .corners ++ ys) (cornersFrom wd) n) ∙ take-at (m .corners) ys (3 * m .faces) e
 
     pub words-long : (ys : List ℕ) → length (m .corners) ≡ 3 * m .faces → cornersFrom wd + 3 * m .faces ≤ length (wordsOf m ss ys)
     unfolding wordsOf
-    words-long ys e = rw (length-append, flat-length wd (map (placeRow m) ss) (each3 m ss), length-map, hs, length-append) (omega arith)
+    words-long ys e = rw (length-append, flat-length wd (map (placeRow m) ss) (each-row m ss), length-map, hs, length-append) (omega arith)
 
     pub floats-long : (xs : List Float) → length (m .coords) ≡ 3 * m .verts → 1761 + 3 * m .verts ≤ length (laidOut m ss xs)
     unfolding laidOut
@@ -218,14 +231,14 @@ module _ (wd : ℕ) (fm : Width wd) where
         let b = set a i (set (getD a i []) 1 x) in
         let la : length a ≡ 32 = length-map ss (placeRow m) ∙ hs in
         let g : getD a i [] ≡ placeRow m (getD ss i empty) = map-getD (placeRow m) ss i empty [] (rw hs h) in
-        let lr : length (set (getD a i []) 1 x) ≡ wd = length-set (getD a i []) 1 x ∙ (ap length g ∙ len3 m (getD ss i empty)) in
+        let lr : length (set (getD a i []) 1 x) ≡ wd = length-set (getD a i []) 1 x ∙ (ap length g ∙ len-row m (getD ss i empty)) in
         let i1 : 3 + wd * i ≡ 2 + (wd * i + 1) = omega arith in
         let i2 : 4 + wd * i ≡ 2 + (wd * i + 2) = omega arith in
         rw (
           i1,
           i2,
-          one-word a (each3 m ss) la 1 x (omega (arith, three-in)),
-          one-word b (each-set wd a (each3 m ss) i (set (getD a i []) 1 x) lr) (length-set a i (set (getD a i []) 1 x) ∙ la) 2 y (omega (arith, three-in)),
+          one-word a (each-row m ss) la 1 x (omega (arith, four-in)),
+          one-word b (each-set wd a (each-row m ss) i (set (getD a i []) 1 x) lr) (length-set a i (set (getD a i []) 1 x) ∙ la) 2 y (omega (arith, four-in)),
           getD-set-same a i (set (getD a i []) 1 x) [] (rw la h),
           set-set,
           g,

@@ -1,6 +1,7 @@
 pub mod Sixteen
 pub mod Rows
 pub mod Held
+pub mod Layers
 pub mod Sane
 pub mod Step
 pub mod Sweep

@@ -2,15 +2,17 @@
 use mathlib.Core.Path.{_≡_, refl, sym, ap, _∙_}
 use mathlib.Core.List.{List, [], _∷_, _++_, map, append-assoc, append-nil}
 use mathlib.Core.Bool.{Bool, true, false, _&&_, cond, true≢false}
-use Prim.Native.Nat.{ℕ, zero, suc, _+_, _*_, _≤_, _<_}
+use Prim.Native.Nat.{ℕ, zero, suc, _+_, _*_, _^_, _≤_, _<_}
+use native.Mathlib.Decide.{decLt}
 use native.Mathlib.Omega.{arith}
 use lib.ListN.{length, take, getD, length-append}
 use lib.Seq.{take-suc, take-all}
-use lib.Dec.{ltb, eqb}
+use lib.Dec.{ltb, leb, eqb}
 use lib.Ieee.{Float, nan, lt, ofBits}
-use borrow.Author.Tests.{ltb-false, ne-eqb}
+use borrow.Author.Tests.{lt-ltb, le-ltb, le-leb, lt-leb, ltb-false, ne-eqb}
 use Rattle.base.specs.Floats.{+0, greater}
-use Rattle.base.specs.declared.refusal.Refusal.the-variants.{Unfinished}
+use Rattle.base.specs.declared.refusal.Refusal.the-variants.{Unfinished, NoLayer}
+use Rattle.base.specs.declared.refusal.Checked.the-variants.{Passed, Failed}
 use Rattle.volume.specs.Volume.{bodyVolume}
 use Rattle.kernel.specs.declared.kernel.Kernel.{Kernel}
 use Rattle.pieces.specs.declared.pieces.Pieces.{Pieces}
@@ -18,10 +20,11 @@ use Rattle.density.specs.declared.convention.Convention.{Convention}
 use Rattle.density.specs.declared.convention.Convention.the-variants.{Raw, Rho0, Mass}
 use Rattle.density.specs.Conventions.{bulkOf, targetOf, rho0Scale, massScale, appliedScale}
 use Rattle.layout.specs.Layout.{vertsOf, facesOf}
-use Rattle.layout.specs.Left.{held}
+use Rattle.layout.specs.Left.{held, leftOf}
+use Rattle.layout.specs.Layers.{layersCheck}
 use Rattle.base.specs.Answers.{outcome}
-use Rattle.readings.specs.Readings.{Reading, density, report, list, track, byMass, needsWork, Part, bare, densityAt, rawMass, origin, applied, rescaled, Seen, seeing, listing, tracking, answerOf, refusing, readingOf, heldFilled, heldWorst, heldSeen, readStep}
-use Rattle.machine.specs.Machine.{Mesh, Place, empty, full, leftSum}
+use Rattle.readings.specs.Readings.{Reading, density, report, list, track, byMass, needsWork, Part, bare, densityAt, rawMass, origin, applied, rescaled, Seen, seeing, listing, tracking, answerOf, refusing, readingOf, heldFilled, heldWorst, heldSeen, guardedRead, readStep}
+use Rattle.machine.specs.Machine.{Mesh, Place, empty, full, leftSum, seenPlaces}
 use Rattle.machine.specs.Holding.{triangles, placeRow, wordsOf}
 use Rattle.machine.specs.Fresh.{kernelOf, kernelsOf, worstFrom, workedAfresh}
 use Rattle.machine.specs.Calls.{byTarget, needs}
@@ -31,7 +34,8 @@ use Rattle.machine.proofs.Sixteen.{laidOut}
 use Rattle.machine.proofs.Held.{get7, status-held, coords-held, corners-held}
 use Rattle.machine.proofs.Sane.{no-fault}
 use Rattle.machine.proofs.Sweep.{left-held}
-use Rattle.machine.proofs.Read.{bare-all, whole-all}
+use Rattle.machine.proofs.Read.{There, bare-all, whole-all}
+use Rattle.machine.proofs.Layers.{seen-there, seen-valid, layers-held}
 use Rattle.machine.proofs.Parts.{freshSeen}
 use Rattle.machine.proofs.Afresh.{joined}
 use Rattle.machine.proofs.Listed.{worst-append}
@@ -85,12 +89,13 @@ kernels-snoc : (l : List Place) (s : Place) → kernelsOf (l ++ (s ∷ [])) ≡ 
 kernels-snoc [] s = append-nil (kernelOf s)
 kernels-snoc (x ∷ l) s = ap (λ (t : List Kernel). kernelOf x ++ t) (kernels-snoc l s) ∙ sym (append-assoc (kernelOf x) (kernelsOf l) (kernelOf s))
 
-module _ (wd : ℕ) (fm : Width wd) (m : Mesh) (ss : List Place) (v : Valid m ss) (xs : List Float) (ys : List ℕ) where
+-- ---- the floats hold all places ss, the words only the places ts that a reading sees
+module _ (wd : ℕ) (fm : Width wd) (m : Mesh) (ss ts : List Place) (hs : length ss ≡ 32) (v : Valid m ts) (there : There ts ss) (xs : List Float) (ys : List ℕ) where
   abbrev FS : List Float
   FS = laidOut m ss xs
 
   abbrev WS : List ℕ
-  WS = wordsOf m ss ys
+  WS = wordsOf m ts ys
 
   -- ---- count and greatest error
   not-empty : (fit : Pieces) → eqb (1 + fit .count) 0 ≡ false
@@ -98,43 +103,43 @@ module _ (wd : ℕ) (fm : Width wd) (m : Mesh) (ss : List Place) (v : Valid m ss
 
   filled-one : (s : Place) → cond (eqb (getD (placeRow m s) 0 0) 0) 0 1 ≡ length (kernelOf s)
   filled-one empty = refl
-  filled-one (full k fit p) = rw (not-empty fit) refl
+  filled-one (full k fit p l) = rw (not-empty fit) refl
 
-  worst-one : (i : ℕ) → i < 32 → (e : Float) (s : Place) → getD ss i empty ≡ s → Within m s → cond (eqb (getD (placeRow m s) 0 0) 0) e (greater e (getD FS (7 + 7 * i) nan)) ≡ worstFrom (m .radius) e (kernelOf s)
+  worst-one : (i : ℕ) → i < 32 → (e : Float) (s : Place) → getD ts i empty ≡ s → Within m s → cond (eqb (getD (placeRow m s) 0 0) 0) e (greater e (getD FS (7 + 7 * i) nan)) ≡ worstFrom (m .radius) e (kernelOf s)
   worst-one i h e empty q w = refl
-  worst-one i h e (full k fit p) q w =
+  worst-one i h e (full k fit p l) q w =
       let a : 7 + 7 * i ≡ 1 + (7 * i + 6) = omega arith in
-      rw (not-empty fit, a, get7 wd fm m ss (v .places) xs i h 6 (omega arith), q) (ap (λ (f : Pieces). greater e (f .error)) (w .fitted))
+      rw (not-empty fit, a, get7 wd fm m ss hs xs i h 6 (omega arith), there i k fit p l q) (ap (λ (f : Pieces). greater e (f .error)) (w .fitted))
 
-  filled-to : (n : ℕ) → n ≤ 32 → heldFilled wd WS n ≡ length (kernelsOf (take n ss))
+  filled-to : (n : ℕ) → n ≤ 32 → heldFilled wd WS n ≡ length (kernelsOf (take n ts))
   unfolding heldFilled
   filled-to zero h = refl
   filled-to (suc n) h =
       rw (
-        status-held wd fm m ss (v .places) ys n h,
-        filled-one (getD ss n empty),
+        status-held wd fm m ts (v .places) ys n h,
+        filled-one (getD ts n empty),
         filled-to n (omega arith),
-        take-suc ss n empty (rw (v .places) h),
-        kernels-snoc (take n ss) (getD ss n empty),
-        length-append (kernelsOf (take n ss)) (kernelOf (getD ss n empty)),
+        take-suc ts n empty (rw (v .places) h),
+        kernels-snoc (take n ts) (getD ts n empty),
+        length-append (kernelsOf (take n ts)) (kernelOf (getD ts n empty)),
       ) refl
 
-  worst-to : (n : ℕ) → n ≤ 32 → heldWorst wd FS WS n ≡ worstFrom (m .radius) +0 (kernelsOf (take n ss))
+  worst-to : (n : ℕ) → n ≤ 32 → heldWorst wd FS WS n ≡ worstFrom (m .radius) +0 (kernelsOf (take n ts))
   unfolding heldWorst
   worst-to zero h = refl
   worst-to (suc n) h =
-      let ks = kernelsOf (take n ss) in
+      let ks = kernelsOf (take n ts) in
       rw (
-        status-held wd fm m ss (v .places) ys n h,
+        status-held wd fm m ts (v .places) ys n h,
         worst-to n (omega arith),
-        worst-one n h (worstFrom (m .radius) +0 ks) (getD ss n empty) refl (v .within n),
-        take-suc ss n empty (rw (v .places) h),
-        kernels-snoc (take n ss) (getD ss n empty),
-        worst-append (m .radius) +0 ks (kernelOf (getD ss n empty)),
+        worst-one n h (worstFrom (m .radius) +0 ks) (getD ts n empty) refl (v .within n),
+        take-suc ts n empty (rw (v .places) h),
+        kernels-snoc (take n ts) (getD ts n empty),
+        worst-append (m .radius) +0 ks (kernelOf (getD ts n empty)),
       ) refl
 
-  all : take 32 ss ≡ ss
-  all = take-all 32 ss (rw (v .places) (omega arith))
+  all : take 32 ts ≡ ts
+  all = take-all 32 ts (rw (v .places) (omega arith))
 
   faces-held : facesOf WS ≡ m .faces
   unfolding wordsOf
@@ -145,31 +150,52 @@ module _ (wd : ℕ) (fm : Width wd) (m : Mesh) (ss : List Place) (v : Valid m ss
   verts-held = refl
 
   body-held : bodyVolume (held wd FS WS (vertsOf WS) (facesOf WS)) (facesOf WS) ≡ bodyVolume (triangles m) (m .faces)
-  body-held = rw (verts-held, faces-held, coords-held wd fm m ss (v .places) xs (v .mesh .coords), corners-held wd fm m ss (v .places) ys (v .mesh .corners)) refl
+  body-held = rw (verts-held, faces-held, coords-held wd fm m ss hs xs (v .mesh .coords), corners-held wd fm m ts (v .places) ys (v .mesh .corners)) refl
 
   -- with nothing left a reading sees what is worked afresh
-  whole-seen : leftSum m ss ≡ 0 → heldSeen wd FS WS ≡ freshSeen m ss
+  whole-seen : leftSum m ts ≡ 0 → heldSeen wd FS WS ≡ freshSeen m ts
   unfolding heldSeen freshSeen
   whole-seen z =
-      same-seen (whole-all wd fm m ss v xs ys z) body-held
+      same-seen (whole-all wd fm m ss ts hs v there xs ys z) body-held
       (filled-to 32 (omega arith) ∙ ap (λ (l : List Place). length (kernelsOf l)) all)
       (worst-to 32 (omega arith) ∙ ap (λ (l : List Place). worstFrom (m .radius) +0 (kernelsOf l)) all)
 
-  bare-seen : map bare (heldSeen wd FS WS .parts) ≡ map bare (freshSeen m ss .parts)
+  bare-seen : map bare (heldSeen wd FS WS .parts) ≡ map bare (freshSeen m ts .parts)
   unfolding heldSeen freshSeen
-  bare-seen = bare-all wd fm m ss v xs ys
+  bare-seen = bare-all wd fm m ss ts hs v there xs ys
 
-  read-parts : (r : Reading) → readStep wd FS WS r ≡ readingOf r (leftSum m ss) (freshSeen m ss)
-  unfolding readStep
-  read-parts r = rw (no-fault wd fm m ss v xs ys, faces-held, left-held wd fm m ss v ys) (go (needsWork r) refl (ltb 0 (leftSum m ss)) refl)
+  read-parts : (r : Reading)
+      → readingOf r (leftOf wd WS (facesOf WS) 32) (heldSeen wd FS WS) ≡ readingOf r (leftSum m ts) (freshSeen m ts)
+  read-parts r = rw (faces-held, left-held wd fm m ts v ys) (go (needsWork r) refl (ltb 0 (leftSum m ts)) refl)
     where
-      go : (b : Bool) → needsWork r ≡ b → (c : Bool) → ltb 0 (leftSum m ss) ≡ c → cond (b && c) (refusing r Unfinished) (answerOf r (heldSeen wd FS WS)) ≡ cond (b && c) (refusing r Unfinished) (answerOf r (freshSeen m ss))
-      go false n c e = blind r n (heldSeen wd FS WS) (freshSeen m ss) bare-seen
+      go : (b : Bool) → needsWork r ≡ b → (c : Bool) → ltb 0 (leftSum m ts) ≡ c → cond (b && c) (refusing r Unfinished) (answerOf r (heldSeen wd FS WS)) ≡ cond (b && c) (refusing r Unfinished) (answerOf r (freshSeen m ts))
+      go false n c e = blind r n (heldSeen wd FS WS) (freshSeen m ts) bare-seen
       go true n true e = refl
-      go true n false e = ap (answerOf r) (whole-seen (let z = ltb-false 0 (leftSum m ss) e in omega arith))
+      go true n false e = ap (answerOf r) (whole-seen (let z = ltb-false 0 (leftSum m ts) e in omega arith))
 
-  pub read-held : (r : Reading) → readStep wd FS WS r ≡ cond (needs r && ltb 0 (leftSum m ss)) (refusing r Unfinished) (workedAfresh m ss r)
-  read-held r =
+  pub seen-held : (r : Reading)
+      → readingOf r (leftOf wd WS (facesOf WS) 32) (heldSeen wd FS WS) ≡ cond (needs r && ltb 0 (leftSum m ts)) (refusing r Unfinished) (workedAfresh m ts r)
+  seen-held r =
       read-parts r
-      ∙ (ap (cond (needsWork r && ltb 0 (leftSum m ss)) (refusing r Unfinished)) (joined m (v .mesh) ss r)
-      ∙ ap (λ (b : Bool). cond (b && ltb 0 (leftSum m ss)) (refusing r Unfinished) (workedAfresh m ss r)) (same-needs r))
+      ∙ (ap (cond (needsWork r && ltb 0 (leftSum m ts)) (refusing r Unfinished)) (joined m (v .mesh) ts r)
+      ∙ ap (λ (b : Bool). cond (b && ltb 0 (leftSum m ts)) (refusing r Unfinished) (workedAfresh m ts r)) (same-needs r))
+
+-- ---- a reading of a set of layers
+module _ (wd : ℕ) (fm : Width wd) (m : Mesh) (ss : List Place) (v : Valid m ss) (xs : List Float) (ys : List ℕ) (layers : ℕ) where
+  abbrev seen : List Place
+  seen = seenPlaces layers ss
+
+  pub read-held : (r : Reading) → readStep wd (laidOut m ss xs) (wordsOf m ss ys) layers r
+      ≡ cond (leb (2 ^ 16) layers) (refusing r NoLayer) (cond (needs r && ltb 0 (leftSum m seen)) (refusing r Unfinished) (workedAfresh m seen r))
+  unfolding readStep layersCheck
+  read-held r = rw (no-fault wd fm m ss v xs ys, layers-held layers wd fm m ss (v .places) ys) (go (decLt layers 65536))
+    where
+      held : readingOf r (leftOf wd (wordsOf m seen ys) (facesOf (wordsOf m seen ys)) 32) (heldSeen wd (laidOut m ss xs) (wordsOf m seen ys))
+          ≡ cond (needs r && ltb 0 (leftSum m seen)) (refusing r Unfinished) (workedAfresh m seen r)
+      held = seen-held wd fm m ss seen (v .places) (seen-valid layers m ss v) (seen-there layers ss) xs ys r
+
+      go : Dec (layers < 65536)
+          → guardedRead (cond (ltb layers 65536) Passed (Failed NoLayer)) r (readingOf r (leftOf wd (wordsOf m seen ys) (facesOf (wordsOf m seen ys)) 32) (heldSeen wd (laidOut m ss xs) (wordsOf m seen ys)))
+          ≡ cond (leb (2 ^ 16) layers) (refusing r NoLayer) (cond (needs r && ltb 0 (leftSum m seen)) (refusing r Unfinished) (workedAfresh m seen r))
+      go (yes h) = rw (lt-ltb layers 65536 h, lt-leb 65536 layers h) held
+      go (no h) = rw (le-ltb layers 65536 (omega arith), le-leb 65536 layers (omega arith)) refl

@@ -17,7 +17,8 @@ use Rattle.store.specs.OpenLaws.{open-passes}
 use Rattle.machine.specs.Machine.{Mesh, Place, empty, meshOf}
 use Rattle.machine.specs.Holding.{flat, placeRow, floats7, floats48, floatsOf, wordsOf, excessF, excessW}
 use Rattle.machine.specs.Valid.{Within, Valid}
-use Rattle.machine.proofs.Rows.{Width, width3}
+use Rattle.machine.proofs.Rows.{Width}
+use Rattle.machine.proofs.Held.{zeros-row}
 
 -- ---- zeros
 flat-same : {A : Type 0} (g : Place → List A) (k : ℕ) (z : A) → g empty ≡ replicate k z → (n : ℕ) → flat (map g (replicate n empty)) ≡ replicate (k * n) z
@@ -55,12 +56,6 @@ module _ (wd : ℕ) (fm : Width wd) (r : Float) (xs : List Float) (ks : List ℕ
       ∙ (ap (λ (l : List Float). r ∷ (l ++ (replicate (48 * 32) +0 ++ (xs ++ excessF xs fs)))) (sym (flat-same floats7 7 +0 refl 32))
       ∙ ap (λ (l : List Float). r ∷ (flat (map floats7 (replicate 32 empty)) ++ (l ++ (xs ++ excessF xs fs)))) (sym (flat-same (floats48 M) 48 +0 refl 32))))
 
-  zeros-row : placeRow M empty ≡ replicate wd 0
-  zeros-row = go fm
-    where
-      go : {w : ℕ} → Width w → placeRow M empty ≡ replicate w 0
-      go width3 = refl
-
   words-opened : (ws : List ℕ) → write ws 0 (openWords wd (length xs / 3) (length ks / 3) ks) ≡ wordsOf M (replicate 32 empty) (excessW wd ks ws)
   unfolding wordsOf
   words-opened ws =
@@ -68,7 +63,7 @@ module _ (wd : ℕ) (fm : Width wd) (r : Float) (xs : List Float) (ks : List ℕ
       let n : length (openWords wd (length xs / 3) (length ks / 3) ks) ≡ cornersFrom wd + length ks = rw (length-append z ks, length-replicate {A = ℕ} (wd * 32) 0) (omega arith) in
       write-front ws (openWords wd (length xs / 3) (length ks / 3) ks) (cornersFrom wd + length ks) n
       ∙ (ap (λ (l : List ℕ). length xs / 3 ∷ length ks / 3 ∷ l) (append-assoc z ks (excessW wd ks ws))
-      ∙ ap (λ (l : List ℕ). length xs / 3 ∷ length ks / 3 ∷ (l ++ (ks ++ excessW wd ks ws))) (sym (flat-same (placeRow M) wd 0 zeros-row 32)))
+      ∙ ap (λ (l : List ℕ). length xs / 3 ∷ length ks / 3 ∷ (l ++ (ks ++ excessW wd ks ws))) (sym (flat-same (placeRow M) wd 0 (sym (zeros-row wd fm M)) 32)))
 
   pub opens : (fs : List Float) (ws : List ℕ) → openCheck wd (length xs) ks (length fs) (length ws) ≡ Passed
       → openStep wd fs ws r xs ks ≡ after (counted (length xs / 3 ∷ length ks / 3 ∷ [])) (floatsOf M (replicate 32 empty) (excessF xs fs)) (wordsOf M (replicate 32 empty) (excessW wd ks ws))

@@ -15,8 +15,7 @@ use Rattle.base.specs.declared.refusal.Checked.the-variants.{Passed, Failed}
 use Rattle.pieces.specs.declared.pieces.Pieces.{Pieces}
 use Rattle.layout.specs.Layout.{facesOf}
 use Rattle.readings.specs.Readings.{rawMass, heldAt}
-use Rattle.readings.specs.Checks.{readCheck}
-use Rattle.page.specs.Page.{Row, row, paged, pageAnswer, rowAt, heldRows, guardedPage, pageStep}
+use Rattle.page.specs.Page.{Row, row, paged, pageAnswer, rowAt, heldRows, guardedPage, doneCheck, pageStep}
 use Rattle.machine.specs.Machine.{Mesh, Place, empty, full, leftSum}
 use Rattle.machine.specs.Holding.{placeRow, wordsOf}
 use Rattle.machine.specs.Fresh.{massOf, piecesOf, freshRow, freshRows, pageAfresh}
@@ -47,10 +46,10 @@ module _ (wd : ℕ) (fm : Width wd) (m : Mesh) (ss : List Place) (v : Valid m ss
   module _ (none : leftSum m ss ≡ 0) where
     row-held : (i : ℕ) → i < 32 → (s : Place) → getD ss i empty ≡ s → Within m s → rowAt FS i (getD (placeRow m s) 0 0) ≡ freshRow m i s
     row-held i h empty e w = refl
-    row-held i h (full k fit p) e w =
+    row-held i h (full k fit p l) e w =
         let n : eqb (1 + fit .count) 0 ≡ false = ne-eqb (1 + fit .count) 0 (λ z. omega arith) in
         let c : 1 + fit .count - 1 ≡ fit .count = omega arith in
-        let a = ap rawMass (whole-place wd fm m ss v xs ys none i h (full k fit p) e w) ∙ place-mass m (v .mesh) k fit p in
+        let a = ap rawMass (whole-place wd fm m ss ss (v .places) v (λ j k fit p l e. e) xs ys none i h (full k fit p l) e w) ∙ place-mass m (v .mesh) k fit p l in
         rw (n, a, c) (ap (λ (f : Pieces). row i (f .count) (massOf m (piecesOf (m .radius) k)) ∷ []) (w .fitted))
 
     rows-to : (n : ℕ) → n ≤ 32 → heldRows wd FS WS n ≡ freshRows m 0 (take n ss)
@@ -75,7 +74,7 @@ module _ (wd : ℕ) (fm : Width wd) (m : Mesh) (ss : List Place) (v : Valid m ss
   faces-held = refl
 
   pub page-held : (bs : List ℕ) → pageStep wd FS WS bs ≡ cond (ltb 0 (leftSum m ss)) (paged (refused Unfinished) bs) (pageAfresh m ss bs)
-  unfolding pageStep readCheck pageAfresh
+  unfolding pageStep doneCheck pageAfresh
   page-held bs = rw (no-fault wd fm m ss v xs ys, faces-held, left-held wd fm m ss v ys) (go (ltb 0 (leftSum m ss)) refl)
     where
       go : (b : Bool) → ltb 0 (leftSum m ss) ≡ b → guardedPage (cond b (Failed Unfinished) Passed) bs (pageAnswer (heldRows wd FS WS 32) bs) ≡ cond b (paged (refused Unfinished) bs) (pageAnswer (freshRows m 0 ss) bs)

@@ -35,7 +35,7 @@ freshAt m k fit (suc n) = freshAt m k fit n ++ (freshPart m k fit n ∷ [])
 -- a place, "decomposed"
 abbrev pub freshPlace : Mesh → Place → List Part
 freshPlace m empty = []
-freshPlace m (full k fit p) = freshAt m k (decomposed k (m .radius)) (decomposed k (m .radius) .count)
+freshPlace m (full k fit p l) = freshAt m k (decomposed k (m .radius)) (decomposed k (m .radius) .count)
 
 abbrev pub freshAll : Mesh → List Place → List Part
 freshAll m [] = []

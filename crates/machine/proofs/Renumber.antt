@@ -25,7 +25,7 @@ use Rattle.machine.specs.Calls.{Call, put, clear, reweigh, advance, sque
 use Rattle.machine.specs.Demands.{leaving}
 use Rattle.machine.specs.Renumbering.{Renumbered, answers, Renumbering}
 use Rattle.machine.specs.Valid.{Valid}
-use Rattle.machine.proofs.Rows.{width3, map-getD}
+use Rattle.machine.proofs.Rows.{width4, map-getD}
 use Rattle.machine.proofs.Slim.{thinned, slim-is, freed-is}
 use Rattle.machine.proofs.Squeezing.{remesh}
 use Rattle.machine.proofs.Claim.{one-call, kept}
@@ -179,8 +179,8 @@ squeezes m b = rw (slim-is (m .mesh) b) refl
 same-told : (cs : List Call) (m : Machine) (xs : List Float) (ks : List ℕ) (w g : ℕ) → Paired (m .mesh) xs ks w
     → toldBy (remade m xs ks w g) cs ≡ toldBy m cs
 same-told [] m xs ks w g a = refl
-same-told (put i k ∷ cs) m xs ks w g a =
-    one-told m (put i k) cs xs ks w g (put-goes m xs ks w g i k) a (same-told cs (machine m (put i k) .next) xs ks w g)
+same-told (put i k l ∷ cs) m xs ks w g a =
+    one-told m (put i k l) cs xs ks w g (put-goes m xs ks w g i k l) a (same-told cs (machine m (put i k l) .next) xs ks w g)
 same-told (clear i ∷ cs) m xs ks w g a =
     one-told m (clear i) cs xs ks w g (clear-goes m xs ks w g i) a (same-told cs (machine m (clear i) .next) xs ks w g)
 same-told (reweigh i x ∷ cs) m xs ks w g a =
@@ -199,9 +199,9 @@ same-told (squeeze ∷ cs) m xs ks w g a =
     )
     (ap (λ (os : List Heard). told (turn m (counted (f ∷ []))) ∷ os)
     (same-told cs (thinner m) (keptTo ks xs w) (renumbered ks) (rank ks w) (f + g) b))
-same-told (read r ∷ cs) m xs ks w g a =
-    one-told m (read r) cs xs ks w g (read-goes m xs ks w g (a .alike) r) a
-    (same-told cs (machine m (read r) .next) xs ks w g)
+same-told (read ls r ∷ cs) m xs ks w g a =
+    one-told m (read ls r) cs xs ks w g (read-goes m xs ks w g (a .alike) ls r) a
+    (same-told cs (machine m (read ls r) .next) xs ks w g)
 same-told (page bs ∷ cs) m xs ks w g a =
     one-told m (page bs) cs xs ks w g (page-goes m xs ks w g (a .alike) bs) a
     (same-told cs (machine m (page bs) .next) xs ks w g)
@@ -229,22 +229,22 @@ store-told : (exF : List Float) (exW : List ℕ) (cs : List Call) (m : Machine) 
     → answers width (holding m exF exW) cs ≡ toldBy m cs
 store-told exF exW [] m v = refl
 store-told exF exW (c ∷ cs) m v =
-    rw (one-call width width3 m v exF exW c)
+    rw (one-call width width4 m v exF exW c)
     (ap (λ (os : List Heard). told (machine m c) ∷ os)
     (store-told exF exW cs (machine m c .next) (kept m v c .valid)))
 
 module _ (r : Float) (xs : List Float) (ks : List ℕ) (fs : List Float) (ws : List ℕ)
     (h : openRow width xs ks (length fs) (length ws) ≡ 0) where
   valid : Valid (opened r xs ks .mesh) (opened r xs ks .places)
-  valid = opened-valid width width3 r xs ks (length fs) (length ws) (passed width width3 r xs ks fs ws h)
+  valid = opened-valid width width4 r xs ks (length fs) (length ws) (passed width width4 r xs ks fs ws h)
 
   opened-reply : openStep width fs ws r xs ks .reply ≡ counted (length xs / 3 ∷ length ks / 3 ∷ [])
-  opened-reply = ap (λ (a : After). a .reply) (opens width width3 r xs ks fs ws (passed width width3 r xs ks fs ws h))
+  opened-reply = ap (λ (a : After). a .reply) (opens width width4 r xs ks fs ws (passed width width4 r xs ks fs ws h))
 
   opened-told : (cs : List Call)
       → answers width (leaving (openStep width fs ws r xs ks)) cs ≡ toldBy (opened r xs ks) cs
   opened-told cs =
-      ap (λ (s : Store). answers width s cs) (holds width width3 r xs ks fs ws h)
+      ap (λ (s : Store). answers width s cs) (holds width width4 r xs ks fs ws h)
       ∙ store-told (excessF xs fs) (excessW width ks ws) cs (opened r xs ks) valid
 
 pub renumbering : Renumbering

@@ -9,9 +9,9 @@ use lib.Seq.{getD-append-add, set-append-left, take-append-add, drop-append-add,
 use Rattle.layout.specs.Runs.{write}
 use Rattle.machine.specs.Holding.{flat}
 
--- the words to a place for which the proofs stand: three, as `placeRow` has them
+-- the words to a place for which the proofs stand: four, as `placeRow` has them
 pub data Width : ℕ → Type 0 where
-  width3 : Width 3
+  width4 : Width 4
 
 module _ {A : Type 0} where
   pub set-append-add : (xs ys : List A) (n : ℕ) (v : A) → set (xs ++ ys) (length xs + n) v ≡ xs ++ set ys n v

@@ -12,13 +12,13 @@ use borrow.Author.Tests.{lt-ltb, le-leb, eq-eqb, ne-eqb, eqb-true, eqb-false}
 use Rattle.base.specs.declared.refusal.Checked.the-variants.{Passed}
 use Rattle.mesh.specs.Checks.{vertexLimit, faceLimit}
 use Rattle.layout.specs.Layout.{coordsFrom, cornersFrom, facesOf}
-use Rattle.layout.specs.Soundness.{every, longEnough, placeSound, placeSoundAt, sound, storeCheck}
+use Rattle.layout.specs.Soundness.{every, longEnough, placeSound, layerSound, placeSoundAt, sound, storeCheck}
 use Rattle.machine.specs.Machine.{Mesh, Place, empty, full}
 use Rattle.machine.specs.Holding.{placeRow, wordsOf}
 use Rattle.machine.specs.Valid.{Within, Valid}
 use Rattle.machine.proofs.Rows.{Width}
 use Rattle.machine.proofs.Sixteen.{laidOut}
-use Rattle.machine.proofs.Held.{status-held, finished-held, done-held, words-long, floats-long, corners-held}
+use Rattle.machine.proofs.Held.{status-held, finished-held, done-held, layer-held, words-long, floats-long, corners-held}
 
 -- the words of n pieces, f faces and p steps are sound
 steps-sound : (n f p : ℕ) → n ≤ 16 → p ≤ n * f → placeSound (1 + n) (cond (eqb f 0) n (p / f)) (p % f) f ≡ true
@@ -54,7 +54,12 @@ steps-sound n f p hn hp = go (eqb f 0) refl
 place-sound : (m : Mesh) (s : Place) → Within m s → placeSound (getD (placeRow m s) 0 0) (getD (placeRow m s) 1 0) (getD (placeRow m s) 2 0) (m .faces) ≡ true
 unfolding placeSound
 place-sound m empty h = refl
-place-sound m (full k fit p) h = steps-sound (fit .count) (m .faces) p (h .few) (h .steps)
+place-sound m (full k fit p l) h = steps-sound (fit .count) (m .faces) p (h .few) (h .steps)
+
+layer-sound : (m : Mesh) (s : Place) → Within m s → layerSound (getD (placeRow m s) 0 0) (getD (placeRow m s) 3 0) ≡ true
+unfolding layerSound
+layer-sound m empty h = refl
+layer-sound m (full k fit p l) h = rw (ne-eqb (1 + fit .count) 0 (λ e. omega arith), lt-ltb l 16 (h .layer)) refl
 
 module _ (wd : ℕ) (fm : Width wd) (m : Mesh) (ss : List Place) (v : Valid m ss) (xs : List Float) (ys : List ℕ) where
   faces-held : facesOf (wordsOf m ss ys) ≡ m .faces
@@ -65,8 +70,16 @@ module _ (wd : ℕ) (fm : Width wd) (m : Mesh) (ss : List Place) (v : Valid m ss
   unfolding every placeSoundAt
   places-sound zero h = refl
   places-sound (suc n) h =
-      rw (places-sound n (omega arith), status-held wd fm m ss (v .places) ys n h, finished-held wd fm m ss (v .places) ys n h, done-held wd fm m ss (v .places) ys n h, faces-held)
-      (place-sound m (getD ss n empty) (v .within n))
+      rw (
+        places-sound n (omega arith),
+        status-held wd fm m ss (v .places) ys n h,
+        finished-held wd fm m ss (v .places) ys n h,
+        done-held wd fm m ss (v .places) ys n h,
+        layer-held wd fm m ss (v .places) ys n h,
+        faces-held,
+        place-sound m (getD ss n empty) (v .within n),
+        layer-sound m (getD ss n empty) (v .within n),
+      ) refl
 
   pub no-fault : storeCheck wd (laidOut m ss xs) (wordsOf m ss ys) ≡ Passed
   unfolding storeCheck longEnough sound wordsOf

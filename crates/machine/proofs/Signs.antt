@@ -3,9 +3,9 @@
 use mathlib.Core.Path.{_≡_, refl, sym, ap, subst, _∙_}
 use mathlib.Core.Bool.{Bool, true, false, _&&_, cond}
 use mathlib.Core.List.{List, [], _∷_, _++_, map, map-append}
-use Prim.Native.Nat.{ℕ, zero, suc, _+_, _*_, _-_, _/_, _<_, min}
+use Prim.Native.Nat.{ℕ, zero, suc, _+_, _*_, _-_, _/_, _^_, _<_, min}
 use native.Mathlib.Omega.{arith}
-use lib.Dec.{ltb, eqb}
+use lib.Dec.{ltb, leb, eqb}
 use lib.ListN.{length, getD, drop, length-map, List·getD-map}
 use lib.Ieee.{Float, nan, inf, fin, neg, ofBits, ne}
 use Rattle.base.specs.Floats.{_⊕_, _⊗_, +0, abs, greater}
@@ -13,7 +13,7 @@ use Rattle.base.specs.SignLaws.{abs-neg}
 use Rattle.base.specs.Loops.{iterate}
 use Rattle.base.specs.LoopLaws.{times-same}
 use Rattle.base.specs.Answers.{Answer, accepted, refused, counted, Outcome, outcome, guardedRun, roomCheck}
-use Rattle.base.specs.declared.refusal.Refusal.the-variants.{NoPlace, Unfinished}
+use Rattle.base.specs.declared.refusal.Refusal.the-variants.{NoPlace, NoLayer, Unfinished}
 use Rattle.base.specs.declared.refusal.Checked.{Checked}
 use Rattle.base.specs.declared.refusal.Checked.the-variants.{Passed, Failed}
 use Rattle.layout.specs.Runs.{write}
@@ -42,13 +42,13 @@ use Rattle.readings.specs.AlongLaws.{stretch-same}
 use Rattle.readings.specs.Readings.{Reading, density, report, list, track, noKernel, origin, rescaled, six, sixes, trackCheck, refusing}
 use Rattle.readings.specs.SixLaws.{whole, sixes-length, at-whole, list-sound, count-of}
 use Rattle.page.specs.Page.{Row, row, pageAnswer}
-use Rattle.machine.specs.Machine.{Mesh, Place, empty, full, leftPlace, leftSum, adv, bump, Machine, Turn, turn, stepsOf, putTurn, clearTurn, weighed, reweighTurn, opened}
+use Rattle.machine.specs.Machine.{Mesh, Place, empty, full, among, seenPlace, seenPlaces, leftPlace, leftSum, adv, bump, Machine, Turn, turn, stepsOf, putTurn, clearTurn, weighed, reweighTurn, opened}
 use Rattle.machine.specs.Holding.{triangles, cells, excessF, excessW}
 use Rattle.machine.specs.Valid.{Valid}
 use Rattle.machine.specs.Fresh.{kernelsOf, piecesOf, allPieces, worstFrom, valueOf, massOf, originOf, scaledList, readingOn, workedAfresh, freshRow, freshRows, pageAfresh}
 use Rattle.machine.specs.Calls.{Call, put, clear, reweigh, advance, squeeze, read, page, needs, machine, Store, after-all, holding, past, Heard}
-use Rattle.machine.specs.Signs.{unsigned, unsignedCall, unsignedRun, unsignedHeard, said, SameSaid, SignsUnseen}
-use Rattle.machine.proofs.Rows.{width3, map-set, map-getD}
+use Rattle.machine.specs.Signs.{unsigned, unsignedCall, unsignedRun, unsignedRead, unsignedHeard, said, SameSaid, SignsUnseen}
+use Rattle.machine.proofs.Rows.{width4, map-set, map-getD}
 use Rattle.machine.proofs.Sixteen.{sixteen, laid-out}
 use Rattle.machine.proofs.Held.{get48}
 use Rattle.machine.proofs.Claim.{one-call, kept}
@@ -136,7 +136,7 @@ written-same ks out =
 
 -- a reading's answer and run
 abbrev readSaid : Reading → Outcome → Heard
-readSaid r o = unsignedHeard (read r) (record { reply = o .reply; out = o .out; page = [] })
+readSaid r o = unsignedRead r (record { reply = o .reply; out = o .out; page = [] })
 
 listed : (v : Convention) (out a b : List Float) (n : ℕ) → unsignedRun n a ≡ unsignedRun n b → (c : Checked)
     → readSaid (list v out) (guardedRun c out (outcome (counted (n ∷ [])) a))
@@ -233,7 +233,7 @@ worst-same r e (k ∷ ks) =
 
 abbrev unsignedPlace : Place → Place
 unsignedPlace empty = empty
-unsignedPlace (full k fit p) = full (unsigned k) (unsignedFit k fit) p
+unsignedPlace (full k fit p l) = full (unsigned k) (unsignedFit k fit) p l
 
 place-at : (ss : List Place) (i : ℕ) → getD (map unsignedPlace ss) i empty ≡ unsignedPlace (getD ss i empty)
 place-at ss i = List·getD-map unsignedPlace ss i empty
@@ -241,7 +241,21 @@ place-at ss i = List·getD-map unsignedPlace ss i empty
 kernels-same : (ss : List Place) → kernelsOf (map unsignedPlace ss) ≡ map unsigned (kernelsOf ss)
 kernels-same [] = refl
 kernels-same (empty ∷ ss) = kernels-same ss
-kernels-same (full k fit p ∷ ss) = ap (λ (l : List Kernel). unsigned k ∷ l) (kernels-same ss)
+kernels-same (full k fit p l ∷ ss) = ap (λ (l : List Kernel). unsigned k ∷ l) (kernels-same ss)
+
+-- the places that a reading sees
+seen-one : (layers : ℕ) (s : Place) → seenPlace layers (unsignedPlace s) ≡ unsignedPlace (seenPlace layers s)
+seen-one layers empty = refl
+seen-one layers (full k fit p l) = go (among l layers)
+  where
+    go : (b : Bool) → cond b (unsignedPlace (full k fit p l)) empty ≡ unsignedPlace (cond b (full k fit p l) empty)
+    go true = refl
+    go false = refl
+
+seen-same : (layers : ℕ) (ss : List Place)
+    → seenPlaces layers (map unsignedPlace ss) ≡ map unsignedPlace (seenPlaces layers ss)
+seen-same layers [] = refl
+seen-same layers (s ∷ ss) = rw (seen-one layers s, seen-same layers ss) refl
 
 module _ (m : Mesh) where
   afresh-same : (ss : List Place) (r : Reading)
@@ -263,7 +277,7 @@ module _ (m : Mesh) where
 
   row-same : (i : ℕ) (s : Place) → freshRow m i (unsignedPlace s) ≡ freshRow m i s
   row-same i empty = refl
-  row-same i (full k fit p) =
+  row-same i (full k fit p l) =
       ap (λ (f : Pieces). row i (f .count) (massOf m (piecesOf (m .radius) (unsigned k))) ∷ []) (fit-even k (m .radius))
       ∙ ap (λ (x : Float). row i (decomposed k (m .radius) .count) x ∷ []) (mass-alike k)
 
@@ -277,7 +291,7 @@ module _ (m : Mesh) where
 
   left-same : (s : Place) → leftPlace m (unsignedPlace s) ≡ leftPlace m s
   left-same empty = refl
-  left-same (full k fit p) = refl
+  left-same (full k fit p l) = refl
 
   left-sum-same : (ss : List Place) → leftSum m (map unsignedPlace ss) ≡ leftSum m ss
   left-sum-same [] = refl
@@ -285,7 +299,7 @@ module _ (m : Mesh) where
 
   adv-same : (u : ℕ) (s : Place) → adv u (unsignedPlace s) ≡ unsignedPlace (adv u s)
   adv-same u empty = refl
-  adv-same u (full k fit p) = refl
+  adv-same u (full k fit p l) = refl
 
   bump-same : (ss : List Place) → bump m (map unsignedPlace ss) ≡ map unsignedPlace (bump m ss)
   bump-same [] = refl
@@ -330,7 +344,7 @@ module _ (m : Mesh) (k : Kernel) (fit : Pieces) where
 held-same : (m : Mesh) (s : Place) (j : ℕ)
     → getD (sixteen m (unsignedPlace s)) (3 * j + 2) nan ≡ getD (sixteen m s) (3 * j + 2) nan
 held-same m empty j = refl
-held-same m (full k fit p) j = cells-same m k fit 16 0 j p
+held-same m (full k fit p l) j = cells-same m k fit 16 0 j p
 
 -- ---- one call
 abbrev unsignedMachine : Machine → Machine
@@ -368,24 +382,26 @@ refused-same r false x y z h = h
 
 unseen : (m : Machine) (c : Call) → Unseen m c
 unfolding machine
-unseen m (put i k) = by-turn m (put i k) (λ o. refl) (lift (ltb i placeLimit))
+unseen m (put i k l) = by-turn m (put i k l) (λ o. refl) (lift (ltb i placeLimit) (leb l 15))
   where
     r : Float
     r = m .mesh .radius
 
-    lift : (b : Bool)
-        → cond b (putTurn (unsignedMachine m) i (unsigned k) (decomposed (unsigned k) r) (fitOf (unsigned k) r))
-        (turn (unsignedMachine m) (refused NoPlace))
-        ≡ unsignedTurn (cond b (putTurn m i k (decomposed k r) (fitOf k r)) (turn m (refused NoPlace)))
-    lift true =
+    made : Machine → Kernel → Bool → Bool → Turn
+    made n j a b =
+        cond a (cond b (putTurn n i j (decomposed j r) (fitOf j r) l) (turn n (refused NoLayer))) (turn n (refused NoPlace))
+
+    lift : (a b : Bool) → made (unsignedMachine m) (unsigned k) a b ≡ unsignedTurn (made m k a b)
+    lift true true =
         rw (
           fit-even k r,
           end-even k r,
           place-at (m .places) i,
           left-same (m .mesh) (getD (m .places) i empty),
-          map-set unsignedPlace (m .places) i (full k (decomposed k r) 0),
+          map-set unsignedPlace (m .places) i (full k (decomposed k r) 0 l),
         ) refl
-    lift false = refl
+    lift true false = refl
+    lift false b = refl
 unseen m (clear i) =
     by-turn m (clear i) (λ o. refl) (rw (place-at (m .places) i) (lift (ltb i placeLimit) (getD (m .places) i empty)))
   where
@@ -393,7 +409,7 @@ unseen m (clear i) =
         → cond b (clearTurn (unsignedMachine m) i (unsignedPlace s)) (turn (unsignedMachine m) (refused NoPlace))
         ≡ unsignedTurn (cond b (clearTurn m i s) (turn m (refused NoPlace)))
     lift true empty = refl
-    lift true (full k fit p) = rw (map-set unsignedPlace (m .places) i empty) refl
+    lift true (full k fit p l) = rw (map-set unsignedPlace (m .places) i empty) refl
     lift false s = refl
 unseen m (reweigh i x) =
     by-turn m (reweigh i x) (λ o. refl) (rw (place-at (m .places) i) (lift (ltb i placeLimit) (getD (m .places) i empty)))
@@ -402,7 +418,7 @@ unseen m (reweigh i x) =
         → cond b (reweighTurn (unsignedMachine m) i x (unsignedPlace s)) (turn (unsignedMachine m) (refused NoPlace))
         ≡ unsignedTurn (cond b (reweighTurn m i x s) (turn m (refused NoPlace)))
     lift true empty = refl
-    lift true (full k fit p) = rw (map-set unsignedPlace (m .places) i (full (weighed k x) fit p)) refl
+    lift true (full k fit p l) = rw (map-set unsignedPlace (m .places) i (full (weighed k x) fit p l)) refl
     lift false s = refl
 unseen m (advance n) =
     let ss = iterate (bump (m .mesh)) (stepsOf m n) (m .places) in
@@ -413,12 +429,16 @@ unseen m (advance n) =
       left-sum-same (m .mesh) ss,
     ) refl)
 unseen m squeeze = by-turn m squeeze (λ o. refl) refl
-unseen m (read r) =
-    let ss = m .places in
+unseen m (read ls r) =
+    let ss = seenPlaces ls (m .places) in
+    let b = needs r && ltb 0 (leftSum (m .mesh) ss) in
+    let x = workedAfresh (m .mesh) (map unsignedPlace ss) r in
+    let y = workedAfresh (m .mesh) ss r in
+    let no = refusing r Unfinished in
     record {
-      same = rw (left-sum-same (m .mesh) ss)
-          (refused-same r (needs r && ltb 0 (leftSum (m .mesh) ss)) (refusing r Unfinished)
-          (workedAfresh (m .mesh) (map unsignedPlace ss) r) (workedAfresh (m .mesh) ss r) (afresh-same (m .mesh) ss r));
+      same = rw (seen-same ls (m .places), left-sum-same (m .mesh) ss)
+          (refused-same r (leb (2 ^ 16) ls) (refusing r NoLayer) (cond b no x) (cond b no y)
+          (refused-same r b no x y (afresh-same (m .mesh) ss r)));
       next = refl;
     }
 unseen m (page bs) =
@@ -449,7 +469,7 @@ module _ (exF : List Float) (exW : List ℕ) where
       → said width (holding m exF exW) cs ≡ saidBy m cs
   store-said [] m v = refl
   store-said (c ∷ cs) m v =
-      rw (one-call width width3 m v exF exW c)
+      rw (one-call width width4 m v exF exW c)
       (ap (λ (l : List Heard). turnSaid c (machine m c) ∷ l) (store-said cs (machine m c .next) (kept m v c .valid)))
 
   abbrev volumeAt : Store → ℕ → ℕ → Float
@@ -463,14 +483,14 @@ module _ (exF : List Float) (exW : List ℕ) where
   volume-held m v i j h g =
       let e : pieceFrom i j + 2 ≡ 225 + (48 * i + (3 * j + 2)) = omega arith in
       rw (e, laid-out (m .mesh) (m .places) v (past m exF), place-at (m .places) i)
-      (get48 width width3 (m .mesh) (m .places) (v .places) (past m exF) i h (3 * j + 2) (omega arith)
+      (get48 width width4 (m .mesh) (m .places) (v .places) (past m exF) i h (3 * j + 2) (omega arith)
       ∙ sym (held-same (m .mesh) (getD (m .places) i empty) j))
 
   same-said : (m : Machine) → Valid (m .mesh) (m .places) → (cs ds : List Call)
       → map unsignedCall cs ≡ map unsignedCall ds → SameSaid width (holding m exF exW) cs ds
   same-said m v cs ds h =
-      let a = last width width3 exF exW cs m v in
-      let b = last width width3 exF exW ds m v in
+      let a = last width width4 exF exW cs m v in
+      let b = last width width4 exF exW ds m v in
       let s : unsignedMachine (after-all m cs) ≡ unsignedMachine (after-all m ds)
       = sym (after-same cs m) ∙ (ap (after-all (unsignedMachine m)) h ∙ after-same ds m) in
       record {
@@ -497,8 +517,9 @@ turned-volume : (xs : List Float) (ks : List ℕ) (c : V3) (sigma : Float)
 unfolding kernelVolumeCall
 turned-volume xs ks c sigma = rw (kernel-volume-even (triangleAt xs ks) c sigma (faceCount ks)) refl
 
-turned-put : (i : ℕ) (k : Kernel) → stays (k .alpha) ≡ true → unsignedCall (put i (turned k)) ≡ unsignedCall (put i k)
-turned-put i k h = rw (h, abs-neg (k .sigma)) refl
+turned-put : (i : ℕ) (k : Kernel) (l : ℕ) → stays (k .alpha) ≡ true
+    → unsignedCall (put i (turned k) l) ≡ unsignedCall (put i k l)
+turned-put i k l h = rw (h, abs-neg (k .sigma)) refl
 
 pub signs-unseen : SignsUnseen
 signs-unseen =
@@ -507,7 +528,7 @@ signs-unseen =
       volume = turned-volume;
       put-turned = turned-put;
       every-list = λ r xs ks fs ws h cs ds e.
-          let v = opened-valid width width3 r xs ks (length fs) (length ws) (passed width width3 r xs ks fs ws h) in
-          subst (λ (s : Store). SameSaid width s cs ds) (sym (holds width width3 r xs ks fs ws h))
+          let v = opened-valid width width4 r xs ks (length fs) (length ws) (passed width width4 r xs ks fs ws h) in
+          subst (λ (s : Store). SameSaid width s cs ds) (sym (holds width width4 r xs ks fs ws h))
           (same-said (excessF xs fs) (excessW width ks ws) (opened r xs ks) v cs ds e);
     }

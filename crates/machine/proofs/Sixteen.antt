@@ -1,7 +1,7 @@
 -- The runs that hold a machine, by sixteen pieces to a filled place: past its last piece they are +0, whatever was done. Assumes nothing.
 use mathlib.Core.Path.{_≡_, refl, sym, ap, subst, _∙_}
 use mathlib.Core.List.{List, [], _∷_, _++_, map}
-use Prim.Native.Nat.{ℕ, zero, suc, _+_, _*_, _-_, _≤_, min}
+use Prim.Native.Nat.{ℕ, zero, suc, _+_, _*_, _-_, _≤_, _<_, min}
 use native.Mathlib.Nat.{suc-mul, zero-mul, suc-add, zero-add, add-zero, sub-zero}
 use native.Mathlib.Omega.{arith}
 use lib.ListN.{getD, replicate}
@@ -41,21 +41,21 @@ module _ (m : Mesh) (k : Kernel) (fit : Pieces) where
       let r = cells-split a b (suc j) (t - m .faces) in
       rw (suc-add a b, r, e, f) refl
 
--- a filled place whose pieces are its kernel's and whose steps are within its need
-pub okay : (m : Mesh) (k : Kernel) (fit : Pieces) (p : ℕ) → fit ≡ decomposed k (m .radius) → p ≤ need m fit → Okay m k fit p
-okay m k fit p f h = record { fitted = f; few = subst (λ (x : Pieces). x .count ≤ 16) (sym f) (at-most-16 k (m .radius)); steps = h }
+-- a filled place whose pieces are its kernel's, whose steps are within its need and whose layer is one of sixteen
+pub okay : (m : Mesh) (k : Kernel) (fit : Pieces) (p l : ℕ) → fit ≡ decomposed k (m .radius) → p ≤ need m fit → l < 16 → Okay m k fit p l
+okay m k fit p l f h b = record { fitted = f; few = subst (λ (x : Pieces). x .count ≤ 16) (sym f) (at-most-16 k (m .radius)); steps = h; layer = b }
 
 -- ---- a place's floats by sixteen pieces, as the calls write them
 abbrev pub sixteen : Mesh → Place → List Float
 sixteen m empty = replicate 48 +0
-sixteen m (full k fit p) = cells m k fit 16 0 p
+sixteen m (full k fit p l) = cells m k fit 16 0 p
 
 unfoldable pub laidOut : Mesh → List Place → List Float → List Float
 laidOut m ss xs = m .radius ∷ (flat (map floats7 ss) ++ (flat (map (sixteen m) ss) ++ (m .coords ++ xs)))
 
 place-laid : (m : Mesh) (s : Place) → Within m s → floats48 m s ≡ sixteen m s
 place-laid m empty w = refl
-place-laid m (full k fit p) w =
+place-laid m (full k fit p l) w =
     let n = fit .count in
     let f = w .few in
     let e : n + (16 - n) ≡ 16 = omega arith in

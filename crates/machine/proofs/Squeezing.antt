@@ -29,7 +29,7 @@ use Rattle.machine.specs.Valid.{Within, Shape, Valid}
 use Rattle.machine.proofs.Sixteen.{sixteen, laidOut, okay}
 use Rattle.machine.proofs.Slim.{thinned, slim-is, freed-is}
 use Rattle.machine.proofs.Rows.{Width, flat-length, write-append-add}
-use Rattle.machine.proofs.Held.{each3, each7, each48}
+use Rattle.machine.proofs.Held.{each-row, each7, each48}
 
 front : {A : Type 0} (q vs rest : List A) → length vs ≡ length q → write (q ++ rest) 0 vs ≡ vs ++ rest
 unfolding write
@@ -46,7 +46,7 @@ remesh m xs ks w = record { radius = m .radius; coords = xs; corners = ks; verts
 module _ (m : Mesh) (xs : List Float) (ks : List ℕ) (w : ℕ) where
   pub left-same : (s : Place) → leftPlace (remesh m xs ks w) s ≡ leftPlace m s
   left-same empty = refl
-  left-same (full k fit p) = refl
+  left-same (full k fit p l) = refl
 
   pub left-sum-same : (ss : List Place) → leftSum (remesh m xs ks w) ss ≡ leftSum m ss
   left-sum-same [] = refl
@@ -54,7 +54,7 @@ module _ (m : Mesh) (xs : List Float) (ks : List ℕ) (w : ℕ) where
 
   row-same : (s : Place) → placeRow (remesh m xs ks w) s ≡ placeRow m s
   row-same empty = refl
-  row-same (full k fit p) = refl
+  row-same (full k fit p l) = refl
 
   module _ (same : (f : ℕ) → f < m .faces → triangleAt xs ks f ≡ triangles m f) where
     pub volume-same : (c : V3) (sigma : Float) (n : ℕ) → n ≤ m .faces → volumeTo (triangleAt xs ks) c sigma n ≡ volumeTo (triangles m) c sigma n
@@ -66,7 +66,7 @@ module _ (m : Mesh) (xs : List Float) (ks : List ℕ) (w : ℕ) where
 
     sixteen-same : (s : Place) → sixteen (remesh m xs ks w) s ≡ sixteen m s
     sixteen-same empty = refl
-    sixteen-same (full k fit p) = cells-same k fit 16 0 p
+    sixteen-same (full k fit p l) = cells-same k fit 16 0 p
 
 -- squeezed once more
 pub squeezed-shape : (m : Mesh) (xs : List Float) (ks : List ℕ) (w : ℕ) → Shape (remesh m xs ks w) → Shape (remesh m (keptTo ks xs w) (renumbered ks) (rank ks w))
@@ -98,7 +98,7 @@ module _ (m : Mesh) (ss : List Place) (v : Valid m ss) where
 
   within-thin : (s : Place) → Within m s → Within (thinned m) s
   within-thin empty h = h
-  within-thin (full k fit p) h = okay (thinned m) k fit p (h .fitted) (h .steps)
+  within-thin (full k fit p l) h = okay (thinned m) k fit p l (h .fitted) (h .steps) (h .layer)
 
   thin-valid : Valid (thinned m) ss
   thin-valid =
@@ -146,7 +146,7 @@ module _ (wd : ℕ) (fm : Width wd) (m : Mesh) (ss : List Place) (v : Valid m ss
   unfolding wordsOf
   words-thinned ys =
       let p = m .verts ∷ m .faces ∷ flat (map (placeRow m) ss) in
-      let n : length p ≡ cornersFrom wd = rw (flat-length wd (map (placeRow m) ss) (each3 wd fm m ss), length-map, v .places) (omega arith) in
+      let n : length p ≡ cornersFrom wd = rw (flat-length wd (map (placeRow m) ss) (each-row wd fm m ss), length-map, v .places) (omega arith) in
       let s : map (placeRow (thinned m)) ss ≡ map (placeRow m) ss = map-congr-left {l = ss} (λ t h. row-same m (kept m ss v) (renumbered (m .corners)) (fewer m ss v) t) in
       ap (λ (t : List ℕ). set t 0 (rank (m .corners) (m .verts))) (write-mid p (m .corners) (renumbered (m .corners)) ys (cornersFrom wd) n (length-map (m .corners) (rank (m .corners))))
       ∙ ap (λ (r : List (List ℕ)). rank (m .corners) (m .verts) ∷ m .faces ∷ (flat r ++ (renumbered (m .corners) ++ ys))) (sym s)

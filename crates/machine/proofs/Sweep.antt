@@ -34,9 +34,9 @@ spread m n (s ∷ ss) = adv (min n (leftPlace m s)) s ∷ spread m (n - leftPlac
 
 module _ (wd : ℕ) (fm : Width wd) where
   module _ (m : Mesh) (ss : List Place) (hs : length ss ≡ 32) (xs : List Float) (ys : List ℕ) (i : ℕ) (h : i < 32) where
-    pub centre-held : (k : Kernel) (fit : Pieces) (p : ℕ) → getD ss i empty ≡ full k fit p → centreAt (laidOut m ss xs) i ≡ centreOf k
+    pub centre-held : (k : Kernel) (fit : Pieces) (p l : ℕ) → getD ss i empty ≡ full k fit p l → centreAt (laidOut m ss xs) i ≡ centreOf k
     unfolding centreOf
-    centre-held k fit p e =
+    centre-held k fit p l e =
         let z : 1 + 7 * i ≡ 1 + (7 * i + 0) = omega arith in
         let a : 2 + 7 * i ≡ 1 + (7 * i + 1) = omega arith in
         let b : 3 + 7 * i ≡ 1 + (7 * i + 2) = omega arith in
@@ -63,20 +63,20 @@ module _ (wd : ℕ) (fm : Width wd) where
           d,
           z,
         ) refl
-    place n (full k fit p) e w =
-        let l = need m fit - p in
-        let u = min n l in
-        let d : n - u ≡ n - l = omega arith in
+    place n (full k fit p l) e w =
+        let rest = need m fit - p in
+        let u = min n rest in
+        let d : n - u ≡ n - rest = omega arith in
         let sn : 1 + fit .count - 1 ≡ fit .count = omega arith in
         rw (
           status-held wd fm m ss hs ys i h,
           finished-held wd fm m ss hs ys i h,
           done-held wd fm m ss hs ys i h,
-          centre-held k fit p e,
+          centre-held k fit p l e,
           e,
           sn,
-          run-steps wd fm m ss hs xs i h k fit p e (w .few) (w .steps) n n (le-refl n),
-          two-words wd fm m ss hs ys i h (full k fit (p + u)) (finished m fit (p + u)) ((p + u) % m .faces) (rw e refl),
+          run-steps wd fm m ss hs xs i h k fit p l e (w .few) (w .steps) n n (le-refl n),
+          two-words wd fm m ss hs ys i h (full k fit (p + u) l) (finished m fit (p + u)) ((p + u) % m .faces) (rw e refl),
           d,
         ) refl
 
@@ -152,7 +152,7 @@ module _ (wd : ℕ) (fm : Width wd) where
 
   pub word-left : (m : Mesh) (s : Place) → Within m s → (getD (placeRow m s) 0 0 - 1 - getD (placeRow m s) 1 0) * m .faces - getD (placeRow m s) 2 0 ≡ leftPlace m s
   word-left m empty h = let e : 0 - 1 - 0 ≡ 0 = omega arith in rw e (omega arith)
-  word-left m (full k fit p) h = place-left (fit .count) (m .faces) p (h .steps)
+  word-left m (full k fit p l) h = place-left (fit .count) (m .faces) p (h .steps)
 
   module _ (m : Mesh) (ss : List Place) (v : Valid m ss) (ys : List ℕ) where
     left-to : (k : ℕ) → k ≤ 32 → leftOf wd (wordsOf m ss ys) (m .faces) k ≡ leftSum m (take k ss)
@@ -189,9 +189,9 @@ module _ (m : Mesh) where
   spread-none : (n : ℕ) (ss : List Place) → min n (leftSum m ss) ≡ 0 → spread m n ss ≡ ss
   spread-none n [] e = refl
   spread-none n (empty ∷ ss) e = ap (λ (t : List Place). empty ∷ t) (spread-none (n - 0) ss (omega arith))
-  spread-none n (full k fit p ∷ ss) e =
+  spread-none n (full k fit p l ∷ ss) e =
       let a : p + min n (need m fit - p) ≡ p = omega arith in
-      rw a (ap (λ (t : List Place). full k fit p ∷ t) (spread-none (n - (need m fit - p)) ss (omega arith)))
+      rw a (ap (λ (t : List Place). full k fit p l ∷ t) (spread-none (n - (need m fit - p)) ss (omega arith)))
 
   bump-spread : (n : ℕ) (ss : List Place) → 0 < leftSum m ss → (spread m (suc n) ss ≡ spread m n (bump m ss)) × (leftSum m (bump m ss) + 1 ≡ leftSum m ss)
   bump-spread n [] h = absurd (omega arith)
@@ -200,23 +200,23 @@ module _ (m : Mesh) where
       let a : suc n - 0 ≡ suc n = omega arith in
       let b : n - 0 ≡ n = omega arith in
       (rw (a, b) (ap (λ (t : List Place). empty ∷ t) (i .0)), omega (arith, i .1))
-  bump-spread n (full k fit p ∷ ss) h = go (eqb (need m fit - p) 0) refl (λ (z : 0 < leftSum m ss). bump-spread n ss z)
+  bump-spread n (full k fit p l ∷ ss) h = go (eqb (need m fit - p) 0) refl (λ (z : 0 < leftSum m ss). bump-spread n ss z)
     where
       go : (b : Bool) → eqb (need m fit - p) 0 ≡ b → (0 < leftSum m ss → (spread m (suc n) ss ≡ spread m n (bump m ss)) × (leftSum m (bump m ss) + 1 ≡ leftSum m ss))
-          → (spread m (suc n) (full k fit p ∷ ss) ≡ spread m n (cond b (full k fit p ∷ bump m ss) (full k fit (p + 1) ∷ ss))) × (leftSum m (cond b (full k fit p ∷ bump m ss) (full k fit (p + 1) ∷ ss)) + 1 ≡ leftSum m (full k fit p ∷ ss))
+          → (spread m (suc n) (full k fit p l ∷ ss) ≡ spread m n (cond b (full k fit p l ∷ bump m ss) (full k fit (p + 1) l ∷ ss))) × (leftSum m (cond b (full k fit p l ∷ bump m ss) (full k fit (p + 1) l ∷ ss)) + 1 ≡ leftSum m (full k fit p l ∷ ss))
       go true e ih =
           let z : need m fit - p ≡ 0 = eqb-true (need m fit - p) 0 e in
           let i = ih (omega arith) in
           let a : suc n - (need m fit - p) ≡ suc n = omega arith in
           let b : n - (need m fit - p) ≡ n = omega arith in
           let x : min (suc n) (need m fit - p) ≡ min n (need m fit - p) = omega arith in
-          (rw (a, b, x) (ap (λ (t : List Place). full k fit (p + min n (need m fit - p)) ∷ t) (i .0)), omega (arith, i .1))
+          (rw (a, b, x) (ap (λ (t : List Place). full k fit (p + min n (need m fit - p)) l ∷ t) (i .0)), omega (arith, i .1))
       go false e ih =
           let z = eqb-false (need m fit - p) 0 e in
           let a : suc n - (need m fit - p) ≡ n - (need m fit - (p + 1)) = omega arith in
-          let l : need m fit - p ≡ suc (need m fit - (p + 1)) = omega arith in
-          let x : p + min (suc n) (need m fit - p) ≡ p + 1 + min n (need m fit - (p + 1)) = rw l (shift p n (need m fit - (p + 1))) in
-          (rw (a, x) refl, rw l (omega arith))
+          let y : need m fit - p ≡ suc (need m fit - (p + 1)) = omega arith in
+          let x : p + min (suc n) (need m fit - p) ≡ p + 1 + min n (need m fit - (p + 1)) = rw y (shift p n (need m fit - (p + 1))) in
+          (rw (a, x) refl, rw y (omega arith))
 
   pub lowest-first : (t n : ℕ) (ss : List Place) → t ≡ min n (leftSum m ss) → iterate (bump m) t ss ≡ spread m n ss
   lowest-first zero n ss e = sym (spread-none n ss (sym e))
@@ -229,7 +229,7 @@ module _ (m : Mesh) where
   pub left-spread : (n : ℕ) (ss : List Place) → leftSum m (spread m n ss) ≡ leftSum m ss - min n (leftSum m ss)
   left-spread n [] = omega arith
   left-spread n (empty ∷ ss) = omega (arith, left-spread (n - 0) ss)
-  left-spread n (full k fit p ∷ ss) =
+  left-spread n (full k fit p l ∷ ss) =
       let a = need m fit - p in
       let r = leftSum m ss in
       rw (left-spread (n - a) ss, sub-add (need m fit) p (min n a), sub-min n a, sub-min (n - a) r, sub-min n (a + r)) (both-left n a r)
@@ -237,5 +237,5 @@ module _ (m : Mesh) where
   pub within-spread : (n : ℕ) (ss : List Place) → ((i : ℕ) → Within m (getD ss i empty)) → (i : ℕ) → Within m (getD (spread m n ss) i empty)
   within-spread n [] h i = h i
   within-spread n (empty ∷ ss) h zero = h zero
-  within-spread n (full k fit p ∷ ss) h zero = let z = h zero in okay m k fit (p + min n (need m fit - p)) (z .fitted) (omega arith)
+  within-spread n (full k fit p l ∷ ss) h zero = let z = h zero in okay m k fit (p + min n (need m fit - p)) l (z .fitted) (omega arith) (z .layer)
   within-spread n (s ∷ ss) h (suc i) = within-spread (n - leftPlace m s) ss (λ j. h (suc j)) i

@@ -10,19 +10,20 @@ use lib.Dec.{eqb}
 use lib.ListN.{length, getD, set, length-append}
 use lib.Seq.{getD-set-other}
 use lib.Ieee.{Float}
-use borrow.Author.Tests.{lt-ltb, le-ltb}
+use borrow.Author.Tests.{lt-ltb, le-ltb, le-leb, lt-leb}
 use Rattle.base.specs.Loops.{iterate}
 use Rattle.base.specs.Answers.{refused}
-use Rattle.base.specs.declared.refusal.Refusal.the-variants.{NoPlace, Vacant}
+use Rattle.base.specs.declared.refusal.Refusal.{Refusal}
+use Rattle.base.specs.declared.refusal.Refusal.the-variants.{NoPlace, NoLayer, Vacant}
 use Rattle.kernel.specs.declared.kernel.Kernel.{Kernel}
 use Rattle.pieces.specs.declared.pieces.Pieces.{Pieces}
 use Rattle.pieces.specs.Pieces.{decomposed}
 use Rattle.pieces.specs.PieceLaws.{same-pieces}
-use Rattle.machine.specs.Machine.{Mesh, Place, empty, full, leftPlace, adv, bump, stepsOf, Machine, Turn, turn, clearTurn, weighed, reweighTurn, slim}
+use Rattle.machine.specs.Machine.{Mesh, Place, empty, full, among, seenPlace, seenPlaces, leftPlace, adv, bump, stepsOf, Machine, Turn, turn, clearTurn, weighed, reweighTurn, slim}
 use Rattle.machine.specs.Fresh.{kernelOf, kernelsOf, piecesOf, allPieces}
 use Rattle.machine.specs.Calls.{Call, put, clear, reweigh, advance, squeeze, read, page, machine, after-all, holding, chargedBy, chargedIn}
 use Rattle.machine.specs.Valid.{Valid}
-use Rattle.machine.specs.Bills.{Reordered, none, keep, swap, then, Every, putBy, putIn, placeBy, placesIn, InStore, Apart}
+use Rattle.machine.specs.Bills.{Reordered, none, keep, swap, then, Every, putBy, putIn, placeBy, placesIn, InStore, layerBy, layersIn, InSixteen, Apart}
 use Rattle.machine.proofs.Rows.{Width}
 use Rattle.machine.proofs.Claim.{one-call, kept}
 use Rattle.machine.proofs.Listed.{pieces-length}
@@ -48,7 +49,7 @@ fits radius k = decomposed k radius .count
 
 abbrev heldOne : Float → Place → ℕ
 heldOne radius empty = 0
-heldOne radius (full k fit p) = fits radius k
+heldOne radius (full k fit p l) = fits radius k
 
 abbrev pub heldIn : Float → List Place → ℕ
 heldIn radius [] = 0
@@ -57,7 +58,7 @@ heldIn radius (s ∷ ss) = heldOne radius s + heldIn radius ss
 pub pieces-held : (radius : Float) (ss : List Place) → length (allPieces radius (kernelsOf ss)) ≡ heldIn radius ss
 pieces-held radius [] = refl
 pieces-held radius (empty ∷ ss) = omega (arith, pieces-held radius ss)
-pieces-held radius (full k fit p ∷ ss) =
+pieces-held radius (full k fit p l ∷ ss) =
     let n = pieces-length k (decomposed k radius) (decomposed k radius .count) in
     length-append (piecesOf radius k) (allPieces radius (kernelsOf ss)) ∙ omega (arith, n, pieces-held radius ss)
 
@@ -67,10 +68,23 @@ held-set radius [] i s h = absurd (omega arith)
 held-set radius (x ∷ ss) zero s h = omega arith
 held-set radius (x ∷ ss) (suc i) s h = omega (arith, held-set radius ss i s (omega arith))
 
+-- a reading of some layers sees no more pieces
+seen-one : (radius : Float) (layers : ℕ) (s : Place) → heldOne radius (seenPlace layers s) ≤ heldOne radius s
+seen-one radius layers empty = omega arith
+seen-one radius layers (full k fit p l) = go (among l layers)
+  where
+    go : (b : Bool) → heldOne radius (cond b (full k fit p l) empty) ≤ fits radius k
+    go true = omega arith
+    go false = omega arith
+
+pub seen-within : (radius : Float) (layers : ℕ) (ss : List Place) → heldIn radius (seenPlaces layers ss) ≤ heldIn radius ss
+seen-within radius layers [] = omega arith
+seen-within radius layers (s ∷ ss) = omega (arith, seen-one radius layers s, seen-within radius layers ss)
+
 -- ---- a step of work keeps what a place holds, and empty places empty
 held-adv : (radius : Float) (u : ℕ) (s : Place) → heldOne radius (adv u s) ≡ heldOne radius s
 held-adv radius u empty = refl
-held-adv radius u (full k fit p) = refl
+held-adv radius u (full k fit p l) = refl
 
 held-bump : (radius : Float) (m : Mesh) (ss : List Place) → heldIn radius (bump m ss) ≡ heldIn radius ss
 held-bump radius m [] = refl
@@ -122,48 +136,52 @@ record Step (m : Machine) (c : Call) (t : Turn) : Type 0 where
   -- what it charges, and the pieces then held: at most those of the kernel it puts
   charge : chargedBy c (t .reply) ≤ fitsIn m (putBy c) * m .mesh .faces
   pieces : heldBy m (t .next .places) ≤ heldBy m (m .places) + fitsIn m (putBy c)
-  -- just those, where its place is one of the store's; the pieces where that is empty
-  charge-all : InStore (placeBy c) → chargedBy c (t .reply) ≡ fitsIn m (putBy c) * m .mesh .faces
-  pieces-all : InStore (placeBy c) → Every (Vacancy (m .places)) (placeBy c)
+  -- just those, where its place is one of the store's and its layer one of the sixteen; the pieces where that is empty
+  charge-all : InStore (placeBy c) → InSixteen (layerBy c) → chargedBy c (t .reply) ≡ fitsIn m (putBy c) * m .mesh .faces
+  pieces-all : InStore (placeBy c) → InSixteen (layerBy c) → Every (Vacancy (m .places)) (placeBy c)
       → heldBy m (t .next .places) ≡ heldBy m (m .places) + fitsIn m (putBy c)
   -- other places that are empty stay so
   still : (j : ℕ) → Every (λ i. i ≡ j → ⊥) (placeBy c) → Vacancy (m .places) j → Vacancy (t .next .places) j
 
-module _ (m : Machine) (l : length (m .places) ≡ 32) where
+module _ (m : Machine) (hs : length (m .places) ≡ 32) where
   abbrev R : Float
   R = m .mesh .radius
 
-  put-step : (i : ℕ) (k : Kernel) → Step m (put i k) (machine m (put i k))
+  -- a refused put: its place is none of the store's, or its layer none of the sixteen
+  not-put : (i : ℕ) (k : Kernel) (l : ℕ) (r : Refusal) → (i < 32 → l < 16 → ⊥) → Step m (put i k l) (turn m (refused r))
+  not-put i k l r n =
+      record {
+        radius = refl;
+        faces = refl;
+        charge = omega arith;
+        pieces = omega arith;
+        charge-all = λ s b. absurd (n (s .0) (b .0));
+        pieces-all = λ s b v. absurd (n (s .0) (b .0));
+        still = λ j a v. v;
+      }
+
+  put-step : (i : ℕ) (k : Kernel) (l : ℕ) → Step m (put i k l) (machine m (put i k l))
   unfolding machine
-  put-step i k = go (decLt i 32)
+  put-step i k l = go (decLt i 32) (decLt l 16)
     where
-      go : Dec (i < 32) → Step m (put i k) (machine m (put i k))
-      go (yes h) =
+      go : Dec (i < 32) → Dec (l < 16) → Step m (put i k l) (machine m (put i k l))
+      go (yes h) (yes b) =
           let fit = decomposed k R in
-          let w = held-set R (m .places) i (full k fit 0) (rw l h) in
+          let w = held-set R (m .places) i (full k fit 0 l) (rw hs h) in
           let n : fits R k + 0 ≡ fits R k = omega arith in
           let e = ap (λ (a : ℕ). a * m .mesh .faces) n in
-          rw (lt-ltb i 32 h)
+          rw (lt-ltb i 32 h, le-leb l 15 (omega arith))
           (record {
             radius = refl;
             faces = refl;
             charge = omega (arith, e);
             pieces = omega (arith, w);
-            charge-all = λ s. sym e;
-            pieces-all = λ s v. omega (arith, w, ap (heldOne R) (v .0));
-            still = λ j a v. getD-set-other (m .places) i j (full k fit 0) empty (λ z. a .0 (sym z)) ∙ v;
+            charge-all = λ s y. sym e;
+            pieces-all = λ s y v. omega (arith, w, ap (heldOne R) (v .0));
+            still = λ j a v. getD-set-other (m .places) i j (full k fit 0 l) empty (λ z. a .0 (sym z)) ∙ v;
           })
-      go (no h) =
-          rw (le-ltb i 32 (omega arith))
-          (record {
-            radius = refl;
-            faces = refl;
-            charge = omega arith;
-            pieces = omega arith;
-            charge-all = λ s. absurd (h (s .0));
-            pieces-all = λ s v. absurd (h (s .0));
-            still = λ j a v. v;
-          })
+      go (yes h) (no b) = rw (lt-ltb i 32 h, lt-leb l 15 (omega arith)) (not-put i k l NoLayer (λ x y. b y))
+      go (no h) b = rw (le-ltb i 32 (omega arith)) (not-put i k l NoPlace (λ x y. h x))
 
   -- a call that puts nothing, and after which the places hold as many pieces and are empty where they were
   quiet : (c : Call) → putBy c ≡ [] → (t : Turn) → t .next .mesh .radius ≡ R → t .next .mesh .faces ≡ m .mesh .faces
@@ -177,8 +195,8 @@ module _ (m : Machine) (l : length (m .places) ≡ 32) where
         faces = f;
         charge = omega (arith, g, z);
         pieces = omega (arith, h);
-        charge-all = λ s. omega (arith, g, z);
-        pieces-all = λ s v. omega (arith, h, a);
+        charge-all = λ s y. omega (arith, g, z);
+        pieces-all = λ s y v. omega (arith, h, a);
         still = λ j s v. u j v;
       }
 
@@ -190,29 +208,29 @@ module _ (m : Machine) (l : length (m .places) ≡ 32) where
 
   clear-at : (i : ℕ) → i < 32 → (s : Place) → getD (m .places) i empty ≡ s → Step m (clear i) (clearTurn m i s)
   clear-at i h empty e = idle (clear i) refl (turn m (refused Vacant)) refl refl
-  clear-at i h (full k fit p) e =
-      let w = held-set R (m .places) i empty (rw l h) in
+  clear-at i h (full k fit p l) e =
+      let w = held-set R (m .places) i empty (rw hs h) in
       record {
         radius = refl;
         faces = refl;
         charge = omega arith;
         pieces = omega (arith, w);
-        charge-all = λ s. omega arith;
-        pieces-all = λ s v. omega (arith, w, ap (heldOne R) (v .0));
+        charge-all = λ s y. omega arith;
+        pieces-all = λ s y v. omega (arith, w, ap (heldOne R) (v .0));
         still = λ j a v. getD-set-other (m .places) i j empty empty (λ z. a .0 (sym z)) ∙ v;
       }
 
   reweigh-at : (i : ℕ) (v : Float) → i < 32 → (s : Place) → getD (m .places) i empty ≡ s
       → Step m (reweigh i v) (reweighTurn m i v s)
   reweigh-at i v h empty e = idle (reweigh i v) refl (turn m (refused Vacant)) refl refl
-  reweigh-at i v h (full k fit p) e =
-      let w = held-set R (m .places) i (full (weighed k v) fit p) (rw l h) in
+  reweigh-at i v h (full k fit p l) e =
+      let w = held-set R (m .places) i (full (weighed k v) fit p l) (rw hs h) in
       let o = ap (heldOne R) e in
       let q = ap (λ (f : Pieces). f .count) (same-pieces (k .c) (k .c) (k .sigma) (k .w) v (k .alpha) R) in
-      quiet (reweigh i v) refl (reweighTurn m i v (full k fit p)) refl refl refl (omega (arith, w, o, q)) other
+      quiet (reweigh i v) refl (reweighTurn m i v (full k fit p l)) refl refl refl (omega (arith, w, o, q)) other
     where
       moved : Place
-      moved = full (weighed k v) fit p
+      moved = full (weighed k v) fit p l
 
       other : (j : ℕ) → Vacancy (m .places) j → Vacancy (set (m .places) i moved) j
       other j u = getD-set-other (m .places) i j moved empty apart ∙ u
@@ -225,7 +243,7 @@ module _ (m : Machine) (l : length (m .places) ≡ 32) where
 
   step : (c : Call) → Step m c (machine m c)
   unfolding machine slim
-  step (put i k) = put-step i k
+  step (put i k l) = put-step i k l
   step (clear i) = go (decLt i 32)
     where
       go : Dec (i < 32) → Step m (clear i) (machine m (clear i))
@@ -241,7 +259,7 @@ module _ (m : Machine) (l : length (m .places) ≡ 32) where
       quiet (advance n) refl (machine m (advance n)) refl refl refl (held-work R (m .mesh) (m .places) u)
       (empty-work R (m .mesh) (m .places) u)
   step squeeze = quiet squeeze refl (machine m squeeze) refl refl refl refl (λ j v. v)
-  step (read r) = idle (read r) refl (machine m (read r)) refl refl
+  step (read ls r) = idle (read ls r) refl (machine m (read ls r)) refl refl
   step (page bs) = idle (page bs) refl (machine m (page bs)) refl refl
 
 -- ---- places of a list, each of which is apart from the others
@@ -306,13 +324,14 @@ module _ (wd : ℕ) (fm : Width wd) (exF : List Float) (exW : List ℕ) where
       let i = charged-within cs (machine m c .next) (kept m v c .valid) in
       rw (one-call wd fm m v exF exW c) (omega (arith, i, s m v c .charge, all-charge m v c cs))
 
-  pub charged-all : (cs : List Call) (m : Machine) → Valid (m .mesh) (m .places) → InStore (placesIn cs)
+  pub charged-all : (cs : List Call) (m : Machine) → Valid (m .mesh) (m .places) → InStore (placesIn cs) → InSixteen (layersIn cs)
       → chargedIn wd (holding m exF exW) cs ≡ fitsIn m (putIn cs) * m .mesh .faces
-  charged-all [] m v p = omega arith
-  charged-all (c ∷ cs) m v p =
+  charged-all [] m v p b = omega arith
+  charged-all (c ∷ cs) m v p b =
       let t = every-split (λ j. j < 32) (placeBy c) (placesIn cs) p in
-      let i = charged-all cs (machine m c .next) (kept m v c .valid) (t .1) in
-      rw (one-call wd fm m v exF exW c) (omega (arith, i, s m v c .charge-all (t .0), all-charge m v c cs))
+      let y = every-split (λ j. j < 16) (layerBy c) (layersIn cs) b in
+      let i = charged-all cs (machine m c .next) (kept m v c .valid) (t .1) (y .1) in
+      rw (one-call wd fm m v exF exW c) (omega (arith, i, s m v c .charge-all (t .0) (y .0), all-charge m v c cs))
 
 pub radius-after : (cs : List Call) (m : Machine) → Valid (m .mesh) (m .places)
     → after-all m cs .mesh .radius ≡ m .mesh .radius
@@ -330,15 +349,16 @@ held-within (c ∷ cs) m v =
     omega (arith, i, a, b, s m v c .pieces, all-fits m v c cs)
 
 pub held-all : (cs : List Call) (m : Machine) → Valid (m .mesh) (m .places)
-    → InStore (placesIn cs) → Apart (placesIn cs) → Every (Vacancy (m .places)) (placesIn cs)
+    → InStore (placesIn cs) → InSixteen (layersIn cs) → Apart (placesIn cs) → Every (Vacancy (m .places)) (placesIn cs)
     → heldBy m (after-all m cs .places) ≡ heldBy m (m .places) + fitsIn m (putIn cs)
-held-all [] m v p o e = omega arith
-held-all (c ∷ cs) m v p o e =
+held-all [] m v p x o e = omega arith
+held-all (c ∷ cs) m v p x o e =
     let n = machine m c .next in
     let t = every-split (λ j. j < 32) (placeBy c) (placesIn cs) p in
+    let y = every-split (λ j. j < 16) (layerBy c) (layersIn cs) x in
     let u = every-split (Vacancy (m .places)) (placeBy c) (placesIn cs) e in
     let w = still-vacant m v c (placesIn cs) o (u .1) in
-    let i = held-all cs n (kept m v c .valid) (t .1) (apart-rest (placeBy c) (placesIn cs) o) w in
+    let i = held-all cs n (kept m v c .valid) (t .1) (y .1) (apart-rest (placeBy c) (placesIn cs) o) w in
     let a = same-held m v c (after-all n cs .places) in
     let b = same-held m v c (n .places) in
-    omega (arith, i, a, b, s m v c .pieces-all (t .0) (u .0), all-fits m v c cs)
+    omega (arith, i, a, b, s m v c .pieces-all (t .0) (y .0) (u .0), all-fits m v c cs)

@@ -4,13 +4,13 @@ use mathlib.Core.Bool.{Bool, true, false, cond}
 use mathlib.Core.List.{List, [], _∷_}
 use Prim.Native.Nat.{ℕ, zero, suc, _+_, _<_}
 use native.Mathlib.Omega.{arith}
-use lib.Dec.{ltb}
+use lib.Dec.{ltb, leb}
 use lib.ListN.{getD}
 use lib.Ieee.{Float, nan}
 use Rattle.base.specs.Floats.{+0}
 use Rattle.base.specs.Loops.{iterate}
 use Rattle.base.specs.Answers.{refused}
-use Rattle.base.specs.declared.refusal.Refusal.the-variants.{NoPlace}
+use Rattle.base.specs.declared.refusal.Refusal.the-variants.{NoPlace, NoLayer}
 use Rattle.mesh.specs.Triangles.{triangleAt}
 use Rattle.mesh.specs.CheckLaws.{below-each}
 use Rattle.volume.specs.Volume.{origin}
@@ -26,7 +26,7 @@ use Rattle.page.specs.Page.{Row, row, pageAnswer}
 use Rattle.store.specs.Squeeze.{rank, renumbered, keptTo}
 use Rattle.store.specs.Marks.{Below}
 use Rattle.store.specs.TriangleLaws.{same-triangle}
-use Rattle.machine.specs.Machine.{Mesh, Place, empty, full, bump, Machine, Turn, turn, freedBy, stepsOf, putTurn, clearTurn, reweighTurn}
+use Rattle.machine.specs.Machine.{Mesh, Place, empty, full, seenPlaces, bump, Machine, Turn, turn, freedBy, stepsOf, putTurn, clearTurn, reweighTurn}
 use Rattle.machine.specs.Holding.{triangles}
 use Rattle.machine.specs.Fresh.{freshRow, freshRows, workedAfresh, pageAfresh}
 use Rattle.machine.specs.Calls.{Call, put, clear, reweigh, advance, squeeze, read, page, machine, holding, without, Heard, others, heard}
@@ -62,7 +62,7 @@ module _ (m : Mesh) (xs : List Float) (ks : List ℕ) (w : ℕ) where
 
     place-same : (s : Place) → freshPlace n s ≡ freshPlace m s
     place-same empty = refl
-    place-same (full k fit p) = parts-same k (decomposed k (m .radius)) (decomposed k (m .radius) .count)
+    place-same (full k fit p l) = parts-same k (decomposed k (m .radius)) (decomposed k (m .radius) .count)
 
     all-same : (ss : List Place) → freshAll n ss ≡ freshAll m ss
     all-same [] = refl
@@ -78,9 +78,9 @@ module _ (m : Mesh) (xs : List Float) (ks : List ℕ) (w : ℕ) where
     module _ (g : Shape n) (h : Shape m) where
       row-same : (i : ℕ) (s : Place) → freshRow n i s ≡ freshRow m i s
       row-same i empty = refl
-      row-same i (full k fit p) =
+      row-same i (full k fit p l) =
           ap (λ (x : Float). row i (decomposed k (m .radius) .count) x ∷ [])
-          (sym (place-mass n g k fit p) ∙ (ap rawMass (place-same (full k fit p)) ∙ place-mass m h k fit p))
+          (sym (place-mass n g k fit p l) ∙ (ap rawMass (place-same (full k fit p l)) ∙ place-mass m h k fit p l))
 
       rows-same : (i : ℕ) (ss : List Place) → freshRows n i ss ≡ freshRows m i ss
       rows-same i [] = refl
@@ -109,9 +109,9 @@ pub record Goes (m : Machine) (c : Call) (xs : List Float) (ks : List ℕ) (w g 
   pub mesh : machine m c .next .mesh ≡ m .mesh
 
 module _ (m : Machine) (xs : List Float) (ks : List ℕ) (w g : ℕ) where
-  pub put-goes : (i : ℕ) (k : Kernel) → Goes m (put i k) xs ks w g
+  pub put-goes : (i : ℕ) (k : Kernel) (l : ℕ) → Goes m (put i k l) xs ks w g
   unfolding machine
-  put-goes i k = record { lift = lift (ltb i placeLimit); mesh = stays (ltb i placeLimit) }
+  put-goes i k l = record { lift = lift (ltb i placeLimit) (leb l 15); mesh = stays (ltb i placeLimit) (leb l 15) }
     where
       fit : Pieces
       fit = decomposed k (m .mesh .radius)
@@ -119,13 +119,18 @@ module _ (m : Machine) (xs : List Float) (ks : List ℕ) (w g : ℕ) where
       end : Fit
       end = fitOf k (m .mesh .radius)
 
-      lift : (b : Bool) → cond b (putTurn (remade m xs ks w g) i k fit end) (turn (remade m xs ks w g) (refused NoPlace)) ≡ lifted (cond b (putTurn m i k fit end) (turn m (refused NoPlace))) xs ks w g
-      lift true = rw (left-same (m .mesh) xs ks w (getD (m .places) i empty)) refl
-      lift false = refl
+      made : Machine → Bool → Bool → Turn
+      made n a b = cond a (cond b (putTurn n i k fit end l) (turn n (refused NoLayer))) (turn n (refused NoPlace))
 
-      stays : (b : Bool) → cond b (putTurn m i k fit end) (turn m (refused NoPlace)) .next .mesh ≡ m .mesh
-      stays true = refl
-      stays false = refl
+      lift : (a b : Bool) → made (remade m xs ks w g) a b ≡ lifted (made m a b) xs ks w g
+      lift true true = rw (left-same (m .mesh) xs ks w (getD (m .places) i empty)) refl
+      lift true false = refl
+      lift false b = refl
+
+      stays : (a b : Bool) → made m a b .next .mesh ≡ m .mesh
+      stays true true = refl
+      stays true false = refl
+      stays false b = refl
 
   pub clear-goes : (i : ℕ) → Goes m (clear i) xs ks w g
   unfolding machine
@@ -133,12 +138,12 @@ module _ (m : Machine) (xs : List Float) (ks : List ℕ) (w g : ℕ) where
     where
       lift : (b : Bool) (s : Place) → cond b (clearTurn (remade m xs ks w g) i s) (turn (remade m xs ks w g) (refused NoPlace)) ≡ lifted (cond b (clearTurn m i s) (turn m (refused NoPlace))) xs ks w g
       lift true empty = refl
-      lift true (full k fit p) = refl
+      lift true (full k fit p l) = refl
       lift false s = refl
 
       stays : (b : Bool) (s : Place) → cond b (clearTurn m i s) (turn m (refused NoPlace)) .next .mesh ≡ m .mesh
       stays true empty = refl
-      stays true (full k fit p) = refl
+      stays true (full k fit p l) = refl
       stays false s = refl
 
   pub reweigh-goes : (i : ℕ) (x : Float) → Goes m (reweigh i x) xs ks w g
@@ -147,12 +152,12 @@ module _ (m : Machine) (xs : List Float) (ks : List ℕ) (w g : ℕ) where
     where
       lift : (b : Bool) (s : Place) → cond b (reweighTurn (remade m xs ks w g) i x s) (turn (remade m xs ks w g) (refused NoPlace)) ≡ lifted (cond b (reweighTurn m i x s) (turn m (refused NoPlace))) xs ks w g
       lift true empty = refl
-      lift true (full k fit p) = refl
+      lift true (full k fit p l) = refl
       lift false s = refl
 
       stays : (b : Bool) (s : Place) → cond b (reweighTurn m i x s) (turn m (refused NoPlace)) .next .mesh ≡ m .mesh
       stays true empty = refl
-      stays true (full k fit p) = refl
+      stays true (full k fit p l) = refl
       stays false s = refl
 
   pub advance-goes : (k : ℕ) → Goes m (advance k) xs ks w g
@@ -164,9 +169,14 @@ module _ (m : Machine) (xs : List Float) (ks : List ℕ) (w g : ℕ) where
         mesh = refl;
       }
 
-  pub read-goes : Alike (m .mesh) xs ks w → (r : Reading) → Goes m (read r) xs ks w g
+  pub read-goes : Alike (m .mesh) xs ks w → (ls : ℕ) (r : Reading) → Goes m (read ls r) xs ks w g
   unfolding machine
-  read-goes a r = record { lift = rw (left-sum-same (m .mesh) xs ks w (m .places), afresh-same (m .mesh) xs ks w (a .same) (a .shape) (a .was) (m .places) r) refl; mesh = refl }
+  read-goes a ls r =
+      let ss = seenPlaces ls (m .places) in
+      record {
+        lift = rw (left-sum-same (m .mesh) xs ks w ss, afresh-same (m .mesh) xs ks w (a .same) (a .shape) (a .was) ss r) refl;
+        mesh = refl;
+      }
 
   pub page-goes : Alike (m .mesh) xs ks w → (bs : List ℕ) → Goes m (page bs) xs ks w g
   unfolding machine
@@ -205,14 +215,14 @@ module _ (m : Machine) (c : Call) (cs : List Call) (xs : List Float) (ks : List 
 same-heard : (cs : List Call) (m : Machine) (xs : List Float) (ks : List ℕ) (w g : ℕ) → Alike (m .mesh) xs ks w → heardBy (remade m xs ks w g) cs ≡ heardBy m (without cs)
 unfolding machine
 same-heard [] m xs ks w g a = refl
-same-heard (put i k ∷ cs) m xs ks w g a = one-heard m (put i k) cs xs ks w g (put-goes m xs ks w g i k) a (same-heard cs (machine m (put i k) .next) xs ks w g)
+same-heard (put i k l ∷ cs) m xs ks w g a = one-heard m (put i k l) cs xs ks w g (put-goes m xs ks w g i k l) a (same-heard cs (machine m (put i k l) .next) xs ks w g)
 same-heard (clear i ∷ cs) m xs ks w g a = one-heard m (clear i) cs xs ks w g (clear-goes m xs ks w g i) a (same-heard cs (machine m (clear i) .next) xs ks w g)
 same-heard (reweigh i x ∷ cs) m xs ks w g a = one-heard m (reweigh i x) cs xs ks w g (reweigh-goes m xs ks w g i x) a (same-heard cs (machine m (reweigh i x) .next) xs ks w g)
 same-heard (advance k ∷ cs) m xs ks w g a = one-heard m (advance k) cs xs ks w g (advance-goes m xs ks w g k) a (same-heard cs (machine m (advance k) .next) xs ks w g)
 same-heard (squeeze ∷ cs) m xs ks w g a =
     let n = remesh (m .mesh) xs ks w in
     rw (slim-is n (corners-below n (a .shape))) (same-heard cs m (keptTo ks xs w) (renumbered ks) (rank ks w) (freedBy n + g) (squeezed-alike (m .mesh) xs ks w a))
-same-heard (read r ∷ cs) m xs ks w g a = one-heard m (read r) cs xs ks w g (read-goes m xs ks w g a r) a (same-heard cs (machine m (read r) .next) xs ks w g)
+same-heard (read ls r ∷ cs) m xs ks w g a = one-heard m (read ls r) cs xs ks w g (read-goes m xs ks w g a ls r) a (same-heard cs (machine m (read ls r) .next) xs ks w g)
 same-heard (page bs ∷ cs) m xs ks w g a = one-heard m (page bs) cs xs ks w g (page-goes m xs ks w g a bs) a (same-heard cs (machine m (page bs) .next) xs ks w g)
 
 -- ---- a reading of the machine's mesh is one of the mesh opened
@@ -226,14 +236,14 @@ from-start m g = record { radius = refl; faces = refl; alike = record { shape = 
 
 pub from-next : (o : Mesh) (m : Machine) (c : Call) → From o (m .mesh) → From o (machine m c .next .mesh)
 unfolding machine
-from-next o m (put i k) f = subst (From o) (sym (put-goes m [] [] 0 0 i k .mesh)) f
+from-next o m (put i k l) f = subst (From o) (sym (put-goes m [] [] 0 0 i k l .mesh)) f
 from-next o m (clear i) f = subst (From o) (sym (clear-goes m [] [] 0 0 i .mesh)) f
 from-next o m (reweigh i x) f = subst (From o) (sym (reweigh-goes m [] [] 0 0 i x .mesh)) f
 from-next o m (advance n) f = f
 from-next o m squeeze f =
     rw (slim-is (m .mesh) (corners-below (remesh o (m .mesh .coords) (m .mesh .corners) (m .mesh .verts)) (f .alike .shape)))
     (record { radius = f .radius; faces = f .faces; alike = squeezed-alike o (m .mesh .coords) (m .mesh .corners) (m .mesh .verts) (f .alike) })
-from-next o m (read r) f = f
+from-next o m (read ls r) f = f
 from-next o m (page bs) f = f
 
 module _ (o m : Mesh) (f : From o m) where

@@ -2,13 +2,13 @@
 -- over a list. Definitions only.
 use mathlib.Core.Bool.{Bool, true, false, _&&_, cond}
 use mathlib.Core.List.{List, [], _∷_, _++_}
-use Prim.Native.Nat.{ℕ, _+_}
-use lib.Dec.{ltb}
+use Prim.Native.Nat.{ℕ, _+_, _^_}
+use lib.Dec.{ltb, leb}
 use lib.ListN.{getD, replicate}
 use lib.Ieee.{Float, lt}
 use Rattle.base.specs.Floats.{+0}
-use Rattle.base.specs.Answers.{Answer, refused, Outcome}
-use Rattle.base.specs.declared.refusal.Refusal.the-variants.{NoPlace, Unfinished}
+use Rattle.base.specs.Answers.{Answer, refused, Outcome, outcome}
+use Rattle.base.specs.declared.refusal.Refusal.the-variants.{NoPlace, Unfinished, NoLayer}
 use Rattle.kernel.specs.declared.kernel.Kernel.{Kernel}
 use Rattle.pieces.specs.Pieces.{decomposed}
 use Rattle.pieces.specs.FitEnd.{fitOf}
@@ -20,20 +20,25 @@ use Rattle.store.specs.Puts.{putStep}
 use Rattle.density.specs.declared.convention.Convention.{Convention}
 use Rattle.density.specs.declared.convention.Convention.the-variants.{Raw, Rho0, Mass}
 use Rattle.readings.specs.Readings.{Reading, density, report, list, track, refusing, readStep}
+use Rattle.readings.specs.Finished.{beside, finishedStep}
 use Rattle.page.specs.Page.{Paged, paged, pageStep}
 use Rattle.store.specs.Squeeze.{squeezeStep}
-use Rattle.machine.specs.Machine.{empty, Machine, workLeft, Turn, turn, putTurn, clearTurn, reweighTurn, advanceTurn, squeezeTurn}
+use Rattle.machine.specs.Machine.{empty, Machine, leftSum, seenPlaces, completePlaces, passedPlaces, workLeft, Turn, turn, putTurn, clearTurn, reweighTurn, advanceTurn, squeezeTurn}
 use Rattle.machine.specs.Holding.{floatsOf, wordsOf}
 use Rattle.machine.specs.Fresh.{workedAfresh, pageAfresh}
 
 -- the calls of demand 3's list
 pub data Call : Type 0 where
-  put : ℕ → Kernel → Call
+  -- into a place, a kernel, in a layer
+  put : ℕ → Kernel → ℕ → Call
   clear : ℕ → Call
   reweigh : ℕ → Float → Call
   advance : ℕ → Call
   squeeze : Call
-  read : Reading → Call
+  -- of a set of layers
+  read : ℕ → Reading → Call
+  -- the report of what is finished, of a set of layers
+  finished : ℕ → Convention → Call
   -- the wall page, into lent bytes
   page : List ℕ → Call
 
@@ -42,6 +47,10 @@ pub data Call : Type 0 where
 -- row 6: "place ≥ 32"
 abbrev pub inPlace : Machine → ℕ → Turn → Turn
 inPlace m i t = cond (ltb i placeLimit) t (turn m (refused NoPlace))
+
+-- 02, L5: "16 when a layer is above 15, after 6"
+abbrev pub inLayer : Machine → ℕ → Turn → Turn
+inLayer m l t = cond (leb l 15) t (turn m (refused NoLayer))
 
 -- row 8: "left > 0, for report, or density and list by mass with target > 0"; 02: "for 8 a track counts as a density"
 abbrev pub byTarget : Convention → Bool
@@ -55,9 +64,25 @@ needs (report v) = true
 needs (list v out) = byTarget v
 needs (track v points out) = byTarget v
 
--- any other reading is worked afresh; no reading changes the machine
-abbrev pub readTurn : Machine → Reading → Outcome
-readTurn m r = cond (needs r && ltb 0 (workLeft m)) (refusing r Unfinished) (workedAfresh (m .mesh) (m .places) r)
+-- "16 when a layer is above 15": a set of such a layer is a number of more than sixteen bits. "Left is then counted over
+-- the places in the set where a reading decides whether it is unfinished"; any other reading is worked afresh on those
+-- places; no reading changes the machine
+abbrev pub workSeen : Machine → ℕ → ℕ
+workSeen m layers = leftSum (m .mesh) (seenPlaces layers (m .places))
+
+abbrev pub readTurn : Machine → ℕ → Reading → Outcome
+readTurn m layers r =
+    cond (leb (2 ^ 16) layers) (refusing r NoLayer)
+    (cond (needs r && ltb 0 (workSeen m layers)) (refusing r Unfinished)
+    (workedAfresh (m .mesh) (seenPlaces layers (m .places)) r))
+
+-- 02, L7: "It equals the ordinary report of a store holding just those places, and demand 3 takes only those for it. It is
+-- never refused as unfinished": worked afresh on the places of its layers that have nothing left
+abbrev pub finishedTurn : Machine → ℕ → Convention → Answer
+finishedTurn m layers v =
+    let seen = seenPlaces layers (m .places) in
+    cond (leb (2 ^ 16) layers) (refused NoLayer)
+    (beside (passedPlaces (m .mesh) seen) (workedAfresh (m .mesh) (completePlaces (m .mesh) seen) (report v) .reply))
 
 abbrev pub given : Machine → Outcome → Turn
 given m a = record { next = m; reply = a .reply; out = a .out; page = [] }
@@ -70,12 +95,15 @@ abbrev pub posted : Machine → Paged → Turn
 posted m a = record { next = m; reply = a .reply; out = []; page = a .page }
 
 unfoldable pub machine : Machine → Call → Turn
-machine m (put i k) = inPlace m i (putTurn m i k (decomposed k (m .mesh .radius)) (fitOf k (m .mesh .radius)))
+machine m (put i k l) =
+    let r = m .mesh .radius in
+    inPlace m i (inLayer m l (putTurn m i k (decomposed k r) (fitOf k r) l))
 machine m (clear i) = inPlace m i (clearTurn m i (getD (m .places) i empty))
 machine m (reweigh i v) = inPlace m i (reweighTurn m i v (getD (m .places) i empty))
 machine m (advance n) = advanceTurn m n
 machine m squeeze = squeezeTurn m
-machine m (read r) = given m (readTurn m r)
+machine m (read ls r) = given m (readTurn m ls r)
+machine m (finished ls v) = turn m (finishedTurn m ls v)
 machine m (page bs) = posted m (pageTurn m bs)
 
 -- ---- the store
@@ -104,12 +132,13 @@ pinned s a = record { left = s; reply = a .reply; out = []; page = a .page }
 
 -- each call is the function of its contract
 unfoldable pub store : ℕ → Store → Call → Result
-store q s (put i k) = result (putStep q (s .floats) (s .words) i k)
+store q s (put i k l) = result (putStep q (s .floats) (s .words) i k l)
 store q s (clear i) = result (clearStep q (s .floats) (s .words) i)
 store q s (reweigh i v) = result (reweighStep q (s .floats) (s .words) i v)
 store q s (advance n) = result (advanceStep q (s .floats) (s .words) n)
 store q s squeeze = result (squeezeStep q (s .floats) (s .words))
-store q s (read r) = seen s (readStep q (s .floats) (s .words) r)
+store q s (read ls r) = seen s (readStep q (s .floats) (s .words) ls r)
+store q s (finished ls v) = seen s (outcome (finishedStep q (s .floats) (s .words) ls v) [])
 store q s (page bs) = pinned s (pageStep q (s .floats) (s .words) bs)
 
 -- ---- a list of calls: each gets what the call before it left
@@ -131,22 +160,24 @@ holding m xs ys =
 
 -- ---- the sums: "charged is the need summed over accepted puts' answers"; a refused call answers no count
 abbrev pub chargedBy : Call → Answer → ℕ
-chargedBy (put i k) r = getD (r .counts) 1 0
+chargedBy (put i k l) r = getD (r .counts) 1 0
 chargedBy (clear i) r = 0
 chargedBy (reweigh i v) r = 0
 chargedBy (advance n) r = 0
 chargedBy squeeze r = 0
-chargedBy (read x) r = 0
+chargedBy (read ls x) r = 0
+chargedBy (finished ls v) r = 0
 chargedBy (page bs) r = 0
 
 -- the steps that an advance answers
 abbrev pub doneBy : Call → Answer → ℕ
-doneBy (put i k) r = 0
+doneBy (put i k l) r = 0
 doneBy (clear i) r = 0
 doneBy (reweigh i v) r = 0
 doneBy (advance n) r = getD (r .counts) 0 0
 doneBy squeeze r = 0
-doneBy (read x) r = 0
+doneBy (read ls x) r = 0
+doneBy (finished ls v) r = 0
 doneBy (page bs) r = 0
 
 -- the left that an advance answers
@@ -164,12 +195,13 @@ doneIn q s (c ∷ cs) = doneBy c (store q s c .reply) + doneIn q (store q s c .l
 -- ---- a list without its squeezes, and what its other calls answer and write into what is lent beside the store
 abbrev pub without : List Call → List Call
 without [] = []
-without (put i k ∷ cs) = put i k ∷ without cs
+without (put i k l ∷ cs) = put i k l ∷ without cs
 without (clear i ∷ cs) = clear i ∷ without cs
 without (reweigh i v ∷ cs) = reweigh i v ∷ without cs
 without (advance n ∷ cs) = advance n ∷ without cs
 without (squeeze ∷ cs) = without cs
-without (read r ∷ cs) = read r ∷ without cs
+without (read ls r ∷ cs) = read ls r ∷ without cs
+without (finished ls v ∷ cs) = finished ls v ∷ without cs
 without (page bs ∷ cs) = page bs ∷ without cs
 
 -- of one call: its reply, and what is lent beside the store as it is then
@@ -179,12 +211,13 @@ pub record Heard : Type 0 where
   pub page : List ℕ
 
 abbrev pub others : Call → Heard → List Heard → List Heard
-others (put i k) o os = o ∷ os
+others (put i k l) o os = o ∷ os
 others (clear i) o os = o ∷ os
 others (reweigh i v) o os = o ∷ os
 others (advance n) o os = o ∷ os
 others squeeze o os = os
-others (read r) o os = o ∷ os
+others (read ls r) o os = o ∷ os
+others (finished ls v) o os = o ∷ os
 others (page bs) o os = o ∷ os
 
 abbrev pub hearing : Result → Heard

@@ -4,11 +4,11 @@
 use mathlib.Core.Path.{_≡_}
 use mathlib.Core.Bool.{true}
 use mathlib.Core.List.{List, [], _∷_}
-use Prim.Native.Nat.{ℕ, _+_, _*_, _/_, _≤_, _<_}
+use Prim.Native.Nat.{ℕ, _+_, _*_, _/_, _^_, _≤_, _<_}
 use lib.ListN.{length}
 use lib.Ieee.{Float}
 use Rattle.base.specs.Answers.{Answer, refused, counted, outcome}
-use Rattle.base.specs.declared.refusal.Refusal.the-variants.{Unfinished}
+use Rattle.base.specs.declared.refusal.Refusal.the-variants.{Unfinished, NoLayer}
 use Rattle.base.specs.Floats.{+0}
 use Rattle.layout.specs.Runs.{write}
 use Rattle.kernel.specs.declared.kernel.Kernel.{Kernel}
@@ -16,12 +16,14 @@ use Rattle.pieces.specs.Lists.{fittedAll, listDecomposition}
 use Rattle.layout.specs.Layout.{width}
 use Rattle.layout.specs.After.{After, after}
 use Rattle.store.specs.Calls.{openStep}
-use Rattle.readings.specs.Readings.{Reading, sixes}
-use Rattle.machine.specs.Machine.{Mesh, Machine, workLeft, opened, openRow}
+use Rattle.readings.specs.Readings.{Reading, report, sixes}
+use Rattle.readings.specs.Finished.{beside}
+use Rattle.density.specs.declared.convention.Convention.{Convention}
+use Rattle.machine.specs.Machine.{Mesh, Machine, seenPlaces, completePlaces, passedPlaces, workLeft, opened, openRow}
 use Rattle.machine.specs.Holding.{excessF, excessW}
 use Rattle.machine.specs.Valid.{Valid}
 use Rattle.machine.specs.Fresh.{kernelsOf, allPieces, worstFrom, workedAfresh, pageAfresh}
-use Rattle.machine.specs.Calls.{Call, advance, read, page, needs, machine, Store, store, leaves, after-all, holding, leftIn, chargedIn, doneIn, without, heard}
+use Rattle.machine.specs.Calls.{Call, advance, read, finished, page, needs, workSeen, machine, Store, store, leaves, after-all, holding, leftIn, chargedIn, doneIn, without, heard}
 
 -- ---- one call c: the store s beside the machine m, which "gets that opening and the same calls"; exF and exW are the
 -- excess of the two runs, as the opening found it
@@ -39,18 +41,43 @@ pub record Same (q : ℕ) (exF : List Float) (exW : List ℕ) (m : Machine) (s :
   -- word of both; past the fields come the words that squeezes freed, which are zero, and the excess
   pub fields : store q s c .left ≡ holding (machine m c .next) exF exW
 
--- ---- a reading r anywhere in a list; mesh is the mesh opened, of which squeezes may have dropped vertices in m
-pub record Read (q : ℕ) (mesh : Mesh) (m : Machine) (s : Store) (r : Reading) : Type 0 where
-  -- "A reading is refused as unfinished exactly when the machine has work left that this reading needs."
-  pub unfinished : needs r ≡ true → 0 < workLeft m → store q s (read r) .reply ≡ refused Unfinished
-  pub only-then : store q s (read r) .reply ≡ refused Unfinished → (needs r ≡ true) × (0 < workLeft m)
+-- ---- a reading r of a set of layers, anywhere in a list; mesh is the mesh opened, of which squeezes may have dropped
+-- vertices in m
+pub record Read (q : ℕ) (mesh : Mesh) (m : Machine) (s : Store) (layers : ℕ) (r : Reading) : Type 0 where
+  -- 02, L5: "16 when a layer is above 15"; "demand 3 speaks of readings that 16 lets pass"
+  pub no-layer : 2 ^ 16 ≤ layers → store q s (read layers r) .reply ≡ refused NoLayer
+  pub one-of-sixteen : store q s (read layers r) .reply ≡ refused NoLayer → 2 ^ 16 ≤ layers
+  -- "A reading is refused as unfinished exactly when the machine has work left that this reading needs": "Left is then
+  -- counted over the places in the set"
+  pub unfinished : layers < 2 ^ 16 → needs r ≡ true → 0 < workSeen m layers
+      → store q s (read layers r) .reply ≡ refused Unfinished
+  pub only-then : store q s (read layers r) .reply ≡ refused Unfinished
+      → (layers < 2 ^ 16) × ((needs r ≡ true) × (0 < workSeen m layers))
   -- "Any other reading, its run long enough, answers and writes what demand 2's functions give, worked afresh on the
-  -- mesh opened and the kernels then in the machine's places"; both give 9 where a list's run is too short, and 14 of a track
-  pub afresh : (store q s (read r) .reply ≡ refused Unfinished → ⊥)
-      → (store q s (read r) .reply ≡ workedAfresh mesh (m .places) r .reply)
-      × (store q s (read r) .out ≡ workedAfresh mesh (m .places) r .out)
+  -- mesh opened and the kernels then in the machine's places", those that it sees; both give 9 where a list's run is too
+  -- short, and 14 of a track
+  pub afresh : layers < 2 ^ 16 → (store q s (read layers r) .reply ≡ refused Unfinished → ⊥)
+      → (store q s (read layers r) .reply ≡ workedAfresh mesh (seenPlaces layers (m .places)) r .reply)
+      × (store q s (read layers r) .out ≡ workedAfresh mesh (seenPlaces layers (m .places)) r .out)
+  -- "with all sixteen it reads as before": all places are seen
+  pub all-sixteen : seenPlaces 65535 (m .places) ≡ m .places
   -- "no reading alters a kept weight", nor any other word of the store
-  pub kept : store q s (read r) .left ≡ s
+  pub kept : store q s (read layers r) .left ≡ s
+
+-- ---- 02, L7: a report of what is finished, of a set of layers, anywhere in a list
+pub record Partly (q : ℕ) (mesh : Mesh) (m : Machine) (s : Store) (layers : ℕ) (v : Convention) : Type 0 where
+  pub no-layer : 2 ^ 16 ≤ layers → store q s (finished layers v) .reply ≡ refused NoLayer
+  -- "It is never refused as unfinished"; any other answers what demand 2's functions give, worked afresh on the mesh opened
+  -- and the kernels in those places of its layers that have nothing left: "demand 3 takes only those for it"; beside it
+  -- how many others of its layers are filled
+  pub afresh : layers < 2 ^ 16 → store q s (finished layers v) .reply
+      ≡ beside (passedPlaces mesh (seenPlaces layers (m .places)))
+      (workedAfresh mesh (completePlaces mesh (seenPlaces layers (m .places))) (report v) .reply)
+  -- "It equals the ordinary report of a store holding just those places": with nothing left in its layers it passes over none,
+  -- and is the ordinary report
+  pub whole : layers < 2 ^ 16 → workSeen m layers ≡ 0
+      → store q s (finished layers v) .reply ≡ beside 0 (store q s (read layers (report v)) .reply)
+  pub kept : store q s (finished layers v) .left ≡ s
 
 -- ---- 02, L8: a page anywhere in a list, into the bytes bs
 pub record Post (q : ℕ) (mesh : Mesh) (m : Machine) (s : Store) (bs : List ℕ) : Type 0 where
@@ -71,7 +98,7 @@ pub record Post (q : ℕ) (mesh : Mesh) (m : Machine) (s : Store) (bs : List ℕ
 pub data Each (q : ℕ) (exF : List Float) (exW : List ℕ) (mesh : Mesh) : Machine → Store → List Call → Type 0 where
   end : {m : Machine} {s : Store} → Each q exF exW mesh m s []
   next : {m : Machine} {s : Store} {c : Call} {cs : List Call}
-      → Same q exF exW m s c → ((r : Reading) → Read q mesh m s r) → ((bs : List ℕ) → Post q mesh m s bs)
+      → Same q exF exW m s c → ((layers : ℕ) (r : Reading) → Read q mesh m s layers r) → ((layers : ℕ) (v : Convention) → Partly q mesh m s layers v) → ((bs : List ℕ) → Post q mesh m s bs)
       → Each q exF exW mesh (machine m c .next) (store q s c .left) cs → Each q exF exW mesh m s (c ∷ cs)
 
 -- ---- the pieces worked afresh are demand 2's too: the call that decomposes a list of kernels ks, six floats each,

@@ -26,7 +26,7 @@ use Rattle.machine.specs.Machine.{Mesh, Place, empty, full}
 -- ---- "the machine's filled places in order": their kernels
 abbrev pub kernelOf : Place → List Kernel
 kernelOf empty = []
-kernelOf (full k fit p) = k ∷ []
+kernelOf (full k fit p l) = k ∷ []
 
 abbrev pub kernelsOf : List Place → List Kernel
 kernelsOf [] = []
@@ -92,7 +92,7 @@ workedAfresh m ss r =
 -- is the place's own field mass": `kernel_field_mass` of its pieces alone. Place i, and the places from i on
 abbrev pub freshRow : Mesh → ℕ → Place → List Row
 freshRow m i empty = []
-freshRow m i (full k fit p) = row i (decomposed k (m .radius) .count) (massOf m (piecesOf (m .radius) k)) ∷ []
+freshRow m i (full k fit p l) = row i (decomposed k (m .radius) .count) (massOf m (piecesOf (m .radius) k)) ∷ []
 
 abbrev pub freshRows : Mesh → ℕ → List Place → List Row
 freshRows m i [] = []

@@ -20,7 +20,7 @@ use Rattle.machine.specs.Machine.{Mesh, Place, empty, full}
 -- "place i's c, sigma, w, alpha, error"; "Unused fields are zero"
 abbrev pub floats7 : Place → List Float
 floats7 empty = replicate 7 +0
-floats7 (full k fit p) =
+floats7 (full k fit p l) =
     getD (k .c) 0 nan ∷ getD (k .c) 1 nan ∷ getD (k .c) 2 nan ∷ k .sigma ∷ k .w ∷ k .alpha ∷ fit .error ∷ []
 
 abbrev pub triangles : Mesh → ℕ → Triangle
@@ -40,7 +40,7 @@ cells m k fit (suc n) j t =
 -- "Unused fields are zero": those of the pieces past its last
 abbrev pub floats48 : Mesh → Place → List Float
 floats48 m empty = replicate 48 +0
-floats48 m (full k fit p) = cells m k fit (fit .count) 0 p ++ replicate (48 - 3 * fit .count) +0
+floats48 m (full k fit p l) = cells m k fit (fit .count) 0 p ++ replicate (48 - 3 * fit .count) +0
 
 -- rows one behind the other
 abbrev pub flat : {A : Type 0} → List (List A) → List A
@@ -54,15 +54,15 @@ floatsOf m ss xs = m .radius ∷ (flat (map floats7 ss) ++ (flat (map (floats48 
 -- ---- the u32 run
 
 -- "status (0 empty, else 1 + pieces), pieces finished, faces done in the current piece"; "with F = 0 all are finished",
--- and p is 0, so p % 0 is 0 too
+-- and p is 0, so p % 0 is 0 too. 02, L5: "four, with the layer last, 0 for an empty place"
 abbrev pub finished : Mesh → Pieces → ℕ → ℕ
 finished m fit p = cond (eqb (m .faces) 0) (fit .count) (p / m .faces)
 
 abbrev pub placeRow : Mesh → Place → List ℕ
-placeRow m empty = 0 ∷ 0 ∷ 0 ∷ []
-placeRow m (full k fit p) = (1 + fit .count) ∷ finished m fit p ∷ p % m .faces ∷ []
+placeRow m empty = 0 ∷ 0 ∷ 0 ∷ 0 ∷ []
+placeRow m (full k fit p l) = (1 + fit .count) ∷ finished m fit p ∷ p % m .faces ∷ l ∷ []
 
--- "V, F; from 2+3i ..; from 98 corners", then what lies past the store's own words
+-- "V, F; from 2+3i [2+4i] ..; from 98 [130] corners", then what lies past the store's own words
 unfoldable pub wordsOf : Mesh → List Place → List ℕ → List ℕ
 wordsOf m ss ys = m .verts ∷ m .faces ∷ (flat (map (placeRow m) ss) ++ (m .corners ++ ys))
 

@@ -24,10 +24,11 @@ pub record Mesh : Type 0 where
   pub verts : ℕ
   pub faces : ℕ
 
--- "each place is empty or (kernel, steps p)"; a filled one keeps the pieces that its decomposition gave
+-- "each place is empty or (kernel, steps p)"; a filled one keeps the pieces that its decomposition gave, and 02, L5: "Each
+-- place, the machine's too, gets a layer number from 0 to 15". In `full k fit p l`, p are the steps and l is the layer
 pub data Place : Type 0 where
   empty : Place
-  full : Kernel → Pieces → ℕ → Place
+  full : Kernel → Pieces → ℕ → ℕ → Place
 
 -- "pieces is how many its decomposition gives, need = pieces times F"
 abbrev pub need : Mesh → Pieces → ℕ
@@ -36,7 +37,7 @@ need m fit = fit .count * m .faces
 -- need - p, "0 for an empty place"
 abbrev pub leftPlace : Mesh → Place → ℕ
 leftPlace m empty = 0
-leftPlace m (full k fit p) = need m fit - p
+leftPlace m (full k fit p l) = need m fit - p
 
 -- "left, the sum of need - p"
 abbrev pub leftSum : Mesh → List Place → ℕ
@@ -46,7 +47,7 @@ leftSum m (s ∷ ss) = leftPlace m s + leftSum m ss
 -- u steps more
 abbrev pub adv : ℕ → Place → Place
 adv u empty = empty
-adv u (full k fit p) = full k fit (p + u)
+adv u (full k fit p l) = full k fit (p + u) l
 
 pub record Machine : Type 0 where
   pub mesh : Mesh
@@ -107,7 +108,7 @@ openRow q xs ks a b =
     (cond (ltb 1048576 v || ltb 2097152 f) 2
     -- "index ≥ V"
     (cond (looseIn v ks) 3
-    -- "below 1,761+3V floats or 98+3F words": 98 is 2 + 32q
+    -- "below 1,761+3V floats or 98+3F words", and by 02's L5 "below 130+3F words": 98 and 130 are 2 + 32q
     (cond (ltb a (1761 + 3 * v) || ltb b (2 + 32 * q + 3 * f)) 4 0)))
 
 -- 02, L4: "put answers one of kept, fitted with that pivot, fallback with that column, or no exponent": which one and
@@ -125,25 +126,25 @@ endFloats (Fallback column) = +0 ∷ []
 endFloats NoExponent = +0 ∷ []
 
 -- "Put: charged += need, dropped += the old need - p (0 for an empty place), p = 0. Answers pieces and need", and how
--- the fit ended, which the place does not keep
-abbrev pub putTurn : Machine → ℕ → Kernel → Pieces → Fit → Turn
-putTurn m i k fit end =
+-- the fit ended, which the place does not keep; the layer is "given at put"
+abbrev pub putTurn : Machine → ℕ → Kernel → Pieces → Fit → ℕ → Turn
+putTurn m i k fit end l =
     let old = getD (m .places) i empty in
-    turn (with-places m (set (m .places) i (full k fit 0)) (need (m .mesh) fit) (leftPlace (m .mesh) old))
+    turn (with-places m (set (m .places) i (full k fit 0 l)) (need (m .mesh) fit) (leftPlace (m .mesh) old))
     (record { refusal = 0; counts = fit .count ∷ need (m .mesh) fit ∷ endCounts end; floats = endFloats end })
 
 -- "Clear: dropped += need - p; empty."
 abbrev pub clearTurn : Machine → ℕ → Place → Turn
 clearTurn m i empty = turn m (refused Vacant)
-clearTurn m i (full k fit p) = turn (with-places m (set (m .places) i empty) 0 (need (m .mesh) fit - p)) done
+clearTurn m i (full k fit p l) = turn (with-places m (set (m .places) i empty) 0 (need (m .mesh) fit - p)) done
 
--- "Reweigh: new w, p kept."
+-- "Reweigh: new w, p kept."; the layer is "kept at a reweigh"
 abbrev pub weighed : Kernel → Float → Kernel
 weighed k v = record { c = k .c; sigma = k .sigma; w = v; alpha = k .alpha }
 
 abbrev pub reweighTurn : Machine → ℕ → Float → Place → Turn
 reweighTurn m i v empty = turn m (refused Vacant)
-reweighTurn m i v (full k fit p) = turn (with-places m (set (m .places) i (full (weighed k v) fit p)) 0 0) done
+reweighTurn m i v (full k fit p l) = turn (with-places m (set (m .places) i (full (weighed k v) fit p l)) 0 0) done
 
 -- "Advance(n, u64): does min(n, left) steps, lowest unfinished place first, one face of one piece each; the step count
 -- in its result is done, beside left"
@@ -158,6 +159,33 @@ abbrev pub advanceTurn : Machine → ℕ → Turn
 advanceTurn m n =
     let ss = iterate (bump (m .mesh)) (stepsOf m n) (m .places) in
     turn (with-places m ss 0 0) (counted (stepsOf m n ∷ leftSum (m .mesh) ss ∷ []))
+
+-- ---- 02, L5: "Each reading takes a set of layers and sees only places in it"
+
+-- a set of layers is a number, bit l for layer l: the l-th digit to base 2
+abbrev pub among : ℕ → ℕ → Bool
+among zero layers = eqb (layers % 2) 1
+among (suc l) layers = among l (layers / 2)
+
+-- a place that a reading of these layers does not see is to it an empty one
+abbrev pub seenPlace : ℕ → Place → Place
+seenPlace layers empty = empty
+seenPlace layers (full k fit p l) = cond (among l layers) (full k fit p l) empty
+
+abbrev pub seenPlaces : ℕ → List Place → List Place
+seenPlaces layers ss = map (seenPlace layers) ss
+
+-- ---- 02, L7: "It covers only the places whose steps are complete, and says how many filled places of its layers it
+-- passed over": of the places that it sees, those with nothing left, and how many have something left
+abbrev pub completePlace : Mesh → Place → Place
+completePlace m s = cond (eqb (leftPlace m s) 0) s empty
+
+abbrev pub completePlaces : Mesh → List Place → List Place
+completePlaces m ss = map (completePlace m) ss
+
+abbrev pub passedPlaces : Mesh → List Place → ℕ
+passedPlaces m [] = 0
+passedPlaces m (s ∷ ss) = cond (eqb (leftPlace m s) 0) 0 1 + passedPlaces m ss
 
 -- ---- 02, L12, on the machine's mesh alone
 

@@ -15,9 +15,9 @@ use Rattle.mass.specs.Calls.{kernelVolumeCall}
 use Rattle.density.specs.Densitize.{densitized}
 use Rattle.layout.specs.Layout.{width, placeLimit, pieceLimit, pieceFrom}
 use Rattle.store.specs.Calls.{openStep}
-use Rattle.readings.specs.Readings.{density, report, list, track, six}
+use Rattle.readings.specs.Readings.{Reading, density, report, list, track, six}
 use Rattle.machine.specs.Machine.{openRow}
-use Rattle.machine.specs.Calls.{Call, put, clear, reweigh, advance, squeeze, read, page, Store, store, leaves, Heard, hearing}
+use Rattle.machine.specs.Calls.{Call, put, clear, reweigh, advance, squeeze, read, finished, page, Store, store, leaves, Heard, hearing}
 use Rattle.machine.specs.Demands.{leaving}
 
 -- ---- two lists of calls that differ only in signs of sigmas of kernels that stay: they are the same without these
@@ -28,12 +28,13 @@ unsigned k =
     record { c = k .c; sigma = cond (stays (k .alpha)) (abs (k .sigma)) (k .sigma); w = k .w; alpha = k .alpha }
 
 abbrev pub unsignedCall : Call → Call
-unsignedCall (put i k) = put i (unsigned k)
+unsignedCall (put i k l) = put i (unsigned k) l
 unsignedCall (clear i) = clear i
 unsignedCall (reweigh i v) = reweigh i v
 unsignedCall (advance n) = advance n
 unsignedCall squeeze = squeeze
-unsignedCall (read r) = read r
+unsignedCall (read ls r) = read ls r
+unsignedCall (finished ls v) = finished ls v
 unsignedCall (page bs) = page bs
 
 -- ---- what they answer and write: the same, but that a list writes the sigmas as they are
@@ -44,17 +45,21 @@ unsignedRun zero xs = xs
 unsignedRun (suc n) xs = set (take 6 xs) 3 (abs (getD xs 3 nan)) ++ unsignedRun n (drop 6 xs)
 
 -- an answer with the run: of a list, which "answers the piece count", without those signs; all other floats as they are
+abbrev pub unsignedRead : Reading → Heard → Heard
+unsignedRead (density v x) o = o
+unsignedRead (report v) o = o
+unsignedRead (list v out) o =
+    record { reply = o .reply; out = unsignedRun (getD (o .reply .counts) 0 0) (o .out); page = o .page }
+unsignedRead (track v points out) o = o
+
 abbrev pub unsignedHeard : Call → Heard → Heard
-unsignedHeard (put i k) o = o
+unsignedHeard (put i k l) o = o
 unsignedHeard (clear i) o = o
 unsignedHeard (reweigh i v) o = o
 unsignedHeard (advance n) o = o
 unsignedHeard squeeze o = o
-unsignedHeard (read (density v x)) o = o
-unsignedHeard (read (report v)) o = o
-unsignedHeard (read (list v out)) o =
-    record { reply = o .reply; out = unsignedRun (getD (o .reply .counts) 0 0) (o .out); page = o .page }
-unsignedHeard (read (track v points out)) o = o
+unsignedHeard (read ls r) o = unsignedRead r o
+unsignedHeard (finished ls v) o = o
 unsignedHeard (page bs) o = o
 
 abbrev pub said : ℕ → Store → List Call → List Heard
@@ -75,8 +80,8 @@ pub record SignsUnseen : Type 0 where
   pub volume : (xs : List Float) (ks : List ℕ) (c : V3) (sigma : Float)
       → kernelVolumeCall xs ks c (neg sigma) ≡ kernelVolumeCall xs ks c sigma
   -- a kernel that stays may be put with the negative of its sigma
-  pub put-turned : (i : ℕ) (k : Kernel) → stays (k .alpha) ≡ true
-      → unsignedCall (put i (turned k)) ≡ unsignedCall (put i k)
+  pub put-turned : (i : ℕ) (k : Kernel) (l : ℕ) → stays (k .alpha) ≡ true
+      → unsignedCall (put i (turned k) l) ≡ unsignedCall (put i k l)
   -- and no store sees it: r, xs, ks, fs and ws are those of an accepted opening, cs and ds any such lists of calls
   pub every-list : (r : Float) (xs : List Float) (ks : List ℕ) (fs : List Float) (ws : List ℕ)
       → openRow width xs ks (length fs) (length ws) ≡ 0

@@ -2,7 +2,7 @@
 use mathlib.Core.Path.{_≡_}
 use mathlib.Core.Bool.{true}
 use mathlib.Core.List.{List}
-use Prim.Native.Nat.{ℕ, _*_, _≤_}
+use Prim.Native.Nat.{ℕ, _*_, _≤_, _<_}
 use lib.ListN.{length, getD}
 use Rattle.mesh.specs.Checks.{vertexLimit, faceLimit, allBelow}
 use Rattle.kernel.specs.declared.kernel.Kernel.{Kernel}
@@ -11,16 +11,18 @@ use Rattle.pieces.specs.Pieces.{decomposed}
 use Rattle.machine.specs.Machine.{Mesh, Place, empty, full, need}
 
 -- a filled place
-pub record Okay (m : Mesh) (k : Kernel) (fit : Pieces) (p : ℕ) : Type 0 where
+pub record Okay (m : Mesh) (k : Kernel) (fit : Pieces) (p l : ℕ) : Type 0 where
   -- its pieces are those that its kernel's decomposition gives: "So a kernel has at most 16 pieces"
   pub fitted : fit ≡ decomposed k (m .radius)
   pub few : fit .count ≤ 16
   -- its steps are within its need
   pub steps : p ≤ need m fit
+  -- its layer is one of sixteen
+  pub layer : l < 16
 
 abbrev pub Within : Mesh → Place → Type 0
 Within m empty = Unit {0}
-Within m (full k fit p) = Okay m k fit p
+Within m (full k fit p l) = Okay m k fit p l
 
 -- a mesh that an opening does not refuse
 pub record Shape (m : Mesh) : Type 0 where

@@ -2,18 +2,19 @@
 use Prim.Native.Nat.{ℕ, zero, suc, _-_}
 use mathlib.Core.Bool.{Bool, true, _&&_, cond}
 use mathlib.Core.List.{List, [], _∷_, _++_}
-use lib.Dec.{leb, eqb}
+use lib.Dec.{ltb, leb, eqb}
 use lib.IntN.{ℤ, pos, negsuc, _+ℤ_}
 use lib.ListN.{length, replicate}
 use lib.Ieee.{Float}
 use Rattle.base.specs.Answers.{Answer, counted, refused, andThen}
-use Rattle.base.specs.declared.refusal.Refusal.the-variants.{NoFigure, ShortPage}
+use Rattle.base.specs.declared.refusal.Refusal.the-variants.{Unfinished, NoFigure, ShortPage}
 use Rattle.base.specs.declared.refusal.Checked.{Checked}
 use Rattle.base.specs.declared.refusal.Checked.the-variants.{Passed, Failed}
 use Rattle.layout.specs.Runs.{write}
-use Rattle.layout.specs.Layout.{placeLimit, statusOf}
+use Rattle.layout.specs.Layout.{placeLimit, facesOf, statusOf}
+use Rattle.layout.specs.Soundness.{storeCheck}
+use Rattle.layout.specs.Left.{leftOf}
 use Rattle.readings.specs.Readings.{rawMass, heldAt}
-use Rattle.readings.specs.Checks.{readCheck}
 use Rattle.text.specs.Text.{bytes}
 use Rattle.text.specs.Print.{decimalText}
 use Rattle.whole.specs.Whole.{rounded, printable}
@@ -114,6 +115,11 @@ unfoldable pub heldRows : ℕ → List Float → List ℕ → ℕ → List Row
 heldRows q fs ws zero = []
 heldRows q fs ws (suc k) = heldRows q fs ws k ++ rowAt fs k (statusOf q ws k)
 
--- the contract. "It is given only when nothing is left to do, else 8": 4, 5 and 8 as for a report
+-- rows 4, 5 and 8: "It is given only when nothing is left to do, else 8"; "The page takes places of every layer"
+unfoldable pub doneCheck : ℕ → List Float → List ℕ → Checked
+doneCheck q fs ws =
+    andThen (storeCheck q fs ws) (cond (ltb 0 (leftOf q ws (facesOf ws) placeLimit)) (Failed Unfinished) Passed)
+
+-- the contract
 unfoldable pub pageStep : ℕ → List Float → List ℕ → List ℕ → Paged
-pageStep q fs ws bs = guardedPage (readCheck q fs ws true) bs (pageAnswer (heldRows q fs ws placeLimit) bs)
+pageStep q fs ws bs = guardedPage (doneCheck q fs ws) bs (pageAnswer (heldRows q fs ws placeLimit) bs)

@@ -6,7 +6,7 @@ ghost use lib.ListN.{length};
 ghost use Rattle.layout.specs.Runs.{write};
 ghost use Rattle.layout.specs.Layout.{width, placeLimit, coordsFrom};
 ghost use Rattle.layout.specs.SoundLaws.{Worded};
-ghost use Rattle.page.specs.Page.{paged, allPrintable, heldRows, pageOf, pageAnswer, pageStep};
+ghost use Rattle.page.specs.Page.{doneCheck, paged, allPrintable, heldRows, pageOf, pageAnswer, pageStep};
 ghost use Rattle.page.specs.PageAnswer.{pageRead};
 use crate::lines::write_total;
 use crate::masses::Sums;
@@ -15,12 +15,13 @@ use crate::masses::place_line;
 use crate::masses::total;
 use base::refusal::Checked;
 use base::refusal::Refusal;
+use layout::check::check_store;
+use layout::left::left;
 use layout::offsets::PLACES;
 use layout::offsets::STATE;
 use layout::offsets::WIDTH;
 use layout::runs::word;
 use readings::counts::count_filled;
-use readings::shared::check_read;
 
 // The answer of a page: how many bytes it has.
 pub enum PageRead {
@@ -62,11 +63,25 @@ fn page_of(floats: &[f64], words: &[u32], faces: usize, out: &mut [u8]) -> PageR
     PageRead::Bytes(need as u64)
 }
 
+// Refusal 4, 5 or 8: a page takes places of every layer, so that work left in any of them refuses it.
+fn check_done(floats: &[f64], words: &[u32]) -> Checked
+    ensures { λ r. ⌜ r ≡ doneCheck width (now (floats .entry)) (now (words .entry)) ⌝ }
+{
+    match check_store(floats, words) {
+        Checked::Failed(r) => Checked::Failed(r),
+        Checked::Passed => if 0 < left(words, word(words, 1)) {
+            Checked::Failed(Refusal::Unfinished)
+        } else {
+            Checked::Passed
+        },
+    }
+}
+
 // Writes the page of a store whose work is done into lent bytes.
 pub fn page(floats: &[f64], words: &[u32], out: &mut [u8]) -> PageRead
     ensures { λ r. ⌜ paged (pageRead r) (now (out .exit)) ≡ pageStep width (now (floats .entry)) (now (words .entry)) (now (out .entry)) ⌝ }
 {
-    match check_read(floats, words, true) {
+    match check_done(floats, words) {
         Checked::Failed(r) => PageRead::Refused(r),
         Checked::Passed => page_of(floats, words, word(words, 1), out),
     }

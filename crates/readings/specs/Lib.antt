@@ -7,6 +7,8 @@ pub mod Lists
 pub mod Checks
 pub mod ReadLaws
 pub mod ReportAnswer
+pub mod Finished
+pub mod FinishedAnswer
 pub mod ListAnswer
 pub mod TrackAnswer
 pub mod TrackLaws

@@ -5,7 +5,7 @@ use Prim.Native.Nat.{ℕ, zero, suc, _+_, _*_, _-_, _/_, _%_}
 use lib.Dec.{ltb, leb, eqb}
 use lib.ListN.{length, getD}
 use lib.Ieee.{Float, nan, lt}
-use Rattle.base.specs.Answers.{Answer, accepted, refused, counted, Outcome, outcome, guardedRun, roomCheck}
+use Rattle.base.specs.Answers.{Answer, accepted, refused, counted, Outcome, outcome, guardedRun, roomCheck, andThen}
 use Rattle.base.specs.Floats.{_⊕_, _⊗_, +0, greater}
 use Rattle.base.specs.Loops.{times}
 use Rattle.base.specs.declared.refusal.Refusal.{Refusal}
@@ -25,6 +25,7 @@ use Rattle.density.specs.Reports.{reportValues, reportOf}
 use Rattle.layout.specs.Layout.{placeLimit, centreOf, weightOf, alphaOf, errorOf, pieceFrom, vertsOf, facesOf, statusOf}
 use Rattle.layout.specs.Soundness.{storeCheck}
 use Rattle.layout.specs.Left.{held, leftOf}
+use Rattle.layout.specs.Layers.{layersCheck, inLayers}
 use Rattle.readings.specs.Along.{along}
 
 -- ---- a reading and its convention
@@ -182,14 +183,23 @@ unfoldable pub heldWorst : ℕ → List Float → List ℕ → ℕ → Float
 heldWorst q fs ws zero = +0
 heldWorst q fs ws (suc k) = cond (eqb (statusOf q ws k) 0) (heldWorst q fs ws k) (greater (heldWorst q fs ws k) (errorOf fs k))
 
+-- all places, in a mesh of the volume `body`
+abbrev pub seenBy : ℕ → List Float → List ℕ → Float → Seen
+seenBy q fs ws body =
+    seeing (heldAll q fs ws placeLimit) body (heldFilled q ws placeLimit) (heldWorst q fs ws placeLimit)
+
 unfoldable pub heldSeen : ℕ → List Float → List ℕ → Seen
-heldSeen q fs ws =
-    seeing (heldAll q fs ws placeLimit) (bodyVolume (held q fs ws (vertsOf ws) (facesOf ws)) (facesOf ws)) (heldFilled q ws placeLimit) (heldWorst q fs ws placeLimit)
+heldSeen q fs ws = seenBy q fs ws (bodyVolume (held q fs ws (vertsOf ws) (facesOf ws)) (facesOf ws))
 
 -- the contract of the four readings; none changes the store
 abbrev pub guardedRead : Checked → Reading → Outcome → Outcome
 guardedRead Passed r good = good
 guardedRead (Failed e) r good = refusing r e
 
-unfoldable pub readStep : ℕ → List Float → List ℕ → Reading → Outcome
-readStep q fs ws r = guardedRead (storeCheck q fs ws) r (readingOf r (leftOf q ws (facesOf ws) placeLimit) (heldSeen q fs ws))
+-- 02, L5: a reading of a set of layers is that of the store whose other places are empty; "16 when a layer is above 15"
+-- comes after 5 and before 8
+unfoldable pub readStep : ℕ → List Float → List ℕ → ℕ → Reading → Outcome
+readStep q fs ws layers r =
+    let seen = inLayers q layers ws in
+    guardedRead (andThen (storeCheck q fs ws) (layersCheck layers)) r
+    (readingOf r (leftOf q seen (facesOf seen) placeLimit) (heldSeen q fs seen))

@@ -11,6 +11,7 @@ ghost use Rattle.readings.specs.Readings;
 ghost use Rattle.readings.specs.ListAnswer.{listRead};
 use crate::counts::count_pieces;
 use crate::lists::write_list;
+use crate::seen::seen_places;
 use crate::shared::by_mass;
 use crate::shared::check_read;
 use crate::shared::scale_of;
@@ -46,12 +47,17 @@ fn list_pieces(
     }
 }
 
-// Writes the pieces into a lent run, six floats each, under a convention.
-pub fn list(floats: &[f64], words: &[u32], v: Convention, out: &mut [f64]) -> ListRead
-    ensures { λ r. ⌜ outcome (listRead r) (now (out .exit)) ≡ readStep width (now (floats .entry)) (now (words .entry)) (Readings.list v (now (out .entry))) ⌝ }
+// Writes the pieces of the places in some layers into a lent run, six floats each, under a convention.
+pub fn list(floats: &[f64], words: &[u32], v: Convention, layers: u32, out: &mut [f64]) -> ListRead
+    ensures { λ r. ⌜ outcome (listRead r) (now (out .exit))
+        ≡ readStep width (now (floats .entry)) (now (words .entry)) layers (Readings.list v (now (out .entry))) ⌝ }
 {
-    match check_read(floats, words, by_mass(v)) {
+    match check_read(floats, words, layers, by_mass(v)) {
         Checked::Failed(r) => ListRead::Refused(r),
-        Checked::Passed => list_pieces(v, floats, words, word(words, 1), out),
+        Checked::Passed => {
+            let faces = word(words, 1);
+            let seen = seen_places(words, layers, faces);
+            list_pieces(v, floats, &seen, faces, out)
+        }
     }
 }

@@ -1,18 +1,20 @@
 // The report of a store.
 ghost use mathlib.Core.Path.{_≡_};
-ghost use mathlib.Core.List.{[], map};
+ghost use mathlib.Core.List.{[]};
+ghost use Prim.Native.Nat.{_≤_};
+ghost use lib.ListN.{length};
 ghost use Rattle.volume.specs.Volume.{bodyVolume};
-ghost use Rattle.density.specs.Reports.{reportOf};
-ghost use Rattle.layout.specs.Layout.{width, placeLimit};
+ghost use Rattle.layout.specs.Layout.{width, coordsFrom};
 ghost use Rattle.layout.specs.SoundLaws.{Meshed, Worded};
 ghost use Rattle.layout.specs.Left.{held};
 ghost use Rattle.base.specs.Answers.{outcome};
-ghost use Rattle.readings.specs.Readings.{bare, densityAt, rawMass, origin, heldAll, readStep};
+ghost use Rattle.readings.specs.Readings.{answerOf, seenBy, readStep};
 ghost use Rattle.readings.specs.Readings;
 ghost use Rattle.readings.specs.ReportAnswer.{reportRead};
 use crate::counts::count_filled;
 use crate::counts::count_pieces;
 use crate::counts::worst_error;
+use crate::seen::seen_places;
 use crate::shared::check_read;
 use crate::sums::origin_density;
 use crate::sums::raw_mass;
@@ -39,7 +41,7 @@ pub enum Reported {
 }
 
 // The volume of the mesh that a store holds.
-fn body_of(floats: &[f64], words: &[u32], verts: usize, faces: usize) -> f64
+pub fn body_of(floats: &[f64], words: &[u32], verts: usize, faces: usize) -> f64
     requires { ⌜ Meshed width (now floats) (now words) verts faces ⌝ }
     ensures { λ r. ⌜ r ≡ bodyVolume (held width (now (floats .entry)) (now (words .entry)) verts faces) faces ⌝ }
 {
@@ -61,40 +63,38 @@ fn body_of(floats: &[f64], words: &[u32], verts: usize, faces: usize) -> f64
     )
 }
 
-// The masses of a sound store.
-fn mass_report(
-    v: Convention,
-    floats: &[f64],
-    words: &[u32],
-    verts: usize,
-    faces: usize,
-) -> MassReport
-    requires { ⌜ Meshed width (now floats) (now words) verts faces ⌝ ∗ ⌜ Worded width (now words) faces ⌝ }
-    ensures { λ r. ⌜ r ≡ reportOf v (rawMass (heldAll width (now (floats .entry)) (now (words .entry)) placeLimit)) (densityAt (map bare (heldAll width (now (floats .entry)) (now (words .entry)) placeLimit)) origin) (bodyVolume (held width (now (floats .entry)) (now (words .entry)) verts faces) faces) ⌝ }
+// The report of a sound store whose mesh has the volume `body`, over the places that are seen.
+pub fn report_seen(v: Convention, floats: &[f64], seen: &[u32], faces: usize, body: f64) -> Reported
+    requires { ⌜ coordsFrom ≤ length (now floats) ⌝ ∗ ⌜ Worded width (now seen) faces ⌝ }
+    ensures { λ r. ⌜ outcome (reportRead r) []
+        ≡ answerOf (Readings.report v) (seenBy width (now (floats .entry)) (now (seen .entry)) body) ⌝ }
 {
-    let mass = raw_mass(floats, words, faces);
-    let rho0 = origin_density(floats, words, faces);
-    report_of(v, mass, rho0, body_of(floats, words, verts, faces))
+    let mass = raw_mass(floats, seen, faces);
+    let rho0 = origin_density(floats, seen, faces);
+    let masses = report_of(v, mass, rho0, body);
+    let filled = count_filled(seen, faces) as u32;
+    let pieces = count_pieces(seen, faces) as u32;
+    let error = worst_error(floats, seen, faces);
+    Reported::Report {
+        mass: masses,
+        filled,
+        pieces,
+        error,
+    }
 }
 
-// The masses of a store with no work left, under a convention.
-pub fn report(floats: &[f64], words: &[u32], v: Convention) -> Reported
-    ensures { λ r. ⌜ outcome (reportRead r) [] ≡ readStep width (now (floats .entry)) (now (words .entry)) (Readings.report v) ⌝ }
+// The masses of the places in some layers, none of which has work left, under a convention.
+pub fn report(floats: &[f64], words: &[u32], v: Convention, layers: u32) -> Reported
+    ensures { λ r. ⌜ outcome (reportRead r) []
+        ≡ readStep width (now (floats .entry)) (now (words .entry)) layers (Readings.report v) ⌝ }
 {
-    match check_read(floats, words, true) {
+    match check_read(floats, words, layers, true) {
         Checked::Failed(r) => Reported::Refused(r),
         Checked::Passed => {
             let faces = word(words, 1);
-            let mass = mass_report(v, floats, words, word(words, 0), faces);
-            let filled = count_filled(words, faces) as u32;
-            let pieces = count_pieces(words, faces) as u32;
-            let error = worst_error(floats, words, faces);
-            Reported::Report {
-                mass,
-                filled,
-                pieces,
-                error,
-            }
+            let body = body_of(floats, words, word(words, 0), faces);
+            let seen = seen_places(words, layers, faces);
+            report_seen(v, floats, &seen, faces, body)
         }
     }
 }

@@ -5,9 +5,14 @@ ghost use Prim.Native.Nat.{_≤_};
 ghost use lib.ListN.{length};
 ghost use Rattle.density.specs.declared.convention.Convention.the-variants.{Rho0, Mass};
 ghost use Rattle.layout.specs.Layout.{width, placeLimit, coordsFrom};
+ghost use Rattle.base.specs.Answers.{andThen};
+ghost use Rattle.layout.specs.Soundness.{storeCheck};
+ghost use Rattle.layout.specs.Layers.{layersCheck};
 ghost use Rattle.layout.specs.SoundLaws.{Worded};
 ghost use Rattle.readings.specs.Readings.{byMass, applied, heldAll};
 ghost use Rattle.readings.specs.Checks.{readCheck};
+use crate::seen::check_layers;
+use crate::seen::unfinished;
 use crate::sums::origin_density;
 use crate::sums::raw_mass;
 use base::refusal::Checked;
@@ -18,7 +23,6 @@ use density::convention::rho0_scale;
 use density::convention::scalable;
 use density::convention::target_of;
 use layout::check::check_store;
-use layout::left::left;
 use layout::runs::word;
 
 // Whether a convention is by mass with a target above 0.
@@ -32,16 +36,27 @@ pub fn by_mass(v: Convention) -> bool
     }
 }
 
-// Refusal 4, 5 or 8 of a reading that needs the work done, or not.
-pub fn check_read(floats: &[f64], words: &[u32], needs: bool) -> Checked
-    ensures { λ r. ⌜ r ≡ readCheck width (now (floats .entry)) (now (words .entry)) needs ⌝ }
+// Refusal 4, 5 or 16 of a reading.
+pub fn check_seen(floats: &[f64], words: &[u32], layers: u32) -> Checked
+    ensures { λ r. ⌜ r ≡ andThen (storeCheck width (now (floats .entry)) (now (words .entry))) (layersCheck layers) ⌝ }
 {
     match check_store(floats, words) {
         Checked::Failed(r) => Checked::Failed(r),
+        Checked::Passed => check_layers(layers),
+    }
+}
+
+// Refusal 4, 5, 16 or 8 of a reading that needs the work done, or not.
+pub fn check_read(floats: &[f64], words: &[u32], layers: u32, needs: bool) -> Checked
+    ensures { λ r. ⌜ r ≡ readCheck width (now (floats .entry)) (now (words .entry)) layers needs ⌝ }
+{
+    match check_seen(floats, words, layers) {
+        Checked::Failed(r) => Checked::Failed(r),
         Checked::Passed => {
-            let total = left(words, word(words, 1));
-            let early = needs & (0 < total);
-            if early {
+            if !needs {
+                return Checked::Passed;
+            }
+            if unfinished(words, layers, word(words, 1)) {
                 Checked::Failed(Refusal::Unfinished)
             } else {
                 Checked::Passed

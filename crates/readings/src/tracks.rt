@@ -14,6 +14,7 @@ ghost use Rattle.readings.specs.TrackAnswer.{trackRead};
 use crate::along::densities;
 use crate::counts::count_pieces;
 use crate::lists::write_list;
+use crate::seen::seen_places;
 use crate::shared::by_mass;
 use crate::shared::check_read;
 use crate::shared::scale_of;
@@ -130,22 +131,26 @@ fn track_points(
     }
 }
 
-// Writes the densities at the points into a lent run, in point order, under a convention.
+// Writes the densities of the places in some layers at the points into a lent run, in point order, under a convention.
 pub fn track(
     floats: &[f64],
     words: &[u32],
     v: Convention,
+    layers: u32,
     points: &[f64],
     out: &mut [f64],
 ) -> TrackRead
-    ensures { λ r. ⌜ outcome (trackRead r) (now (out .exit)) ≡ readStep width (now (floats .entry)) (now (words .entry)) (Readings.track v (now (points .entry)) (now (out .entry))) ⌝ }
+    ensures { λ r. ⌜ outcome (trackRead r) (now (out .exit))
+        ≡ readStep width (now (floats .entry)) (now (words .entry)) layers
+        (Readings.track v (now (points .entry)) (now (out .entry))) ⌝ }
 {
-    match check_read(floats, words, by_mass(v)) {
+    match check_read(floats, words, layers, by_mass(v)) {
         Checked::Failed(r) => TrackRead::Refused(r),
         Checked::Passed => {
             let faces = word(words, 1);
-            let s = scale_of(v, floats, words, faces);
-            track_points(floats, words, faces, s, points, out)
+            let seen = seen_places(words, layers, faces);
+            let s = scale_of(v, floats, &seen, faces);
+            track_points(floats, &seen, faces, s, points, out)
         }
     }
 }

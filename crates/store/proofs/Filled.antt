@@ -8,14 +8,23 @@ use native.Mathlib.Omega.{arith}
 use lib.Ieee.{Float, nan}
 use lib.ListN.{length, getD, set, length-set}
 use Rattle.base.specs.Floats.{+0}
+use Rattle.base.specs.Answers.{andThen}
+use Rattle.base.specs.declared.refusal.Checked.the-variants.{Passed}
 use Rattle.layout.specs.Runs.{write}
 use Rattle.layout.specs.RunLaws.{sets-write, write-more, write-none}
+use Rattle.layout.specs.Layout.{width}
+use Rattle.layout.specs.Soundness.{placeCheck, layerCheck}
+use Rattle.layout.specs.SoundLaws.{Open, place-open, passed-both}
 use Rattle.pieces.specs.declared.pieces.Pieces.{Pieces}
 use Rattle.store.specs.Puts.{fresh}
 
 module _ {A : Type 0} where
   pub set3-write : (l : List A) (i : ℕ) (a b c : A) → i + 3 ≤ length l → set (set (set l i a) (i + 1) b) (i + 2) c ≡ write l i (a ∷ b ∷ c ∷ [])
   set3-write l i a b c h = rw (add-one, add-two) (sets-write (a ∷ b ∷ c ∷ []) l i h)
+
+  pub set4-write : (l : List A) (i : ℕ) (a b c d : A) → i + 4 ≤ length l
+      → set (set (set (set l i a) (i + 1) b) (i + 2) c) (i + 3) d ≡ write l i (a ∷ b ∷ c ∷ d ∷ [])
+  set4-write l i a b c d h = rw (add-one, add-two, add-three) (sets-write (a ∷ b ∷ c ∷ d ∷ []) l i h)
 
   pub set7-write : (l : List A) (i : ℕ) (a b c d e f g : A) → i + 7 ≤ length l
       → set (set (set (set (set (set (set l i a) (i + 1) b) (i + 2) c) (i + 3) d) (i + 4) e) (i + 5) f) (i + 6) g ≡ write l i (a ∷ b ∷ c ∷ d ∷ e ∷ f ∷ g ∷ [])
@@ -57,6 +66,11 @@ one-filled l at fit j f g h b =
           ∙ (ap (λ (t : ℕ). write (write l at (fresh fit j 0)) (at + t) (s ∷ k ∷ +0 ∷ [])) (sym n)
           ∙ (write-more l at (fresh fit j 0) (s ∷ k ∷ +0 ∷ []) (omega arith) ∙ ap (write l at) (sym m))));
     }
+
+-- what a put that is not refused was given
+pub put-open : (fs : List Float) (ws : List ℕ) (i layer : ℕ) → andThen (placeCheck width fs ws i) (layerCheck layer) ≡ Passed
+    → Open width fs ws i
+put-open fs ws i layer e = place-open width fs ws i (passed-both (placeCheck width fs ws i) (layerCheck layer) e .0)
 
 pub need-bound : (count faces : ℕ) → count ≤ 16 → faces ≤ 2097152 → count * faces ≤ 33554432
 need-bound count faces a b = mul-le-mul a b

@@ -5,12 +5,15 @@ ghost use Prim.Native.Nat.{_+_, _*_, _≤_, _<_};
 ghost use lib.ListN.{length};
 ghost use Rattle.layout.specs.Runs.{write};
 ghost use Rattle.layout.specs.Layout.{width, placeLimit, pieceLimit, coordsFrom, cornersFrom, facesOf};
+ghost use Rattle.base.specs.Answers.{andThen};
+ghost use Rattle.layout.specs.Soundness.{placeCheck, layerCheck};
 ghost use Rattle.layout.specs.After.{after};
 ghost use Rattle.store.specs.Puts.{seven, fresh, atFirst, putFloats, putWords, putStep};
 ghost use Rattle.store.specs.PutAnswer.{placed};
 use base::refusal::Checked;
 use base::refusal::Refusal;
 use kernel::kernel::Kernel;
+use layout::check::check_layer;
 use layout::check::check_place;
 use layout::offsets::KERNEL;
 use layout::offsets::KERNEL_SIZE;
@@ -67,31 +70,44 @@ fn at_first(faces: u32, count: u32) -> u32
 }
 
 // A place's words before its first step.
-fn write_state(words: &mut [u32], at: usize, count: u32)
-    requires { ⌜ (1 < at) × (at + 3 ≤ length (now words)) × (count ≤ 16) ⌝ }
-    ensures { λ _. ⌜ now (words .exit) ≡ write (now (words .entry)) at ((1 + count) ∷ atFirst (facesOf (now (words .entry))) count ∷ 0 ∷ []) ⌝ }
+fn write_state(words: &mut [u32], at: usize, count: u32, layer: u32)
+    requires { ⌜ (1 < at) × (at + 4 ≤ length (now words)) × (count ≤ 16) ⌝ }
+    ensures { λ _. ⌜ now (words .exit)
+        ≡ write (now (words .entry)) at ((1 + count) ∷ atFirst (facesOf (now (words .entry))) count ∷ 0 ∷ layer ∷ []) ⌝ }
 {
     let finished = at_first(words[1], count);
     words[at] = 1 + count;
     words[at + 1] = finished;
     words[at + 2] = 0;
+    words[at + 3] = layer;
 }
 
 // Fills place i with a kernel and its pieces.
-fn fill(floats: &mut [f64], words: &mut [u32], i: usize, k: Kernel, fit: Pieces)
+fn fill(floats: &mut [f64], words: &mut [u32], i: usize, k: Kernel, fit: Pieces, layer: u32)
     requires { ⌜ (i < placeLimit) × (coordsFrom ≤ length (now floats)) × (cornersFrom width ≤ length (now words)) × (fit .count ≤ 16) ⌝ }
-    ensures { λ _. ⌜ (now (floats .exit) ≡ putFloats (now (floats .entry)) i k fit) × (now (words .exit) ≡ putWords width (now (words .entry)) i fit) ⌝ }
+    ensures { λ _. ⌜ (now (floats .exit) ≡ putFloats (now (floats .entry)) i k fit) × (now (words .exit) ≡ putWords width (now (words .entry)) i fit layer) ⌝ }
 {
     write_kernel(floats, KERNEL + KERNEL_SIZE * i, k, fit.error);
     write_pieces(floats, PIECE + PIECES_SIZE * i, fit);
-    write_state(words, STATE + WIDTH * i, fit.count as u32);
+    write_state(words, STATE + WIDTH * i, fit.count as u32, layer);
 }
 
-// Puts a kernel into a place, whatever it held: its pieces by the store's radius, none of their faces done.
-pub fn put(floats: &mut [f64], words: &mut [u32], place: u32, k: Kernel) -> Placed
-    ensures { λ r. ⌜ after (placed r) (now (floats .exit)) (now (words .exit)) ≡ putStep width (now (floats .entry)) (now (words .entry)) place k ⌝ }
+// Refusal 4, 5, 6 or 16 of a put.
+fn check_put(floats: &[f64], words: &[u32], place: u32, layer: u32) -> Checked
+    ensures { λ r. ⌜ r ≡ andThen (placeCheck width (now (floats .entry)) (now (words .entry)) place) (layerCheck layer) ⌝ }
 {
     match check_place(floats, words, place) {
+        Checked::Failed(r) => Checked::Failed(r),
+        Checked::Passed => check_layer(layer),
+    }
+}
+
+// Puts a kernel into a place, whatever it held, in a layer: its pieces by the store's radius, none of their faces done.
+pub fn put(floats: &mut [f64], words: &mut [u32], place: u32, k: Kernel, layer: u32) -> Placed
+    ensures { λ r. ⌜ after (placed r) (now (floats .exit)) (now (words .exit))
+        ≡ putStep width (now (floats .entry)) (now (words .entry)) place k layer ⌝ }
+{
+    match check_put(floats, words, place, layer) {
         Checked::Failed(r) => Placed::Refused(r),
         Checked::Passed => {
             let d = decompose(k, floats[0]);
@@ -99,7 +115,7 @@ pub fn put(floats: &mut [f64], words: &mut [u32], place: u32, k: Kernel) -> Plac
             let pieces = d.pieces;
             let count = pieces.count as u32;
             let need = count * words[1];
-            fill(floats, words, place as usize, k, pieces);
+            fill(floats, words, place as usize, k, pieces, layer);
             Placed::Needs(count, need, fit)
         }
     }

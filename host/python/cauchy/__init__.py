@@ -29,12 +29,12 @@ it. `python3 -m cauchy` runs the examples of this package.
 """
 from .arrays import Floats, Items
 from .kernels import bill, convert, decompose, decompose_list, densitize, kernel_from_file, solve
-from .library import MAX_FACES, MAX_PIECES, MAX_TRACK, MAX_VERTICES, PLACES
+from .library import ALL_LAYERS, LAYERS, MAX_FACES, MAX_PIECES, MAX_TRACK, MAX_VERTICES, PLACES
 from .meshes import body_volume, closed, field_mass, homogeneous, kernel_volume, volume_centroid
 from .numbers import arc, exp, log, log10, power, radial_g, root, ten
 from .refusals import (
     REFUSALS, BadKernelLine, BadMatrix, BadTrack, Exponent, FlatPivot, FloatStateError, LoadersDiffer, LooseCorner,
-    ManyKernels, NoFigure, NoPlace, NotClosed, Oversize, Ragged, Refused, ShortList, ShortPage, ShortStore, Unfinished,
+    ManyKernels, NoFigure, NoLayer, NoPlace, NotClosed, Oversize, Ragged, Refused, ShortList, ShortPage, ShortStore, Unfinished,
     UnknownRefusal, Unsound, Vacant, check_float_state,
 )
 from .snapshot import SnapshotError
@@ -49,10 +49,10 @@ from .values import (
 __version__ = "0.1.0"
 
 __all__ = [
-    "MAX_FACES", "MAX_PIECES", "MAX_TRACK", "MAX_VERTICES", "PLACES", "RAW", "REFUSALS", "BadKernelLine",
+    "ALL_LAYERS", "LAYERS", "MAX_FACES", "MAX_PIECES", "MAX_TRACK", "MAX_VERTICES", "PLACES", "RAW", "REFUSALS", "BadKernelLine",
     "BadMatrix", "BadTrack", "Bill", "Convention", "Exponent", "FlatPivot", "FloatStateError", "Floats", "Held",
     "Items", "Kernel", "KernelList", "Loader", "LoadersDiffer", "LooseCorner", "ManyKernels", "MassReport",
-    "NoFigure", "NoPlace", "NotClosed", "Oversize", "Pieces", "Placed", "Ragged", "Refused", "ShortList",
+    "NoFigure", "NoLayer", "NoPlace", "NotClosed", "Oversize", "Pieces", "Placed", "Ragged", "Refused", "ShortList",
     "ShortPage", "ShortStore", "SnapshotError", "Steps", "Store", "StoreReport", "Unfinished", "UnknownRefusal",
     "Unsound", "Vacant", "arc", "bill", "body_volume", "check_float_state", "closed", "convert", "decompose",
     "decompose_list", "densitize", "exp", "field_mass", "homogeneous", "kernel_from_file", "kernel_volume", "log",

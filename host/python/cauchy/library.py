@@ -15,7 +15,9 @@ PLACES = 32
 MAX_PIECES = 16
 MAX_TRACK = 4096
 FLOATS_BEFORE_MESH = 1761
-WORDS_BEFORE_MESH = 98
+WORDS_BEFORE_MESH = 130
+LAYERS = 16
+ALL_LAYERS = 0xFFFF
 
 # The kinds of a convention, and the loaders of a file.
 RAW_KIND, RHO0_KIND, MASS_KIND = 0, 1, 2
@@ -84,6 +86,13 @@ class CauchyStoreReport(Structure):
     ]
 
 
+class CauchyFinished(Structure):
+    _fields_ = [
+        ("no", c_uint32), ("report", CauchyMassReport), ("kernels", c_uint32), ("pieces", c_uint32),
+        ("error", c_double), ("passed_over", c_uint32),
+    ]
+
+
 class CauchyListed(Structure):
     _fields_ = [("no", c_uint32), ("pieces", c_uint32)]
 
@@ -120,15 +129,16 @@ _STORE = _MESH = (*_FLOATS, *_WORDS)
 # Each function without its "cauchy_": what it answers, then its arguments.
 PROTOTYPES: Dict[str, Tuple[Any, ...]] = {
     "store_open": (CauchyOpened, *_STORE, c_double, *_MESH),
-    "store_put": (CauchyPlaced, *_STORE, c_uint32, CauchyKernel),
+    "store_put": (CauchyPlaced, *_STORE, c_uint32, CauchyKernel, c_uint32),
     "store_clear": (c_uint32, *_STORE, c_uint32),
     "store_reweigh": (c_uint32, *_STORE, c_uint32, c_double),
     "store_squeeze": (CauchySqueezed, *_STORE),
     "store_advance": (CauchySteps, *_STORE, c_uint64),
-    "store_density": (CauchyValue, *_STORE, CauchyConvention, CauchyVector),
-    "store_report": (CauchyStoreReport, *_STORE, CauchyConvention),
-    "store_list": (CauchyListed, *_STORE, CauchyConvention, *_FLOATS),
-    "store_track": (CauchyTrack, *_STORE, CauchyConvention, *_FLOATS, *_FLOATS),
+    "store_density": (CauchyValue, *_STORE, CauchyConvention, c_uint32, CauchyVector),
+    "store_report": (CauchyStoreReport, *_STORE, CauchyConvention, c_uint32),
+    "store_finished": (CauchyFinished, *_STORE, CauchyConvention, c_uint32),
+    "store_list": (CauchyListed, *_STORE, CauchyConvention, c_uint32, *_FLOATS),
+    "store_track": (CauchyTrack, *_STORE, CauchyConvention, c_uint32, *_FLOATS, *_FLOATS),
     "store_page": (CauchyBytes, *_STORE, *_BYTES),
     "kernel_from_file": (CauchyKernel, CauchyFileKernel, c_double),
     "convert": (CauchyKernels, *_BYTES, c_double, c_uint32, *_FLOATS),

@@ -129,6 +129,13 @@ class ManyKernels(Refused):
     meaning = "many kernels: a bill takes at most 32"
 
 
+class NoLayer(Refused):
+    """A layer is below 0, or 16 or above."""
+
+    number = 16
+    meaning = "no layer: the layers are 0 to 15"
+
+
 class NoFigure(Refused):
     """The mass of a place is NaN or exceeds 10^15 kg, and a page cannot show it."""
 
@@ -168,7 +175,8 @@ REFUSALS: Dict[int, Type[Refused]] = {
     kind.number: kind
     for kind in (
         Ragged, Oversize, LooseCorner, ShortStore, Unsound, NoPlace, Vacant, Unfinished, ShortList, BadMatrix,
-        FlatPivot, Exponent, BadTrack, ManyKernels, NoFigure, ShortPage, BadKernelLine, LoadersDiffer, NotClosed,
+        FlatPivot, Exponent, BadTrack, ManyKernels, NoLayer, NoFigure, ShortPage, BadKernelLine, LoadersDiffer,
+        NotClosed,
     )
 }
 

@@ -1,6 +1,6 @@
 """A store as bytes, and back, in the one format of all hosts.
 
-A snapshot is, numbers with their lowest byte first: the eight bytes `CAUCHY01`; the count of floats and the count of
+A snapshot is, numbers with their lowest byte first: the eight bytes `CAUCHY02`; the count of floats and the count of
 words, eight bytes each; the floats, eight bytes each, by their bits; the words, four bytes each; and the CRC-64/XZ of
 all bytes before it, eight bytes.
 """
@@ -10,14 +10,15 @@ from typing import Any, List, Tuple
 
 from .memory import Runs
 
-_MAGIC = b"CAUCHY01"
+_MAGIC = b"CAUCHY02"
+_OLDER_MAGIC = b"CAUCHY01"  # of the form before layers, with three words to a place
 _HEAD = struct.Struct("<8sQQ")
 _CHECKSUM = struct.Struct("<Q")
 
 
 class SnapshotError(ValueError):
-    """Bytes were not taken as a snapshot. `fault` says why: "foreign" (they do not begin as one), "length" (they are
-    fewer or more than their counts say), "checksum" (it does not fit), or "refused" (they are whole, but hold no
+    """Bytes were not taken as a snapshot. `fault` says why: "foreign" (they do not begin as one), "older" (they are
+    one of the form before layers), "length" (they are fewer or more than their counts say), "checksum" (it does not fit), or "refused" (they are whole, but hold no
     store; the refusal is the `__cause__`).
 
     >>> Store.from_bytes(b"v 0 0 0")
@@ -27,6 +28,7 @@ class SnapshotError(ValueError):
 
     _SAID = {
         "foreign": "not a snapshot of a store",
+        "older": "a snapshot of the form before layers, which this version does not read",
         "length": "damaged: bytes are missing, or there are too many",
         "checksum": "damaged: its checksum does not fit its bytes",
         "refused": "whole, but no store",
@@ -67,6 +69,8 @@ def read(data: Any) -> Runs:
 
 def _counts(given: memoryview) -> Tuple[int, int]:
     """The counts of floats and words, which fit the bytes."""
+    if bytes(given[:8]) == _OLDER_MAGIC:
+        raise SnapshotError("older")
     if bytes(given[:8]) != _MAGIC:
         raise SnapshotError("foreign")
     if len(given) < _HEAD.size:

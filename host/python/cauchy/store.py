@@ -1,11 +1,13 @@
 """The store."""
 from array import array
-from typing import Any, Iterator, List, Optional, Tuple, Union, overload
+from typing import Any, Collection, Iterator, List, Optional, Tuple, Union, overload
 
 from . import arrays, snapshot
-from .library import FLOATS_BEFORE_MESH, MAX_PIECES, MAX_TRACK, PAGE_LINE, PLACES, WORDS_BEFORE_MESH, call
+from .library import (
+    ALL_LAYERS, FLOATS_BEFORE_MESH, LAYERS, MAX_PIECES, MAX_TRACK, PAGE_LINE, PLACES, WORDS_BEFORE_MESH, call,
+)
 from .memory import Runs
-from .refusals import NoPlace, Refused, Unsound, check_float_state
+from .refusals import NoLayer, NoPlace, Refused, Unsound, check_float_state
 from .turns import Turns
 from .values import (
     Convention, Held, Kernel, Placed, Steps, StoreReport, crossing_convention, crossing_kernel, listed, masses, vector,
@@ -13,10 +15,14 @@ from .values import (
 
 # Where a place's kernel and state stand in the runs, and their sizes.
 _KERNELS_AT, _KERNEL_FLOATS = 1, 7
-_STATES_AT, _STATE_WORDS = 2, 3
+_STATES_AT, _STATE_WORDS, _LAYER_IN_STATE = 2, 4, 3
+
+# Which layers a reading sees: all, where nothing is said.
+Layers = Optional[Collection[int]]
 
 # The functions that only read a store, so that they may share it; the header's `const` says the same.
-READINGS = frozenset(("store_density", "store_report", "store_list", "store_track", "store_page"))
+READINGS = frozenset(
+    ("store_density", "store_report", "store_finished", "store_list", "store_track", "store_page"))
 
 
 class Store:
@@ -68,10 +74,20 @@ class Store:
 
     # ---- Changes ------------------------------------------------------------------------------------------
 
-    def put(self, place: int, kernel: Kernel) -> Placed:
-        """Puts a kernel into a place, whatever that held, with all its work to do; its pieces, and the steps that
-        they need."""
-        answer = self._call("store_put", _place(place), crossing_kernel(kernel))
+    def put(self, place: int, kernel: Kernel, layer: int = 0) -> Placed:
+        """Puts a kernel into a place, whatever that held, with all its work to do, in a layer from 0 to 15; its
+        pieces, and the steps that they need.
+
+        >>> store = Store(500, [0] * 9, [0, 1, 2])
+        >>> store.put(0, Kernel((0, 0, 0), 1, 2, 1), layer=3), store.put(1, Kernel((0, 0, 0), 1, 5, 1))
+        (Placed(pieces=1, need=1), Placed(pieces=1, need=1))
+        >>> store.density(RAW, (0, 0, 0)), store.density(RAW, (0, 0, 0), layers=[3]), store.held(0).layer
+        (7.0, 2.0, 3)
+        >>> store.put(0, Kernel((0, 0, 0), 1, 2, 1), layer=16)
+        Traceback (most recent call last):
+        cauchy.NoLayer: no layer: the layers are 0 to 15 (no 16)
+        """
+        answer = self._call("store_put", _place(place), crossing_kernel(kernel), _layer(layer))
         return Placed(answer.pieces, answer.need)
 
     def clear(self, place: int) -> None:
@@ -79,7 +95,7 @@ class Store:
         self._call("store_clear", _place(place))
 
     def reweigh(self, place: int, w: float) -> None:
-        """Gives the kernel of a place another weight; the work on it is kept."""
+        """Gives the kernel of a place another weight; the work on it and its layer are kept."""
         self._call("store_reweigh", _place(place), arrays.number(w, "w"))
 
     def squeeze(self) -> int:
@@ -135,17 +151,17 @@ class Store:
             done, left = done + told.done, told.left
             yield Steps(done, left)
 
-    # ---- Readings -----------------------------------------------------------------------------------------
+    # ---- Readings. Each sees only the places in `layers`, a collection of numbers from 0 to 15; all where it is None --
 
     @overload
-    def density(self, convention: Convention, point: Tuple[float, float, float]) -> float:
+    def density(self, convention: Convention, point: Tuple[float, float, float], layers: Layers = None) -> float:
         ...
 
     @overload
-    def density(self, convention: Convention, point: arrays.Items) -> Any:
+    def density(self, convention: Convention, point: arrays.Items, layers: Layers = None) -> Any:
         ...
 
-    def density(self, convention: Convention, point: arrays.Items) -> Any:
+    def density(self, convention: Convention, point: arrays.Items, layers: Layers = None) -> Any:
         """The density at a point, as a float; or at each of any number of points, given as rows of three, as an
         array: numpy's where numpy is there, otherwise `array`. By mass with a target above 0 it needs all work done.
 
@@ -160,9 +176,9 @@ class Store:
         Traceback (most recent call last):
         ValueError: point: 3 numbers, and not 2
         """
-        crossing = crossing_convention(convention)
+        crossing = crossing_convention(convention), _layers(layers)
         if not arrays.is_rows(point, "point"):
-            return float(self._call("store_density", crossing, vector(point, "point")).value)
+            return float(self._call("store_density", *crossing, vector(point, "point")).value)
         points = arrays.floats(point, "point", 3)
         answer = arrays.zeros(points.count // 3)
         out = arrays.written(answer)
@@ -170,13 +186,13 @@ class Store:
         def tracks() -> None:
             for start in range(0, max(out.count, 1), MAX_TRACK):  # no points are a track too, which may be refused
                 count = min(MAX_TRACK, out.count - start)
-                call("store_track", *self._runs.lent(), crossing, *points.part(3 * start, 3 * count),
+                call("store_track", *self._runs.lent(), *crossing, *points.part(3 * start, 3 * count),
                      *out.part(start, count))
 
         self._turns.run(False, tracks)
         return answer
 
-    def track(self, convention: Convention, points: arrays.Items) -> Any:
+    def track(self, convention: Convention, points: arrays.Items, layers: Layers = None) -> Any:
         """The density at each of up to 4,096 points, in order, as an array: what `density` gives, with the store
         looked over once. The points are an array, flat or in rows of three.
 
@@ -195,19 +211,47 @@ class Store:
         Traceback (most recent call last):
         cauchy.BadTrack: bad track: more than 4,096 points, or lengths that do not fit (no 14)
         """
-        crossing = crossing_convention(convention)
+        crossing = crossing_convention(convention), _layers(layers)
         run = arrays.floats(points, "points", 3)
         answer = arrays.zeros(run.count // 3)
-        self._call("store_track", crossing, *run.lent(), *arrays.written(answer).lent())
+        self._call("store_track", *crossing, *run.lent(), *arrays.written(answer).lent())
         return answer
 
-    def report(self, convention: Convention) -> StoreReport:
-        """The masses, with `kernels`, `pieces` and `error` beside them. It needs all work done."""
-        answer = self._call("store_report", crossing_convention(convention))
+    def report(self, convention: Convention, layers: Layers = None) -> StoreReport:
+        """The masses, with `kernels`, `pieces` and `error` beside them. It needs all work of these layers done.
+
+        >>> store = Store(500, [0] * 9, [0, 1, 2])
+        >>> store.put(0, Kernel((0, 0, 0), 1, 2, 1), layer=3)
+        Placed(pieces=1, need=1)
+        >>> store.report(RAW, layers=[0, 1]).kernels, store.report(RAW, layers=[]).kernels
+        (0, 0)
+        >>> store.report(RAW, layers=[3])
+        Traceback (most recent call last):
+        cauchy.Unfinished: unfinished: work is left that this reading needs (no 8)
+        """
+        answer = self._call("store_report", crossing_convention(convention), _layers(layers))
         return StoreReport(**masses(answer.report), kernels=answer.kernels, pieces=answer.pieces, error=answer.error)
 
-    def list(self, convention: Convention) -> List[Kernel]:
-        """The pieces of all places, in order, as kernels with weights rescaled. By mass with a target above 0 it
+    def finished(self, convention: Convention, layers: Layers = None) -> Tuple[StoreReport, int]:
+        """The report of what is finished, while work may be left, and how many filled places of these layers it passed
+        over: what `report` gives of a store that holds just the places whose work is done.
+
+        >>> store = Store(500, [0] * 9, [0, 1, 2])
+        >>> store.put(0, Kernel((0, 0, 0), 1, 2, 1)), store.put(1, Kernel((0, 0, 0), 1, 5, 1))
+        (Placed(pieces=1, need=1), Placed(pieces=1, need=1))
+        >>> store.advance(1)
+        Steps(done=1, left=1)
+        >>> report, passed_over = store.finished(RAW)
+        >>> report.kernels, passed_over
+        (1, 1)
+        """
+        answer = self._call("store_finished", crossing_convention(convention), _layers(layers))
+        report = StoreReport(
+            **masses(answer.report), kernels=answer.kernels, pieces=answer.pieces, error=answer.error)
+        return report, int(answer.passed_over)
+
+    def list(self, convention: Convention, layers: Layers = None) -> List[Kernel]:
+        """The pieces of the places, in order, as kernels with weights rescaled. By mass with a target above 0 it
         needs all work done.
 
         >>> store = Store(500, [0] * 9, [0, 1, 2])
@@ -217,11 +261,11 @@ class Store:
         [Kernel(c=(0.0, 0.0, 0.0), sigma=0.01, w=1200.0, alpha=1.0)]
         """
         out = array("d", [0.0]) * (PLACES * MAX_PIECES * 6)
-        answer = self._call("store_list", crossing_convention(convention), *arrays.written(out).lent())
+        answer = self._call("store_list", crossing_convention(convention), _layers(layers), *arrays.written(out).lent())
         return listed(out, answer.pieces)
 
     def page(self) -> str:
-        """The wall page: a line of 64 characters for each filled place, in order, with its number in columns 1-2, its
+        """The wall page, of every layer: a line of 64 characters for each filled place, in order, with its number in columns 1-2, its
         pieces in 4-5 and its own field mass in 45-64, by the weight as entered and in whole kilograms, to the nearest
         and ties to even; then a line with TOTAL and the sum of the printed masses. Each line ends in a newline. It
         needs all work done, and no mass that is NaN or exceeds 10^15 kg.
@@ -251,16 +295,20 @@ class Store:
         >>> store.put(7, Kernel((1, 2, 3), 0.01, 300, 1))
         Placed(pieces=1, need=1)
         >>> store.held(7), store.held(8)
-        (Held(kernel=Kernel(c=(1.0, 2.0, 3.0), sigma=0.01, w=300.0, alpha=1.0), pieces=1, error=0.0), None)
+        (Held(kernel=Kernel(c=(1.0, 2.0, 3.0), sigma=0.01, w=300.0, alpha=1.0), layer=0, pieces=1, error=0.0), None)
         """
         which = _place(place)
         if which >= PLACES:
             raise NoPlace()
         start, state = _KERNELS_AT + _KERNEL_FLOATS * which, _STATES_AT + _STATE_WORDS * which
-        pieces, fields = self._turns.run(
-            False, lambda: (self._runs.words[state] - 1, self._runs.floats[start:start + _KERNEL_FLOATS].tolist()))
+        words, fields = self._turns.run(False, lambda: (
+            self._runs.words[state:state + _STATE_WORDS].tolist(),
+            self._runs.floats[start:start + _KERNEL_FLOATS].tolist(),
+        ))
+        if words[0] == 0:
+            return None
         x, y, z, sigma, w, alpha, error = fields
-        return None if pieces < 0 else Held(Kernel((x, y, z), sigma, w, alpha), pieces, error)
+        return Held(Kernel((x, y, z), sigma, w, alpha), words[_LAYER_IN_STATE], words[0] - 1, error)
 
     def mesh(self) -> Tuple[Any, Any]:
         """Copies of the vertices and faces as the store keeps them: arrays of numpy in rows of three where numpy is
@@ -294,7 +342,7 @@ class Store:
         taken between calls.
 
         >>> store = Store(500, [0] * 9, [0, 1, 2])
-        >>> store.floats[0], store.floats.readonly, len(store.floats), list(store.words[98:])
+        >>> store.floats[0], store.floats.readonly, len(store.floats), list(store.words[130:])
         (500.0, True, 1770, [0, 1, 2])
         """
         return self._runs.floats.toreadonly()
@@ -377,3 +425,23 @@ def _place(place: int) -> int:
     if not 0 <= which < 2**32:
         raise NoPlace()
     return which
+
+
+def _layer(layer: int) -> int:
+    """A layer as C takes it, by the same reasoning."""
+    which = arrays.whole(layer, "layer")
+    if not 0 <= which < LAYERS:
+        raise NoLayer()
+    return which
+
+
+def _layers(layers: Layers) -> int:
+    """A set of layers as C takes it: bit l for layer l."""
+    if layers is None:
+        return ALL_LAYERS
+    if isinstance(layers, int):
+        raise TypeError("layers is a collection of layers, such as [0, 3], and not a number")
+    bits = 0
+    for layer in layers:
+        bits |= 1 << _layer(layer)
+    return bits

@@ -170,9 +170,11 @@ class StoreReport(MassReport):
 
 @dataclass(frozen=True, eq=False)
 class Held(Value):
-    """What a filled place holds: the kernel with its last weight, its pieces, and the greatest error of its fit."""
+    """What a filled place holds: the kernel with its last weight, its layer, its pieces, and the greatest error of its
+    fit."""
 
     kernel: Kernel
+    layer: int
     pieces: int
     error: float
 

@@ -73,6 +73,8 @@ def number(pick):
 RIGHT = {
     "number": number,
     "place": lambda pick: pick.randrange(-1, 34),
+    "layer": lambda pick: pick.randrange(-1, 18),
+    "layers": lambda pick: pick.choice((None, [], [0], (3, 15), range(16), {2, 16}, [-1])),
     "budget": lambda pick: pick.choice((0, 1, 50, 10**4, 2**70)),
     "point": lambda pick: tuple(number(pick) for _ in range(3)),
     "points": lambda pick: [(1.0, 2.0, float(i)) for i in range(pick.choice((0, 1, 5)))],
@@ -87,13 +89,13 @@ RIGHT = {
     "count": lambda pick: pick.choice((0, 4, 1048576, 1048577, 2**32, 2**64, -1)),
     "lines": lambda pick: pick.choice((b"", LINE, LINE * 3, LINE[:-1], ZERO_LINE)),
     "loader": lambda pick: pick.choice(list(Loader)),
-    "bytes": lambda pick: pick.choice((Store(1, [], []).to_bytes(), b"CAUCHY01", b"x" * 40)),
+    "bytes": lambda pick: pick.choice((Store(1, [], []).to_bytes(), b"CAUCHY02", b"x" * 40)),
 }
 
 METHODS = {
-    "put": "place kernel", "clear": "place", "reweigh": "place number", "squeeze": "", "advance": "budget", "left": "",
-    "work": "budget", "density": "convention point", "track": "convention points", "report": "convention",
-    "list": "convention", "page": "", "held": "place", "mesh": "", "to_bytes": "", "copy": "",
+    "put": "place kernel layer", "clear": "place", "reweigh": "place number", "squeeze": "", "advance": "budget", "left": "",
+    "work": "budget", "density": "convention point layers",
+    "track": "convention points layers", "report": "convention layers", "finished": "convention layers", "list": "convention layers", "page": "", "held": "place", "mesh": "", "to_bytes": "", "copy": "",
 }
 FUNCTIONS = {
     "Store": "number vertices faces", "Store.from_bytes": "bytes", "Kernel": "point number number number",

@@ -121,7 +121,7 @@ class Numbers(unittest.TestCase):
         self.assertEqual(len(cauchy.REFUSALS), of_header)
 
     def test_sizes_and_kinds(self):
-        for name in ("MAX_VERTICES", "MAX_FACES", "PLACES", "MAX_PIECES", "MAX_TRACK"):
+        for name in ("MAX_VERTICES", "MAX_FACES", "PLACES", "MAX_PIECES", "MAX_TRACK", "LAYERS", "ALL_LAYERS"):
             self.assertEqual(getattr(cauchy, name), self.constants[f"CAUCHY_{name}"])
         for name in ("RAW", "RHO0", "MASS"):
             self.assertEqual(getattr(library, f"{name}_KIND"), self.constants[f"CAUCHY_{name}"])

@@ -28,7 +28,7 @@ def begun():
 
 def forged(floats, words):
     """A snapshot of these runs, with a checksum that fits."""
-    head = struct.pack("<8sQQ", b"CAUCHY01", len(floats), len(words))
+    head = struct.pack("<8sQQ", b"CAUCHY02", len(floats), len(words))
     body = head + struct.pack(f"<{len(floats)}d{len(words)}I", *floats, *words)
     return body + struct.pack("<Q", crc64(body))
 
@@ -53,7 +53,7 @@ class Bytes(unittest.TestCase):
         store = begun()
         floats, words = bytes(store.floats), bytes(store.words)
         data = store.to_bytes()
-        self.assertEqual(data[:24], b"CAUCHY01" + struct.pack("<QQ", len(store.floats), len(store.words)))
+        self.assertEqual(data[:24], b"CAUCHY02" + struct.pack("<QQ", len(store.floats), len(store.words)))
         self.assertEqual(data[24:-8], floats + words)
         self.assertEqual(data[-8:], struct.pack("<Q", crc64(data[:-8])))
 
@@ -67,9 +67,10 @@ class Bytes(unittest.TestCase):
             self.assertEqual(self.fault(data[:at]), "foreign" if at < 8 else "length")
         self.assertEqual(self.fault(data + b"\0"), "length")
         self.assertEqual(self.fault(b"v 0 0 0"), "foreign")
+        self.assertEqual(self.fault(b"CAUCHY01" + data[8:]), "older")
         self.assertEqual(self.fault(b""), "foreign")
         for count in (2**64 - 1, 2**61, 2**62):
-            self.assertEqual(self.fault(b"CAUCHY01" + struct.pack("<QQQ", count, count, 0)), "length")
+            self.assertEqual(self.fault(b"CAUCHY02" + struct.pack("<QQQ", count, count, 0)), "length")
 
     def test_whole_bytes_that_hold_no_store(self):
         def refusal(floats, words):
@@ -79,17 +80,17 @@ class Bytes(unittest.TestCase):
             return type(told.exception.__cause__)
 
         self.assertIs(refusal([], []), cauchy.ShortStore)
-        self.assertIs(refusal([0.0] * 1760, [0] * 98), cauchy.ShortStore)
-        self.assertIs(refusal([0.0] * 1762, [0] * 98), cauchy.Unsound)
-        self.assertIs(refusal([0.0] * 1761, [0] * 101), cauchy.Unsound)
+        self.assertIs(refusal([0.0] * 1760, [0] * 130), cauchy.ShortStore)
+        self.assertIs(refusal([0.0] * 1762, [0] * 130), cauchy.Unsound)
+        self.assertIs(refusal([0.0] * 1761, [0] * 133), cauchy.Unsound)
         for stray in (1.0, -0.0, float("nan")):
-            self.assertIs(refusal([0.0] * 1763 + [stray], [0] * 98), cauchy.Unsound)
-        self.assertIs(refusal([0.0] * 1761, [0, 0, 18] + [0] * 95), cauchy.Unsound)
-        Store.from_bytes(forged([float("nan")] * 1761, [0] * 98))
-        Store.from_bytes(forged([0.0] * 1764, [0] * 98))
+            self.assertIs(refusal([0.0] * 1763 + [stray], [0] * 130), cauchy.Unsound)
+        self.assertIs(refusal([0.0] * 1761, [0, 0, 18] + [0] * 127), cauchy.Unsound)
+        Store.from_bytes(forged([float("nan")] * 1761, [0] * 130))
+        Store.from_bytes(forged([0.0] * 1764, [0] * 130))
 
     def test_wrong_types(self):
-        for wrong in (None, 5, "CAUCHY01", [1, 2], object()):
+        for wrong in (None, 5, "CAUCHY02", [1, 2], object()):
             with self.subTest(wrong=wrong), self.assertRaises(TypeError):
                 Store.from_bytes(wrong)
 

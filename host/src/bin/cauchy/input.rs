@@ -1,6 +1,6 @@
 //! The text files: mesh, kernels, track. Every fault names its file and line.
 use crate::failure::{Failure, Result};
-use cauchy::{FileKernel, PLACES};
+use cauchy::{FileKernel, LAYERS, PLACES};
 use std::fs;
 use std::path::Path;
 
@@ -16,6 +16,8 @@ pub struct MeshFile {
 pub struct KernelFile {
     pub default_alpha: f64,
     pub kernels: Vec<FileKernel>,
+    /// The layer of each kernel.
+    pub layers: Vec<u32>,
 }
 
 /// A file's bytes.
@@ -35,7 +37,7 @@ pub fn lines(text: &str) -> impl Iterator<Item = (usize, Vec<&str>)> {
     numbered.filter(|(_, words): &(usize, Vec<&str>)| !words.is_empty())
 }
 
-type Told<T> = std::result::Result<T, String>;
+pub type Told<T> = std::result::Result<T, String>;
 
 /// A number that stays finite in metres and squared.
 fn number(word: &str) -> Told<f64> {
@@ -119,19 +121,23 @@ fn triangles(corners: &[u32]) -> impl Iterator<Item = [u32; 3]> {
 pub fn kernels_of(path: &Path, text: &str) -> Result<KernelFile> {
     let mut default = None;
     let mut kernels = Vec::new();
+    let mut layers = Vec::new();
     for (line, words) in lines(text) {
         let told = match words[0] {
             "default" if default.is_some() => Err("a second default".to_string()),
             "default" => default_of(&words[1..]).map(|alpha| default = Some(alpha)),
             _ if kernels.len() == PLACES as usize => Err(too_many()),
-            _ => kernel(&words).map(|kernel| kernels.push(kernel)),
+            _ => kernel(&words).map(|(kernel, layer)| {
+                kernels.push(kernel);
+                layers.push(layer);
+            }),
         };
         told.map_err(|what| Failure::of_line(path, line, what))?;
     }
     if kernels.is_empty() {
         return Err(Failure::of_file(path, "has no kernel"));
     }
-    Ok(KernelFile { default_alpha: default.unwrap_or(1.0), kernels })
+    Ok(KernelFile { default_alpha: default.unwrap_or(1.0), kernels, layers })
 }
 
 /// What is said of the first kernel that has no place.
@@ -149,17 +155,35 @@ fn default_of(words: &[&str]) -> Told<f64> {
     }
 }
 
-fn kernel(words: &[&str]) -> Told<FileKernel> {
-    let [_, _, _, sigma, w, alpha] = words else {
-        let wanted = "a kernel has six numbers: x y z sigma weight exponent (- for none)";
-        return Err(format!("{wanted}; here are {}", words.len()));
+/// A kernel, and its layer: 0 where the line names none.
+fn kernel(words: &[&str]) -> Told<(FileKernel, u32)> {
+    let [_, _, _, sigma, w, alpha, rest @ ..] = words else {
+        return Err(kernel_form(words.len()));
     };
-    Ok(FileKernel {
+    let layer = match rest {
+        [] => 0,
+        [layer] => layer_of(layer)?,
+        _ => return Err(kernel_form(words.len())),
+    };
+    let kernel = FileKernel {
         c: point(&words[..3], 1.0)?,
         sigma: number(sigma)?,
         w: number(w)?,
         alpha: if *alpha == "-" { None } else { Some(number(alpha)?) },
-    })
+    };
+    Ok((kernel, layer))
+}
+
+fn kernel_form(words: usize) -> String {
+    let numbers = "x y z sigma weight exponent (- for none)";
+    format!("a kernel has six numbers, {numbers}, and may have its layer after them; here are {words}")
+}
+
+/// A layer, in a file or an option.
+pub fn layer_of(word: &str) -> Told<u32> {
+    let is_plain = word.bytes().all(|byte| byte.is_ascii_digit());
+    let layer = word.parse().ok().filter(|layer| is_plain && *layer < LAYERS);
+    layer.ok_or_else(|| format!("`{word}` is not a layer: they are 0 to {}", LAYERS - 1))
 }
 
 /// The points of a track, in metres.
@@ -232,9 +256,9 @@ mod tests {
 
     #[test]
     fn a_kernel_list_is_read_in_kilometres() {
-        let text = "default 1.5\n 1 2 3\t4 5 6 # core\n\n# all comment\n-1 -2 -3 0.5 -50 -\n";
+        let text = "default 1.5\n 1 2 3\t4 5 6 # core\n\n# all comment\n-1 -2 -3 0.5 -50 - 15\n";
         let list = kernels_of(Path::new("k.txt"), text).unwrap();
-        assert_eq!(list.default_alpha, 1.5);
+        assert_eq!((list.default_alpha, &list.layers[..]), (1.5, &[0, 15][..]));
         let first = FileKernel { c: [1.0, 2.0, 3.0], sigma: 4.0, w: 5.0, alpha: Some(6.0) };
         let second = FileKernel { c: [-1.0, -2.0, -3.0], sigma: 0.5, w: -50.0, alpha: None };
         assert_eq!(list.kernels, [first, second]);
@@ -244,7 +268,11 @@ mod tests {
     #[test]
     fn a_bad_kernel_list_is_named_by_its_line() {
         assert!(kernels_said("\n1 2 3 4 5").starts_with("k.txt, line 2: a kernel has six numbers"));
-        assert!(kernels_said("1 2 3 4 5 6 7").ends_with("here are 7"));
+        assert!(kernels_said("1 2 3 4 5 6 7 8").ends_with("here are 8"));
+        for layer in ["16", "-1", "+1", "1.0", "x", "99999999999"] {
+            let told = kernels_said(&format!("1 2 3 4 5 6 {layer}"));
+            assert_eq!(told, format!("k.txt, line 1: `{layer}` is not a layer: they are 0 to 15"));
+        }
         assert_eq!(kernels_said("1 2 3 - 5 6"), "k.txt, line 1: `-` is not a number from -1e100 to 1e100");
         assert_eq!(kernels_said("default 1\ndefault 2"), "k.txt, line 2: a second default");
         assert_eq!(kernels_said("default"), "k.txt, line 1: a default has one exponent");

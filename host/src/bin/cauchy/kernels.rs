@@ -20,6 +20,8 @@ pub struct Loading {
 pub struct Kernels {
     /// In metres.
     pub kernels: Vec<Kernel>,
+    /// The layer of each.
+    pub layers: Vec<u32>,
     /// What is said of them.
     pub said: Vec<String>,
 }
@@ -51,7 +53,8 @@ fn of_list(path: &Path, list: &KernelFile) -> Kernels {
     let given = list.kernels.iter().enumerate().filter_map(|(place, kernel)| Some((place, kernel.alpha?)));
     let low = given.filter(|(_, alpha)| *alpha <= 0.0);
     said.extend(low.map(|(place, alpha)| replaced(place, alpha)));
-    Kernels { kernels: list.kernels.iter().map(|kernel| kernel.to_metres(alpha)).collect(), said }
+    let kernels = list.kernels.iter().map(|kernel| kernel.to_metres(alpha)).collect();
+    Kernels { kernels, layers: list.layers.clone(), said }
 }
 
 /// What is said of an exponent that was given and gave way to the default.
@@ -77,7 +80,8 @@ fn of_lines(path: &Path, bytes: &[u8], loading: Loading) -> Result<Kernels> {
         }
         _ => replaced(difference.line, difference.source),
     }));
-    Ok(Kernels { kernels, said })
+    // bracket lines name no layer
+    Ok(Kernels { layers: vec![0; kernels.len()], kernels, said })
 }
 
 /// A line, from 0, of which the loaders make different kernels, and their exponents.

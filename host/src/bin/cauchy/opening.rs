@@ -105,8 +105,8 @@ fn open_files(files: &Files, radius: Option<f64>) -> Result<Opened> {
     let due = Due::of(&list.kernels, view).map_err(|refusal| of_mesh(refusal.into()))?;
     let radius = radius.unwrap_or_else(|| farthest(&mesh.vertices));
     let mut store = Store::open(radius, view).map_err(of_mesh)?;
-    for (place, kernel) in (0..).zip(list.kernels) {
-        let put = store.put(place, kernel);
+    for (place, (kernel, layer)) in (0..).zip(list.kernels.into_iter().zip(list.layers)) {
+        let put = store.put_in(place, kernel, layer);
         put.map_err(|refusal| Failure::of_file(&files.kernels, format!("kernel {place}: {refusal}")))?;
     }
     Ok(Opened { store, mesh: mesh_lines, kernels: list.said, bill: due.lines() })

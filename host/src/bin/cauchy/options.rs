@@ -1,7 +1,8 @@
 //! The command line.
 use crate::failure::{Failure, Result};
+use crate::input;
 use crate::kernels::Loading;
-use cauchy::{Convention, Loader};
+use cauchy::{Convention, Layers, Loader};
 use std::ffi::OsString;
 use std::path::PathBuf;
 
@@ -38,6 +39,12 @@ pub enum Origin {
 pub struct Options {
     pub origin: Origin,
     pub convention: Convention,
+    /// The layers that are read.
+    pub layers: Layers,
+    /// Whether each layer is reported by itself too.
+    pub by_layer: bool,
+    /// Whether what is finished is reported where work is left.
+    pub so_far: bool,
     pub track: Option<PathBuf>,
     pub csv: Option<PathBuf>,
     pub svg: Option<PathBuf>,
@@ -59,6 +66,9 @@ struct Given {
     rho0: Option<()>,
     mass: Option<f64>,
     bulk: Option<f64>,
+    layers: Option<Layers>,
+    by_layer: Option<()>,
+    so_far: Option<()>,
     track: Option<PathBuf>,
     csv: Option<PathBuf>,
     svg: Option<PathBuf>,
@@ -120,6 +130,9 @@ impl Given {
                 "--rho0" => once(name, &mut given.rho0, ())?,
                 "--mass" => once(name, &mut given.mass, above_zero(name, value()?)?)?,
                 "--bulk" => once(name, &mut given.bulk, above_zero(name, value()?)?)?,
+                "--layers" => once(name, &mut given.layers, layers(name, value()?)?)?,
+                "--by-layer" => once(name, &mut given.by_layer, ())?,
+                "--so-far" => once(name, &mut given.so_far, ())?,
                 "--track" => once(name, &mut given.track, value()?.into())?,
                 "--csv" => once(name, &mut given.csv, value()?.into())?,
                 "--svg" => once(name, &mut given.svg, value()?.into())?,
@@ -200,12 +213,15 @@ impl Given {
         if self.track.is_none() && (self.csv.is_some() || self.svg.is_some()) {
             return Failure::usage("--csv and --svg are of a track: give --track FILE too");
         }
-        if self.steps.is_some() && self.snapshot.is_none() {
-            return Failure::usage("--steps may stop before the end: give --snapshot FILE too");
+        if self.steps.is_some() && self.snapshot.is_none() && self.so_far.is_none() {
+            return Failure::usage("--steps may stop before the end: give --snapshot FILE or --so-far too");
         }
         Ok(Command::Work(Box::new(Options {
             origin,
             convention,
+            layers: self.layers.unwrap_or_default(),
+            by_layer: self.by_layer.is_some(),
+            so_far: self.so_far.is_some(),
             track: self.track,
             csv: self.csv,
             svg: self.svg,
@@ -254,6 +270,19 @@ fn whole(name: &str, word: OsString) -> Result<u64> {
     }
 }
 
+/// Layers by their numbers, with commas between them.
+fn layers(name: &str, word: OsString) -> Result<Layers> {
+    let told = match word.to_str() {
+        Some(text) => text.split(',').map(input::layer_of).collect::<input::Told<Vec<u32>>>(),
+        None => Err(format!("`{}` is not a list of layers", word.display())),
+    };
+    match told.map(|layers| Layers::of(&layers)) {
+        Ok(Ok(layers)) => Ok(layers),
+        Ok(Err(refusal)) => Failure::usage(format!("{name}: {refusal}")),
+        Err(what) => Failure::usage(format!("{name}: {what}")),
+    }
+}
+
 fn unit(name: &str, word: OsString) -> Result<f64> {
     match word.to_str() {
         Some("km") => Ok(METRES_IN_KM),
@@ -287,12 +316,15 @@ mod tests {
     #[test]
     fn a_whole_line_is_understood() {
         let line = "run a.obj --mass 4.5e11 k.txt --bulk 1200 --radius 0.5 --mesh-unit m --steps 9 --snapshot s \
-                    --squeeze";
+                    --squeeze --layers 2,15,2 --by-layer";
         let Ok(Command::Work(options)) = asked(line) else { panic!() };
         assert_eq!(options.origin, Origin::Files(files(1.0, UNSAID), Some(500.0)));
         assert_eq!(options.convention, Convention::Mass { target: 4.5e11, bulk: 1200.0 });
         assert_eq!((options.steps, options.snapshot), (Some(9), Some("s".into())));
         assert_eq!((options.squeeze, options.overwrite), (true, false));
+        assert_eq!((Ok(options.layers), options.by_layer), (Layers::of(&[2, 15]), true));
+        let Ok(Command::Work(plain)) = asked("run a.obj k.txt --raw") else { panic!() };
+        assert_eq!((plain.layers, plain.by_layer), (Layers::ALL, false));
     }
 
     #[test]
@@ -332,6 +364,8 @@ mod tests {
             ("page", "page takes one file: SNAPSHOT"),
             ("page a.obj k.txt", "page takes one file: SNAPSHOT"),
             ("page s --raw", "page takes no option"),
+            ("run a b --raw --layers 16", "--layers: `16` is not a layer: they are 0 to 15"),
+            ("run a b --raw --layers 1,", "--layers: `` is not a layer: they are 0 to 15"),
             ("page s --page p", "page takes no option"),
             ("run a b --raw --page p --page p", "--page is given twice"),
             ("run a.obj --raw", "run takes two files"),

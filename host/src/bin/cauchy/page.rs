@@ -1,7 +1,9 @@
 //! What the program prints.
 use crate::figures::{count, counted, rounded, short, whole};
 use crate::track::Track;
-use cauchy::{Bill, Convention, Kernel, MassReport, PLACES, Refusal, Store, StoreReport};
+use cauchy::{
+    Bill, Convention, Finished, Kernel, LAYERS, Layers, MassReport, PLACES, Refusal, Store, StoreReport,
+};
 use std::fmt::Write;
 use std::path::Path;
 
@@ -49,7 +51,11 @@ pub fn places(store: &Store) -> Vec<String> {
             0.0 => String::new(),
             error => format!(", fitted with an error of {} of its peak", rounded(error, 2)),
         };
-        Some(format!("place {place:<4}{pieces:<12}exponent {exponent}{fit}"))
+        let layer = match held.layer {
+            0 => String::new(),
+            layer => format!(", in layer {layer}"),
+        };
+        Some(format!("place {place:<4}{pieces:<12}exponent {exponent}{fit}{layer}"))
     };
     (0..PLACES).filter_map(line).collect()
 }
@@ -84,13 +90,14 @@ pub fn convention(convention: Convention) -> String {
 }
 
 /// The mass report, beside the density at the origin with weights as entered.
-pub fn report(by: Convention, report: &StoreReport, origin: f64, closed: bool) -> String {
+pub fn report(by: Convention, layers: Layers, report: &StoreReport, origin: f64, closed: bool) -> String {
     let mass = &report.mass;
     let bulk = match by {
         Convention::Raw => 1190.0,
         Convention::Rho0 { bulk } | Convention::Mass { bulk, .. } => bulk,
     };
-    let mut text = format!("\nMass report by the convention {}: {}\n", by.name(), convention(by));
+    let of = if layers == Layers::ALL { String::new() } else { format!(" of {}", layers_said(layers)) };
+    let mut text = format!("\nMass report{of} by the convention {}: {}\n", by.name(), convention(by));
     let mut row = |label: &str, figure: f64, unit: &str, scale: Option<f64>| {
         let figure = format!("{} {unit}", whole(figure));
         let scale = scale.map_or(String::new(), |scale| format!("weights times {}", whole(scale)));
@@ -109,6 +116,75 @@ pub fn report(by: Convention, report: &StoreReport, origin: f64, closed: bool) -
         let _ = writeln!(text, "  Note: {caution}");
     }
     text
+}
+
+/// A set of layers in words.
+fn layers_said(layers: Layers) -> String {
+    let numbers: Vec<String> =
+        (0..LAYERS).filter(|layer| layers.has(*layer)).map(|n| n.to_string()).collect();
+    match numbers.len() {
+        1 => format!("layer {}", numbers[0]),
+        _ => format!("layers {}", numbers.join(", ")),
+    }
+}
+
+/// Each layer's own report beside that of all that are read. A convention rescales each row by itself.
+pub fn by_layer(by: Convention, own: &[(u32, StoreReport)], all: &StoreReport) -> String {
+    let heads = [
+        "layer",
+        "kernels",
+        "pieces",
+        "mass as entered [kg]",
+        "mass by this convention [kg]",
+        "weights times",
+    ];
+    let row = |cells: [String; 6]| {
+        let [layer, kernels, pieces, raw, applied, scale] = cells;
+        format!("  {layer:<7}{kernels:>8}{pieces:>8}{raw:>26}{applied:>30}{scale:>26}\n")
+    };
+    let of = |name: String, report: &StoreReport| {
+        let figures = [report.mass.raw_mass, report.mass.applied_mass, report.mass.applied_scale].map(whole);
+        let [raw, applied, scale] = figures;
+        row([name, report.kernels.to_string(), report.pieces.to_string(), raw, applied, scale])
+    };
+    let rows: String = own.iter().map(|(layer, report)| of(layer.to_string(), report)).collect();
+    let title = format!("\nBy layer, each alone, by the convention {}: {}\n", by.name(), convention(by));
+    title + &row(heads.map(String::from)) + &rows + &of("all".to_string(), all)
+}
+
+/// The report of what is finished.
+pub fn so_far(by: Convention, layers: Layers, told: &Finished, closed: bool) -> String {
+    let of = if layers == Layers::ALL { String::new() } else { format!(" of {}", layers_said(layers)) };
+    let mut text =
+        format!("\nMass of what is finished{of}, by the convention {}: {}\n", by.name(), convention(by));
+    let mass = &told.report.mass;
+    let rows = [
+        ("field mass, weights as entered", whole(mass.raw_mass), "kg"),
+        ("field mass by this convention", whole(mass.applied_mass), "kg"),
+        ("weights times", whole(mass.applied_scale), ""),
+    ];
+    for (label, figure, unit) in rows {
+        let _ = writeln!(text, "{}", format!("  {label:<43}{figure} {unit}").trim_end());
+    }
+    let covered = counted(u64::from(told.report.kernels), "kernel");
+    let _ = writeln!(text, "  {:<43}{covered}, {}", "of", counted(u64::from(told.report.pieces), "piece"));
+    if !closed {
+        let _ = writeln!(text, "  Note: {NOT_CLOSED}");
+    }
+    let passed = counted(u64::from(told.passed_over), "kernel");
+    let _ =
+        writeln!(text, "  Note: this is NOT the mass of the store: {passed} with work left are not in it");
+    text
+}
+
+/// A place that the report of what is finished passed over.
+pub fn passed_over(store: &Store, place: u32) -> String {
+    let left = count(store.left_at(place));
+    let layer = match store.held(place) {
+        Some(held) if held.layer > 0 => format!(", in layer {}", held.layer),
+        _ => String::new(),
+    };
+    format!("  not in it: place {place}{layer}, {left} steps left\n")
 }
 
 /// What is said of a mass on a mesh that is not closed.
@@ -156,7 +232,7 @@ pub fn wall(page: &Result<String, Refusal>) -> String {
 }
 
 /// The first rows of the rescaled list.
-pub fn list(by: Convention, store: &Store, pieces: &[Kernel]) -> String {
+pub fn list(by: Convention, places: &[u32], pieces: &[Kernel]) -> String {
     let mut text =
         format!("\nRescaled list by the convention {}: {}", by.name(), counted(pieces.len() as u64, "piece"));
     if pieces.len() > ROWS {
@@ -165,7 +241,7 @@ pub fn list(by: Convention, store: &Store, pieces: &[Kernel]) -> String {
     let heads = ["place", "x [m]", "y [m]", "z [m]", "sigma [1/m]", "weight [kg/m³]", "exponent"];
     text.push('\n');
     text += &table_row(heads.map(String::from));
-    for (place, piece) in places_of(store).into_iter().zip(pieces).take(ROWS) {
+    for (place, piece) in places.iter().zip(pieces).take(ROWS) {
         let [x, y, z] = piece.c;
         let [x, y, z, sigma, w, alpha] = [x, y, z, piece.sigma, piece.w, piece.alpha].map(short);
         text += &table_row([place.to_string(), x, y, z, sigma, w, alpha]);
@@ -178,9 +254,9 @@ fn table_row([place, x, y, z, sigma, w, alpha]: [String; 7]) -> String {
 }
 
 /// The rescaled list, whole, as a table.
-pub fn list_csv(store: &Store, pieces: &[Kernel]) -> String {
+pub fn list_csv(places: &[u32], pieces: &[Kernel]) -> String {
     let mut text = String::from("place,x_m,y_m,z_m,sigma_per_m,weight_kg_m3,exponent\n");
-    for (place, piece) in places_of(store).into_iter().zip(pieces) {
+    for (place, piece) in places.iter().zip(pieces) {
         let [x, y, z] = piece.c;
         let fields = [x, y, z, piece.sigma, piece.w, piece.alpha].map(whole);
         let _ = writeln!(text, "{place},{}", fields.join(","));
@@ -188,9 +264,10 @@ pub fn list_csv(store: &Store, pieces: &[Kernel]) -> String {
     text
 }
 
-/// The place of each piece, in the list's order.
-fn places_of(store: &Store) -> Vec<u32> {
-    let pieces = |place| store.held(place).map_or(0, |held| held.pieces as usize);
+/// The place of each piece of these layers, in the list's order.
+pub fn places_of(store: &Store, layers: Layers) -> Vec<u32> {
+    let read = |place| store.held(place).filter(|held| layers.has(held.layer));
+    let pieces = |place| read(place).map_or(0, |held| held.pieces as usize);
     (0..PLACES).flat_map(|place| std::iter::repeat_n(place, pieces(place))).collect()
 }
 

@@ -1,7 +1,7 @@
 //! The density along a track.
 use crate::failure::{Failure, Result};
 use crate::figures::{rounded, short, whole};
-use cauchy::{Convention, Mesh, Store};
+use cauchy::{Convention, Mesh, Seen};
 use std::f64::consts::TAU;
 
 pub struct Track {
@@ -19,10 +19,15 @@ pub struct Track {
 const INSIDE_LIMIT: usize = 1 << 24;
 
 impl Track {
-    pub fn read(store: &Store, convention: Convention, points: Vec<[f64; 3]>) -> Result<Track> {
-        let density = store.densities(convention, &points);
+    /// The density of what is seen of a store along these points, in the store's mesh.
+    pub fn read(
+        seen: Seen<'_>,
+        mesh: Mesh<'_>,
+        convention: Convention,
+        points: Vec<[f64; 3]>,
+    ) -> Result<Track> {
+        let density = seen.densities(convention, &points);
         let density = density.map_err(|refusal| Failure::Work(format!("track: {refusal}")))?;
-        let mesh = store.mesh();
         let soon = points.len().saturating_mul(mesh.faces.len()) <= INSIDE_LIMIT;
         let inside = soon.then(|| points.iter().map(|point| is_inside(mesh, *point)).collect());
         Ok(Track { along: along(&points), points, density, inside })

@@ -4,6 +4,7 @@ use oracle::bill::{Bill, bill, exact, six};
 use oracle::cases::{self, EXPONENTS, one};
 use oracle::conventions::Convention;
 use oracle::inputs::Rng;
+use oracle::machine::{ALL_LAYERS, CORNERS};
 use oracle::meshes::Mesh;
 use oracle::pieces::Kernel;
 use oracle::solids;
@@ -13,7 +14,7 @@ use oracle::tally::Tally;
 /// A put, or one of the calls that may come between.
 #[derive(Clone, Copy, Debug)]
 enum Call {
-    Put(u32, Kernel),
+    Put(u32, Kernel, u32),
     Clear(u32),
     Reweigh(u32, f64),
     Advance(u64),
@@ -56,7 +57,7 @@ fn work(r: &mut Rng) -> Work {
     let mut calls = Vec::new();
     for (i, k) in order.into_iter().enumerate() {
         let place = if apart { places[i] } else { r.below(36) as u32 };
-        calls.push(Call::Put(place, kernels[k]));
+        calls.push(Call::Put(place, kernels[k], r.below(16) as u32));
         if r.below(4) == 0 {
             calls.push(between(r, apart));
         }
@@ -92,12 +93,12 @@ struct Taken {
 
 fn take(mesh: &Mesh, work: &Work, due: Bill) -> Taken {
     let (verts, faces) = (mesh.xyz.len() / 3, mesh.faces.len() / 3);
-    let (mut floats, mut words) = (vec![0.0; 1_761 + 3 * verts], vec![0; 98 + 3 * faces]);
+    let (mut floats, mut words) = (vec![0.0; 1_761 + 3 * verts], vec![0; CORNERS + 3 * faces]);
     assert_eq!(store::open(&mut floats, &mut words, work.radius, &mesh.xyz, &mesh.faces).no, 0);
     let mut steps = 0;
     for call in &work.calls {
         match *call {
-            Call::Put(place, k) => steps += u64::from(store::put(&mut floats, &mut words, place, k).need),
+            Call::Put(place, k, layer) => steps += u64::from(store::put(&mut floats, &mut words, place, k, layer).need),
             Call::Clear(place) => _ = store::clear(&mut floats, &mut words, place),
             Call::Reweigh(place, w) => _ = store::reweigh(&mut floats, &mut words, place, w),
             Call::Advance(n) => _ = store::advance(&mut floats, &mut words, n),
@@ -105,9 +106,9 @@ fn take(mesh: &Mesh, work: &Work, due: Bill) -> Taken {
         }
     }
     let mut run = vec![0.0; due.floats as usize];
-    let (listed, pieces) = store::list(&floats, &words, Convention::RAW, &mut run);
+    let (listed, pieces) = store::list(&floats, &words, Convention::RAW, ALL_LAYERS, &mut run);
     let shorter = run.len().saturating_sub(1);
-    let (shorter, _) = store::list(&floats, &words, Convention::RAW, &mut run[..shorter]);
+    let (shorter, _) = store::list(&floats, &words, Convention::RAW, ALL_LAYERS, &mut run[..shorter]);
     Taken { steps, listed, floats: 6 * u64::from(pieces), shorter }
 }
 

@@ -2,6 +2,7 @@
 use crate::judge::differs;
 use oracle::held::Held;
 use oracle::inputs::Rng;
+use oracle::machine::{CORNERS, RECORD};
 use oracle::step;
 use oracle::tally::Tally;
 
@@ -67,11 +68,11 @@ const PAGES: [Page; 7] = [
 
 /// A store without a mesh whose places have these pieces and masses: the first piece has it all.
 fn store(places: &[(usize, u32, f64)]) -> Held {
-    let (mut floats, mut words) = (vec![0.0; 1_761], vec![0; 98]);
+    let (mut floats, mut words) = (vec![0.0; 1_761], vec![0; CORNERS]);
     for &(i, pieces, mass) in places {
         floats[1 + 7 * i + 4] = mass;
         floats[225 + 48 * i + 1..][..2].copy_from_slice(&[1.0, 1.0]);
-        words[2 + 3 * i..][..3].copy_from_slice(&[1 + pieces, pieces, 0]);
+        words[2 + RECORD * i..][..3].copy_from_slice(&[1 + pieces, pieces, 0]);
     }
     Held { floats, words }
 }
@@ -134,7 +135,7 @@ fn refused(judge: &mut Judge) {
             judge.held("no figure", &held, room, Err(17));
         }
         // a face that is not done
-        (held.words[1], held.words[2 + 3 * 31 + 1]) = (1, 0);
+        (held.words[1], held.words[2 + RECORD * 31 + 1]) = (1, 0);
         held.words.extend([0, 0, 0]);
         held.words[0] = 1;
         held.floats.extend([0.0; 3]);

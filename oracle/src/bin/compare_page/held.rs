@@ -6,6 +6,7 @@ use oracle::cases::{self, one};
 use oracle::held::Held;
 use oracle::histories;
 use oracle::inputs::Rng;
+use oracle::machine::RECORD;
 use oracle::tally::Tally;
 
 /// A sound store, mostly with all work done, whose places' masses are what shall be printed.
@@ -16,11 +17,11 @@ fn store(r: &mut Rng) -> Held {
     let some = one(r, &[2, 4, 16]);
     for i in 0..32 {
         let pieces = if r.below(some) == 0 { one(r, &[0, 1, 1, 1, 2, 3, 16]) } else { 0 };
-        let at = 2 + 3 * i;
+        let at = 2 + RECORD * i;
         if pieces == 0 && r.below(8) > 0 {
-            held.words[at..][..3].fill(0);
+            held.words[at..][..RECORD].fill(0);
         } else if done {
-            held.words[at..][..3].copy_from_slice(&[1 + pieces, pieces, 0]);
+            held.words[at..][..RECORD].copy_from_slice(&[1 + pieces, pieces, 0, r.below(16) as u32]);
         }
     }
     let masses = Masses::draw(r);
@@ -33,7 +34,7 @@ fn store(r: &mut Rng) -> Held {
 
 /// The place's fields, so that its own mass is the target, or near it: the pieces before the last have any mass, often a large one.
 fn weigh(r: &mut Rng, held: &mut Held, i: usize, target: f64) {
-    let pieces = held.words[2 + 3 * i].saturating_sub(1) as usize;
+    let pieces = held.words[2 + RECORD * i].saturating_sub(1) as usize;
     let (w, coefficient) = (one(r, &[1.0, 2.0, -0.5]), one(r, &[1.0, -4.0, 0.25]));
     held.floats[1 + 7 * i + 4] = w;
     let mut sum = 0.0;

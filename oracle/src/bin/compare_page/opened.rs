@@ -6,7 +6,7 @@ use oracle::cases::{self, one};
 use oracle::held::Held;
 use oracle::histories::{self, Body};
 use oracle::inputs::Rng;
-use oracle::machine::{self, Machine};
+use oracle::machine::{self, Machine, RECORD};
 use oracle::pieces::Kernel;
 use oracle::tally::Tally;
 use oracle::text::ByArchive;
@@ -51,8 +51,8 @@ impl Twin {
     }
 
     fn put(&mut self, place: u32, k: Kernel) {
-        assert_eq!(store::put(&mut self.runs.floats, &mut self.runs.words, place, k).no, 0);
-        self.machine.put(place, k).unwrap();
+        assert_eq!(store::put(&mut self.runs.floats, &mut self.runs.words, place, k, place % 16).no, 0);
+        self.machine.put(place, k, place % 16).unwrap();
     }
 
     fn reweigh(&mut self, place: u32, w: f64) {
@@ -69,8 +69,8 @@ impl Twin {
     fn weigh(&mut self, r: &mut Rng) {
         let (floats, words) = self.machine.fields();
         let masses = Masses::draw(r);
-        for place in (0..32).filter(|i| words[2 + 3 * *i as usize] > 0) {
-            let (target, pieces) = (masses.one(r), words[2 + 3 * place as usize] as usize - 1);
+        for place in (0..32).filter(|i| words[2 + RECORD * *i as usize] > 0) {
+            let (target, pieces) = (masses.one(r), words[2 + RECORD * place as usize] as usize - 1);
             let parts = &floats[225 + 48 * place as usize..][..3 * pieces];
             self.reweigh(place, if target.is_finite() { weight(parts, target) } else { target });
         }

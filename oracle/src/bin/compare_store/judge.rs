@@ -2,10 +2,11 @@
 use crate::squeezes::{altered, touch_freed};
 use crate::tracks::apart;
 use oracle::cases;
+use oracle::conventions::Report;
 use oracle::held::Held;
 use oracle::histories::{self, Answer, Body, Call, Model, Places};
 use oracle::inputs::Rng;
-use oracle::machine::{self, Machine};
+use oracle::machine::{self, ALL_LAYERS, Machine};
 use oracle::page;
 use oracle::pattern;
 use oracle::store;
@@ -25,7 +26,7 @@ impl Runs {
         let (f, w) = (&mut self.floats[..], &mut self.words[..]);
         let edited = |no| if no == 0 { Answer::Edited } else { Answer::Refused(no) };
         match call {
-            Call::Put(place, k) => match store::put(f, w, place, k) {
+            Call::Put(place, k, layer) => match store::put(f, w, place, k, layer) {
                 store::Placed { no: 0, pieces, need } => Answer::Placed(pieces, need),
                 store::Placed { no, pieces: 0, need: 0 } => Answer::Refused(no),
                 told => panic!("a refusal with values: {told:?}"),
@@ -54,21 +55,26 @@ impl Runs {
             _ => panic!("a refusal with values: {no}, {answer:?}"),
         };
         match call {
-            Call::Density(by, at) => {
-                let (no, value) = store::density(&self.floats, &self.words, by, at);
+            Call::Density(by, layers, at) => {
+                let (no, value) = store::density(&self.floats, &self.words, by, layers, at);
                 told(no, &[value], Answer::Value(value))
             }
-            Call::Report(by) => {
-                let (no, report) = store::report(&self.floats, &self.words, by);
+            Call::Report(by, layers) => {
+                let (no, report) = store::report(&self.floats, &self.words, by, layers);
                 let more = [report.kernels.into(), report.pieces.into(), report.error];
                 told(no, &[&report.mass[..], &more].concat(), Answer::Report(report))
             }
-            Call::List(by, _) => {
-                let (no, pieces) = store::list(&self.floats, &self.words, by, out);
+            Call::Finished(by, layers) => {
+                let (no, report, passed) = store::finished(&self.floats, &self.words, by, layers);
+                let more = [report.kernels.into(), report.pieces.into(), report.error, passed.into()];
+                told(no, &[&report.mass[..], &more].concat(), Answer::Finished(report, passed))
+            }
+            Call::List(by, layers, _) => {
+                let (no, pieces) = store::list(&self.floats, &self.words, by, layers, out);
                 told(no, &[pieces.into()], Answer::Listed(pieces))
             }
-            Call::Track(by, points, _) => {
-                let (no, count) = store::track(&self.floats, &self.words, by, points, out);
+            Call::Track(by, layers, points, _) => {
+                let (no, count) = store::track(&self.floats, &self.words, by, layers, points, out);
                 told(no, &[count.into()], Answer::Tracked(count))
             }
             Call::Page(room) => {
@@ -82,7 +88,8 @@ impl Runs {
 
 /// What was seen of answers: accepted and refused, by number; of squeezes: how many freed vertices, freed none, were refused; of tracks:
 /// how many had points, had none, were refused as 14, as another number; of pages: how many had lines of places, had none, were refused
-/// as 8, 17 and 18, as another number.
+/// as 8, 17 and 18, as another number; of readings by layers: how many of all sixteen, of some and of none were accepted, and puts and
+/// readings refused as 16.
 #[derive(Default)]
 pub struct Seen {
     accepted: u64,
@@ -90,6 +97,8 @@ pub struct Seen {
     squeezes: [u64; 3],
     tracks: [u64; 4],
     pages: [u64; 6],
+    layers: [u64; 4],
+    finished: [u64; 3],
 }
 
 impl Seen {
@@ -114,6 +123,19 @@ impl Seen {
             (Call::Page(_), _) => self.pages[5] += 1,
             _ => {}
         }
+        match answer {
+            Answer::Finished(_, 0) => self.finished[0] += 1,
+            Answer::Finished(Report { kernels: 0, .. }, _) => self.finished[2] += 1,
+            Answer::Finished(..) => self.finished[1] += 1,
+            _ => {}
+        }
+        match (set_of(call), answer) {
+            (_, Answer::Refused(16)) => self.layers[3] += 1,
+            (None, _) | (_, Answer::Refused(_)) => {}
+            (Some(ALL_LAYERS), _) => self.layers[0] += 1,
+            (Some(0), _) => self.layers[2] += 1,
+            (Some(_), _) => self.layers[1] += 1,
+        }
     }
 
     pub fn text(&self) -> String {
@@ -124,12 +146,19 @@ impl Seen {
         let tracks = format!("; of tracks {written} written, {empty} without points, {bad} refused as 14, {other} as another");
         let [lines, total, left, figure, short, other] = self.pages;
         let pages = format!("; of pages {lines} written, {total} without places, {left} refused as 8, {figure} as 17, {short} as 18");
-        format!("{} accepted{}{squeezes}{tracks}{pages}, {other} as another", self.accepted, refused.collect::<String>())
+        let [all, some, none, no_layer] = self.layers;
+        let layers = format!("; of readings {all} by all layers, {some} by some, {none} by none; {no_layer} calls refused as 16");
+        let [whole, part, empty] = self.finished;
+        let finished = format!("; of what is finished {whole} passed over none, {part} some, {empty} all");
+        format!("{} accepted{}{squeezes}{tracks}{pages}, {other} as another{layers}{finished}", self.accepted, refused.collect::<String>())
     }
 }
 
 pub fn same(a: Answer, b: Answer) -> bool {
     let floats = |x: &[f64], y: &[f64]| x.iter().zip(y).all(|(x, y)| pattern(*x) == pattern(*y));
+    let reports = |x: &Report, y: &Report| {
+        floats(&x.mass, &y.mass) && (x.kernels, x.pieces) == (y.kernels, y.pieces) && floats(&[x.error], &[y.error])
+    };
     match (a, b) {
         (Answer::Refused(x), Answer::Refused(y)) => x == y,
         (Answer::Placed(a, b), Answer::Placed(x, y)) => (a, b) == (x, y),
@@ -139,9 +168,8 @@ pub fn same(a: Answer, b: Answer) -> bool {
         (Answer::Value(x), Answer::Value(y)) => floats(&[x], &[y]),
         (Answer::Listed(x), Answer::Listed(y)) | (Answer::Tracked(x), Answer::Tracked(y)) => x == y,
         (Answer::Paged(x), Answer::Paged(y)) => x == y,
-        (Answer::Report(x), Answer::Report(y)) => {
-            floats(&x.mass, &y.mass) && (x.kernels, x.pieces) == (y.kernels, y.pieces) && floats(&[x.error], &[y.error])
-        }
+        (Answer::Report(x), Answer::Report(y)) => reports(&x, &y),
+        (Answer::Finished(x, m), Answer::Finished(y, n)) => m == n && reports(&x, &y),
         _ => false,
     }
 }
@@ -176,9 +204,21 @@ fn written(answer: Answer) -> usize {
     }
 }
 
+/// The set of layers that a reading names.
+fn set_of(call: Call) -> Option<u32> {
+    match call {
+        Call::Density(_, layers, _)
+        | Call::Report(_, layers)
+        | Call::Finished(_, layers)
+        | Call::List(_, layers, _)
+        | Call::Track(_, layers, ..) => Some(layers),
+        _ => None,
+    }
+}
+
 /// Whether the call only reads the store.
 fn reads(call: Call) -> bool {
-    matches!(call, Call::Density(..) | Call::Report(_) | Call::List(..) | Call::Track(..) | Call::Page(_))
+    matches!(call, Call::Density(..) | Call::Report(..) | Call::Finished(..) | Call::List(..) | Call::Track(..) | Call::Page(_))
 }
 
 /// One call on both: the answer, the lent run, and the runs, which `fields` then says of the model. A refused call and a reading leave
@@ -216,7 +256,7 @@ pub fn differs<M: Model>(
 /// A run for a list or a track, and one whose bytes are more than a page has; no other call is lent one.
 pub fn lent(r: &mut Rng, call: Call) -> Vec<f64> {
     match call {
-        Call::List(_, room) | Call::Track(_, _, room) => cases::garbage(r, room),
+        Call::List(_, _, room) | Call::Track(_, _, _, room) => cases::garbage(r, room),
         Call::Page(room) => cases::garbage(r, room / 8 + 2),
         _ => Vec::new(),
     }

@@ -3,7 +3,7 @@ use crate::judge::{Runs, Seen, differs, float_differs, opened, same};
 use oracle::cases;
 use oracle::histories::{Answer, Body, Call};
 use oracle::inputs::Rng;
-use oracle::machine::{FACES, Machine, VERTS};
+use oracle::machine::{CORNERS, FACES, Machine, VERTS};
 use oracle::pieces::Kernel;
 use oracle::tally::Tally;
 
@@ -22,7 +22,7 @@ pub fn altered(spared: &mut Runs, runs: &Runs, call: Call, lent: &[f64], told: A
     let alike = same(told, without)
         && float_differs(&out, &again, out.len()).is_none()
         && fields.is_none()
-        && runs.words[1..98] == spared.words[1..98];
+        && runs.words[1..CORNERS] == spared.words[1..CORNERS];
     if alike { None } else { Some(format!("{told:?}, and without the squeezes before {without:?}; float {fields:?}")) }
 }
 
@@ -56,7 +56,7 @@ pub fn largest(count: u64, mut r: Rng) -> Tally {
         let (mut runs, mut machine, fault) = opened(&mut r, &body);
         assert!(fault.is_none());
         let kernel = Kernel { c: [1.0, 2.0, 3.0], sigma: 0.004, w: 1190.0, alpha: 1.0 };
-        for call in [Call::Put(3, kernel), Call::Advance(1_000), Call::Squeeze, Call::Advance(1_000), Call::Squeeze] {
+        for call in [Call::Put(3, kernel, 0), Call::Advance(1_000), Call::Squeeze, Call::Advance(1_000), Call::Squeeze] {
             let (difference, _, want) = differs(&mut runs, &mut machine, call, &[], Machine::fields);
             seen.add(call, want);
             tally.count(difference.is_some(), || format!("mesh {i}, {call:?}: {}", difference.unwrap()));

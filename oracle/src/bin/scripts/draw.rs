@@ -204,16 +204,16 @@ fn convention(r: &mut Rng, by: oracle::conventions::Convention) -> String {
 /// The call's line; a list, a track and a squeeze have none.
 fn call_line(r: &mut Rng, call: Call) -> Option<String> {
     Some(match call {
-        Call::Put(place, k) => {
+        Call::Put(place, k, _) => {
             let (c, sigma, w, alpha) = (hs(r, &k.c), h(r, k.sigma), h(r, k.w), h(r, k.alpha));
             format!("(put {place} (c {c}) (sigma {sigma}) (w {w}) (alpha {alpha}))")
         }
         Call::Clear(place) => format!("(clear {place})"),
         Call::Reweigh(place, w) => format!("(reweigh {place} {})", h(r, w)),
         Call::Advance(n) => format!("(advance {n})"),
-        Call::Density(by, at) => format!("(density {} {})", convention(r, by), hs(r, &at)),
-        Call::Report(by) => format!("(report {})", convention(r, by)),
-        Call::List(..) | Call::Track(..) | Call::Page(_) | Call::Squeeze => return None,
+        Call::Density(by, _, at) => format!("(density {} {})", convention(r, by), hs(r, &at)),
+        Call::Report(by, _) => format!("(report {})", convention(r, by)),
+        Call::Finished(..) | Call::List(..) | Call::Track(..) | Call::Page(_) | Call::Squeeze => return None,
     })
 }
 

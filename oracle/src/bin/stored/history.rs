@@ -24,7 +24,7 @@ pub enum Step {
 
 /// The runs have room for 8 vertices and 12 faces, and a few words of excess.
 const FLOATS: usize = 1_787;
-const WORDS: usize = 135;
+const WORDS: usize = 167;
 /// What they hold before the first call, and what the run of a list or a track holds before each.
 const BEFORE: (f64, u32) = (1.5, 9);
 const LENT: f64 = 2.5;
@@ -108,8 +108,8 @@ impl Replay {
     /// The call and its answer; the runs are then as it leaves them.
     fn call(&mut self, call: Call) -> String {
         let (mut run, room) = match call {
-            Call::List(_, room) => (vec![LENT; LIST], room),
-            Call::Track(_, _, room) => (vec![LENT; TRACK], room),
+            Call::List(_, _, room) => (vec![LENT; LIST], room),
+            Call::Track(_, _, _, room) => (vec![LENT; TRACK], room),
             Call::Page(_) => (vec![STOPS; PAGE / 8], PAGE / 8),
             _ => (Vec::new(), 0),
         };
@@ -135,15 +135,16 @@ impl Replay {
 
 fn head(call: Call) -> String {
     match call {
-        Call::Put(place, _) => format!("put {place}"),
+        Call::Put(place, ..) => format!("put {place}"),
         Call::Clear(place) => format!("clear {place}"),
         Call::Reweigh(place, _) => format!("reweigh {place}"),
         Call::Advance(n) => format!("advance {n}"),
         Call::Squeeze => "squeeze".into(),
-        Call::Density(by, _) => format!("density{}", convention(by)),
-        Call::Report(by) => format!("report{}", convention(by)),
-        Call::List(by, room) => format!("list {room}{}", convention(by)),
-        Call::Track(by, points, room) => format!("track {} {room}{}", points.len(), convention(by)),
+        Call::Density(by, ..) => format!("density{}", convention(by)),
+        Call::Report(by, _) => format!("report{}", convention(by)),
+        Call::Finished(by, _) => format!("finished{}", convention(by)),
+        Call::List(by, _, room) => format!("list {room}{}", convention(by)),
+        Call::Track(by, _, points, room) => format!("track {} {room}{}", points.len(), convention(by)),
         Call::Page(room) => format!("page {room}"),
     }
 }
@@ -164,13 +165,16 @@ fn answer(told: Answer) -> String {
         Answer::Steps(done, left) => format!(" done {done} left {left}"),
         Answer::Freed(n) => format!(" freed {n}"),
         Answer::Value(x) => format!(" value{}", bits(&[x])),
-        Answer::Report(Report { mass, kernels, pieces, error }) => {
-            format!(" masses{} kernels {kernels} pieces {pieces} error{}", bits(&mass), bits(&[error]))
-        }
+        Answer::Report(report) => masses(report),
+        Answer::Finished(report, passed) => format!("{} passed {passed}", masses(report)),
         Answer::Listed(pieces) => format!(" pieces {pieces}"),
         Answer::Tracked(points) => format!(" points {points}"),
         Answer::Paged(bytes) => format!(" bytes {bytes}"),
     }
+}
+
+fn masses(Report { mass, kernels, pieces, error }: Report) -> String {
+    format!(" masses{} kernels {kernels} pieces {pieces} error{}", bits(&mass), bits(&[error]))
 }
 
 fn bits(list: &[f64]) -> String {

@@ -2,6 +2,7 @@
 use crate::history::Step;
 use oracle::conventions::Convention;
 use oracle::histories::Call;
+use oracle::machine::ALL_LAYERS;
 use oracle::pieces::Kernel;
 
 pub fn steps() -> Vec<Step> {
@@ -69,7 +70,7 @@ fn excerpt(coordinates: usize, from: usize, to: usize, radius: f64) -> Step {
 }
 
 fn put(place: u32, k: Kernel) -> Step {
-    Step::Call(Call::Put(place, k))
+    Step::Call(Call::Put(place, k, 0))
 }
 
 fn clear(place: u32) -> Step {
@@ -89,15 +90,15 @@ fn squeeze() -> Step {
 }
 
 fn density(by: Convention) -> Step {
-    Step::Call(Call::Density(by, [0.75, -0.5, 0.25]))
+    Step::Call(Call::Density(by, ALL_LAYERS, [0.75, -0.5, 0.25]))
 }
 
 fn report(by: Convention) -> Step {
-    Step::Call(Call::Report(by))
+    Step::Call(Call::Report(by, ALL_LAYERS))
 }
 
 fn list(by: Convention, room: usize) -> Step {
-    Step::Call(Call::List(by, room))
+    Step::Call(Call::List(by, ALL_LAYERS, room))
 }
 
 /// The points of a track, no numbers and infinities among them, and those of a long one.
@@ -110,7 +111,7 @@ static FAR: [f64; 12_291] = [0.5; 12_291];
 
 fn track(by: Convention, coordinates: usize, room: usize) -> Step {
     let points: &'static [f64] = if coordinates <= POINTS.len() { &POINTS } else { &FAR };
-    Step::Call(Call::Track(by, &points[..coordinates], room))
+    Step::Call(Call::Track(by, ALL_LAYERS, &points[..coordinates], room))
 }
 
 fn page(room: usize) -> Step {

@@ -1,7 +1,7 @@
 //! The largest store: the soundness check that every call makes reads each corner once, and an opening copies and reads the mesh.
 use crate::lent::{Lent, RADIUS};
 use crate::table::{Row, Timings, Way};
-use oracle::machine::{FACES, VERTS};
+use oracle::machine::{CORNERS, FACES, VERTS};
 use oracle::store;
 use std::cell::RefCell;
 use std::rc::Rc;
@@ -12,8 +12,8 @@ pub fn rows(timings: &mut Timings) {
     let lent = Rc::new(RefCell::new(Lent::open(&xyz, &corners)));
     let [of_advance, of_clear, of_open] = [(); 3].map(|()| lent.clone());
     let [of_max, of_wide] = [(); 2].map(|()| lent.clone());
-    let most = timings.way(Way::new(1, move || greatest(&of_max.borrow().words[98..])));
-    let wide = timings.way(Way::new(1, move || greatest_wide(&of_wide.borrow().words[98..])));
+    let most = timings.way(Way::new(1, move || greatest(&of_max.borrow().words[CORNERS..])));
+    let wide = timings.way(Way::new(1, move || greatest_wide(&of_wide.borrow().words[CORNERS..])));
     let advance = timings.way(Way::new(1, move || of_advance.borrow_mut().advance(0)));
     let clear = timings.way(Way::new(1, move || {
         let Lent { floats, words } = &mut *of_clear.borrow_mut();
@@ -57,6 +57,6 @@ fn copy(lent: &Rc<RefCell<Lent>>, xyz: &Rc<Vec<f64>>, corners: &Rc<Vec<u32>>) ->
         let Lent { floats, words } = &mut *lent.borrow_mut();
         assert!(greatest(&corners).is_some_and(|most| (most as usize) < VERTS));
         floats[1_761..].copy_from_slice(&xyz);
-        words[98..].copy_from_slice(&corners);
+        words[CORNERS..].copy_from_slice(&corners);
     })
 }

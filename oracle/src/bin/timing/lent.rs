@@ -75,7 +75,7 @@ impl Lent {
 
     /// How many pieces the kernel has.
     pub fn put(&mut self, place: u32, k: Kernel) -> u32 {
-        let told = store::put(&mut self.floats, &mut self.words, place, k);
+        let told = store::put(&mut self.floats, &mut self.words, place, k, 0);
         assert_eq!(told.no, 0);
         told.pieces
     }

@@ -4,6 +4,7 @@
 use crate::lent::{Body, Shared};
 use crate::table::{Id, Row, Timings, Way};
 use oracle::conventions::{Convention, MASS, RAW, RHO0};
+use oracle::machine::ALL_LAYERS;
 use oracle::original::native_platform::{KernelSi, body_volume, densitize};
 use oracle::original::native_steps;
 use oracle::page::{self, Row as Line};
@@ -41,7 +42,7 @@ impl Pieces {
     fn of(store: &Shared) -> Pieces {
         let lent = store.borrow();
         let mut out = [0.0; 6 * PIECES];
-        assert_eq!(store::list(&lent.floats, &lent.words, Convention::RAW, &mut out), (0, PIECES as u32));
+        assert_eq!(store::list(&lent.floats, &lent.words, Convention::RAW, ALL_LAYERS, &mut out), (0, PIECES as u32));
         let list: Vec<KernelSi> = out.chunks(6).map(|k| KernelSi { c: [k[0], k[1], k[2]], sigma: k[3], w: k[4], alpha: k[5] }).collect();
         let volumes = lent.floats[225..][..3 * PIECES].chunks(3).map(|piece| piece[2]).collect();
         Pieces { scaled: list.clone(), list, volumes }
@@ -112,7 +113,7 @@ fn density(timings: &mut Timings, store: &Shared, name: &str, by: Convention, ch
     let (store, mut pieces) = (store.clone(), Pieces::of(store));
     let ours = move || {
         let lent = store.borrow();
-        store::density(&lent.floats, &lent.words, by, black_box(AT)).1
+        store::density(&lent.floats, &lent.words, by, ALL_LAYERS, black_box(AT)).1
     };
     assert_eq!(pattern(ours()), pattern(pieces.density(by.kind)), "density by {name}");
     let ours = timings.way(Way::turns(TURNS, 1, ours));
@@ -126,7 +127,7 @@ fn list(timings: &mut Timings, store: &Shared, check: Id) {
     let (mut out, mut written) = (vec![0.0; 6 * PIECES], vec![0.0; 6 * PIECES]);
     let ours = move |out: &mut [f64]| {
         let lent = store.borrow();
-        store::list(&lent.floats, &lent.words, Convention::mass_of(TARGET, BULK), black_box(out)).1
+        store::list(&lent.floats, &lent.words, Convention::mass_of(TARGET, BULK), ALL_LAYERS, black_box(out)).1
     };
     ours(&mut out);
     pieces.write(&mut written);
@@ -156,7 +157,7 @@ fn report(timings: &mut Timings, name: &str, body: &Rc<Body>, store: Shared) {
     let pieces = Pieces::of(&store);
     let ours = move || {
         let lent = store.borrow();
-        store::report(&lent.floats, &lent.words, Convention::mass_of(TARGET, BULK)).1.mass
+        store::report(&lent.floats, &lent.words, Convention::mass_of(TARGET, BULK), ALL_LAYERS).1.mass
     };
     let (of_plain, of_steps, list) = (body.clone(), body.clone(), pieces.clone());
     let platform = move || pieces.report(body_volume(&of_plain.plain));

@@ -2,7 +2,7 @@
 //! before each time.
 use crate::lent::Lent;
 use crate::table::{Row, Timings, Way};
-use oracle::machine::{FACES, VERTS};
+use oracle::machine::{CORNERS, FACES, VERTS};
 use oracle::{pattern, store};
 use std::cell::RefCell;
 use std::rc::Rc;
@@ -69,7 +69,7 @@ fn squeeze(xyz: &mut [f64], corners: &mut [u32]) -> usize {
 
 /// The store's mesh and the vectors, word for word.
 fn alike(lent: &Lent, (xyz, corners): &(Vec<f64>, Vec<u32>)) -> bool {
-    lent.words[98..] == corners[..] && lent.floats[1_761..].iter().zip(xyz).all(|(x, y)| pattern(*x) == pattern(*y))
+    lent.words[CORNERS..] == corners[..] && lent.floats[1_761..].iter().zip(xyz).all(|(x, y)| pattern(*x) == pattern(*y))
 }
 
 /// The mesh as it was, in a store without kernels.
@@ -78,7 +78,7 @@ fn refilled(lent: &Rc<RefCell<Lent>>, xyz: &Rc<Vec<f64>>, corners: &Rc<Vec<u32>>
     move || {
         let Lent { floats, words } = &mut *lent.borrow_mut();
         floats[1_761..].copy_from_slice(&xyz);
-        words[98..].copy_from_slice(&corners);
+        words[CORNERS..].copy_from_slice(&corners);
         words[0] = VERTS as u32;
     }
 }

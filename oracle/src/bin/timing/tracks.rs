@@ -4,6 +4,7 @@ use crate::lent::{Body, Shared};
 use crate::table::{Id, Row, Timings, Way};
 use oracle::conventions::Convention;
 use oracle::inputs::Rng;
+use oracle::machine::ALL_LAYERS;
 use oracle::original::native_platform::{KernelSi, densitize};
 use oracle::pieces::Kernel;
 use oracle::{pattern, store};
@@ -42,7 +43,7 @@ fn place(kernels: u32, alpha: f64, count: usize) -> Place {
     }
     assert_eq!(store.borrow_mut().advance(u64::MAX).1, 0);
     let mut out = vec![0.0; 6 * count];
-    assert_eq!(store::list(&store.borrow().floats, &store.borrow().words, BY, &mut out), (0, count as u32));
+    assert_eq!(store::list(&store.borrow().floats, &store.borrow().words, BY, ALL_LAYERS, &mut out), (0, count as u32));
     let pieces = out.chunks(6).map(|k| KernelSi { c: [k[0], k[1], k[2]], sigma: k[3], w: k[4], alpha: k[5] }).collect();
     let mut r = Rng(1);
     let points = (0..3 * 4_096).map(|_| r.within(-600.0, 600.0)).collect();
@@ -58,7 +59,7 @@ fn track(timings: &mut Timings, Place { store, pieces, points }: &Place, count: 
     let (store, of_ours) = (store.clone(), points.clone());
     let ours = move |out: &mut [f64]| {
         let lent = store.borrow();
-        assert_eq!(store::track(&lent.floats, &lent.words, BY, black_box(&of_ours[..3 * count]), out), (0, count as u32));
+        assert_eq!(store::track(&lent.floats, &lent.words, BY, ALL_LAYERS, black_box(&of_ours[..3 * count]), out), (0, count as u32));
     };
     let mut out = vec![0.0; count];
     ours(&mut out);
@@ -86,7 +87,7 @@ fn singles(Place { store, points, .. }: &Place, count: usize) -> Way {
     Way::turns(turns(count), count, move || {
         let lent = store.borrow();
         for (to, at) in out.iter_mut().zip(black_box(&points[..3 * count]).chunks_exact(3)) {
-            *to = store::density(&lent.floats, &lent.words, BY, [at[0], at[1], at[2]]).1;
+            *to = store::density(&lent.floats, &lent.words, BY, ALL_LAYERS, [at[0], at[1], at[2]]).1;
         }
         out[0]
     })

@@ -14,7 +14,7 @@ returns : tie.Need-returns
 unfolding longEnough
 returns c =
     let w = c .before .args .words .now in
-    simp (lt-leb (98 + 3 * facesOf w) (length w) (omega arith))
+    simp (lt-leb (130 + 3 * facesOf w) (length w) (omega arith))
 
 returns-2 : tie.Need-returns-2
 unfolding longEnough

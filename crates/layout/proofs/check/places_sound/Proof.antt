@@ -25,15 +25,15 @@ loop-holds c = (omega arith, refl)
 returns : tie.Need-returns Inv-loop μ-loop
 unfolding placeSoundAt
 returns c =
-    let l = c .before .before .before .before .before .before .loop in
-    let w = c .before .before .before .before .before .before .before .before .before .args .words .now in
-    sym (every-not (placeSoundAt width w) 32 (l .i) (omega arith) (sym (c .before .place-sound .ensures) ∙ not-true _ (c .if1 .taken)))
+    let l = c .before .before .before .before .before .before .before .loop in
+    let w = c .before .before .before .before .before .before .before .before .before .before .args .words .now in
+    sym (every-not (placeSoundAt width w) 32 (l .i) (omega arith) (sym (c .before .record-sound .ensures) ∙ not-true _ (c .if1 .taken)))
 
 loop-again : tie.Need-loop-again Inv-loop μ-loop
 unfolding every placeSoundAt
 loop-again c =
-    let l = c .before .before .before .before .before .before .loop in
-    (omega arith, rw (add-one, l .inv .1) (sym (c .before .place-sound .ensures) ∙ not-false _ (c .if1 .left)))
+    let l = c .before .before .before .before .before .before .before .loop in
+    (omega arith, rw (add-one, l .inv .1) (sym (c .before .record-sound .ensures) ∙ not-false _ (c .if1 .left)))
 
 pub places-sound-spec : {M : Type 1} → statement M
 places-sound-spec =
@@ -43,6 +43,10 @@ places-sound-spec =
     μ-loop
     (λ c. search needs)
     loop-holds
+    (λ c. search needs)
+    (λ c. search needs)
+    (λ c. search needs)
+    (λ c. search needs)
     (λ c. search needs)
     (λ c. search needs)
     (λ c. search needs)

@@ -12,7 +12,7 @@ returns : tie.Need-returns
 unfolding sound
 returns c =
     let w = c .before .before .before .before .before .before .before .before .args .words .now in
-    let n : 98 + 3 * facesOf w - 98 ≡ 3 * facesOf w = omega arith in
+    let n : 130 + 3 * facesOf w - 130 ≡ 3 * facesOf w = omega arith in
     rw (c .before .before .before .before .if1 .taken, ← c .before .before .before .places-sound .ensures, c .before .before .if2 .taken) (rw n at (c .all-below .ensures))
 
 returns-2 : tie.Need-returns-2

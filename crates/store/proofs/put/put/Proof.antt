@@ -5,10 +5,9 @@ use native.Mathlib.Omega.{arith}
 use lib.ListN.{getD}
 use lib.Ieee.{nan}
 use Rattle.pieces.specs.PieceLaws.{at-most-16}
-use Rattle.layout.specs.Layout.{width, facesOf}
-use Rattle.layout.specs.SoundLaws.{place-open}
+use Rattle.layout.specs.Layout.{facesOf}
 use Rattle.store.specs.Puts.{putStep}
-use Rattle.store.proofs.Filled.{need-bound}
+use Rattle.store.proofs.Filled.{put-open, need-bound}
 use borrow.Author.Needs.{needs}
 use Rattle.store.proofs.put.put.Statement.{statement}
 use Rattle.store.proofs.put.put.Tie as tie
@@ -25,7 +24,7 @@ mul-need c =
     let d = c .before .before .before .decompose in
     let a = c .before .before .before .before .before .before .before .before .before .before .before .before .args in
     let n : d .result .pieces .count ≤ 16 = rw (d .ensures .0) (at-most-16 (a .k) (getD (a .floats .now) 0 nan)) in
-    let o = place-open width _ _ _ (sym (c .before .before .before .before .before .before .before .check-place .ensures) ∙ c .before .before .before .before .before .enum-told .given .1) in
+    let o = put-open _ _ _ _ (sym (c .before .before .before .before .before .before .before .check-put .ensures) ∙ c .before .before .before .before .before .enum-told .given .1) in
     omega (arith, need-bound (d .result .pieces .count) (facesOf (a .words .now)) n (o .all .mesh .faces))
 
 fill-requires : tie.Need-fill-requires
@@ -33,12 +32,12 @@ fill-requires c κs =
     let d = c .before .before .before .before .before .decompose in
     let a = c .before .before .before .before .before .before .before .before .before .before .before .before .before .before .args in
     let n : d .result .pieces .count ≤ 16 = rw (d .ensures .0) (at-most-16 (a .k) (getD (a .floats .now) 0 nan)) in
-    let o = place-open width _ _ _ (sym (c .before .before .before .before .before .before .before .before .before .check-place .ensures) ∙ c .before .before .before .before .before .before .before .enum-told .given .1) in
+    let o = put-open _ _ _ _ (sym (c .before .before .before .before .before .before .before .before .before .check-put .ensures) ∙ c .before .before .before .before .before .before .before .enum-told .given .1) in
     (o .place, omega (arith, o .all .mesh .floats), o .all .places .long, n)
 
 returns : tie.Need-returns
 unfolding putStep
-returns c = rw (← c .before .before .before .check-place .ensures, c .before .r .given .1)
+returns c = rw (← c .before .before .before .check-put .ensures, c .before .r .given .1)
 
 returns-2 : tie.Need-returns-2
 unfolding putStep
@@ -51,10 +50,10 @@ put-spec =
     (λ c κs. search needs)
     (λ c. search needs)
     (λ c. search needs)
-    (λ c. omega (arith, place-open width _ _ _ (sym (c .before .before .before .check-place .ensures) ∙ c .before .enum-told .given .1)))
+    (λ c. omega (arith, put-open _ _ _ _ (sym (c .before .before .before .check-put .ensures) ∙ c .before .enum-told .given .1)))
     (λ c κs. search needs)
     cast-count
-    (λ c. omega (arith, place-open width _ _ _ (sym (c .before .before .before .before .before .before .before .check-place .ensures) ∙ c .before .before .before .before .before .enum-told .given .1)))
+    (λ c. omega (arith, put-open _ _ _ _ (sym (c .before .before .before .before .before .before .before .check-put .ensures) ∙ c .before .before .before .before .before .enum-told .given .1)))
     mul-need
     fill-requires
     (λ c. search needs)

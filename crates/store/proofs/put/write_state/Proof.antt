@@ -1,7 +1,7 @@
 -- `put::write_state` meets its contract. Assumes nothing.
 use native.Mathlib.Omega.{arith}
 use lib.ListN.{length-set}
-use Rattle.store.proofs.Filled.{set3-write}
+use Rattle.store.proofs.Filled.{set4-write}
 use borrow.Author.Needs.{needs}
 use Rattle.store.proofs.put.write_state.Statement.{statement}
 use Rattle.store.proofs.put.write_state.Tie as tie
@@ -22,4 +22,7 @@ write-state-spec =
     (λ c. search needs)
     (λ c. simp length-set (omega arith))
     (λ c. search needs)
-    (λ c. rw (← c .at-first .ensures) (set3-write _ _ _ _ _ (omega arith))))
+    (λ c. search needs)
+    (λ c. simp length-set (omega arith))
+    (λ c. search needs)
+    (λ c. rw (← c .at-first .ensures) (set4-write _ _ _ _ _ _ (omega arith))))

@@ -36,7 +36,7 @@ squeeze-spec =
     (λ c. omega (arith, fine width _ _ (sym (c .before .before .before .before .before .check-store .ensures) ∙ c .before .before .before .enum-told .given .1)))
     (λ c κs. whole-held _ _ (sym (c .before .before .before .before .before .before .check-store .ensures) ∙ c .before .before .before .before .enum-told .given .1))
     (λ c. omega (arith, few-kept _ _ (sym (c .before .before .before .before .before .before .before .before .before .before .before .check-store .ensures) ∙ c .before .before .before .before .before .before .before .before .before .enum-told .given .1) _ (c .before .before .before .before .squeeze-mesh .ensures .0)))
-    (λ c. in-front 98 (c .before .before .before .before .before .before .before .before .before .before .before .before .before .before .before .before .args .words .now) _ (omega arith) (omega (arith, fine width _ _ (sym (c .before .before .before .before .before .before .before .before .before .before .before .check-store .ensures) ∙ c .before .before .before .before .before .before .before .before .before .enum-told .given .1))))
+    (λ c. in-front 130 (c .before .before .before .before .before .before .before .before .before .before .before .before .before .before .before .before .args .words .now) _ (omega arith) (omega (arith, fine width _ _ (sym (c .before .before .before .before .before .before .before .before .before .before .before .check-store .ensures) ∙ c .before .before .before .before .before .before .before .before .before .enum-told .given .1))))
     (λ c. omega (arith, few-kept _ _ (sym (c .before .before .before .before .before .before .before .before .before .before .before .check-store .ensures) ∙ c .before .before .before .before .before .before .before .before .before .enum-told .given .1) _ (c .before .before .before .before .squeeze-mesh .ensures .0)))
     (λ c. omega (arith, few-kept _ _ (sym (c .before .before .before .before .before .before .before .before .before .before .before .check-store .ensures) ∙ c .before .before .before .before .before .before .before .before .before .enum-told .given .1) _ (c .before .before .before .before .squeeze-mesh .ensures .0)))
     (λ c. omega (arith, few-kept _ _ (sym (c .before .before .before .before .before .before .before .before .before .before .before .check-store .ensures) ∙ c .before .before .before .before .before .before .before .before .before .enum-told .given .1) _ (c .before .before .before .before .squeeze-mesh .ensures .0)))

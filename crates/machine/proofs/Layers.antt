@@ -1,0 +1,145 @@
+-- A reading of a set of layers: the words as it sees them are those of a store that holds only the places in the set. Assumes nothing.
+use mathlib.Core.Path.{_≡_, refl, sym, ap, subst, _∙_}
+use mathlib.Core.Bool.{Bool, true, false, cond}
+use mathlib.Core.List.{List, [], _∷_, _++_, map-append, append-assoc, append-nil}
+use Prim.Native.Nat.{ℕ, zero, suc, _+_, _*_, _/_, _%_, _^_, _≤_, _<_}
+use native.Mathlib.Nat.{pow-succ', div-one, div-div-eq-div-mul}
+use native.Mathlib.Omega.{arith}
+use lib.ListN.{length, take, drop, getD, set, replicate, length-append, length-drop, length-map, drop-of-length-le, List·getD-map}
+use lib.Seq.{set-getD, take-suc, drop-cons, take-all, set-at, getD-at, length-take-le}
+use lib.Dec.{eqb}
+use Rattle.kernel.specs.declared.kernel.Kernel.{Kernel}
+use Rattle.pieces.specs.declared.pieces.Pieces.{Pieces}
+use Rattle.layout.specs.Runs.{write}
+use Rattle.layout.specs.Layout.{layerOf}
+use Rattle.layout.specs.Layers.{inSet, hiding, inLayers}
+use Rattle.layout.specs.Soundness.{every}
+use Rattle.layout.specs.SoundLaws.{every-at}
+use Rattle.machine.specs.Machine.{Mesh, Place, empty, full, among, seenPlace, seenPlaces}
+use Rattle.machine.specs.Holding.{placeRow, wordsOf}
+use Rattle.machine.specs.Fresh.{kernelOf}
+use Rattle.machine.specs.Valid.{Within, Valid}
+use Rattle.machine.proofs.Rows.{Width}
+use Rattle.machine.proofs.Held.{layer-held, write-words, zeros-row}
+
+-- ---- the sets of the store's words are those of the machine
+same-set : (l layers : ℕ) → inSet layers l ≡ among l layers
+same-set zero layers = ap (λ (n : ℕ). eqb (n % 2) 1) (div-one layers)
+same-set (suc l) layers =
+    ap (λ (n : ℕ). eqb (n % 2) 1)
+    (ap (λ (p : ℕ). layers / p) (pow-succ' 2 l) ∙ sym (div-div-eq-div-mul layers 2 (2 ^ l)))
+    ∙ same-set l (layers / 2)
+
+-- ---- with all sixteen every place is seen
+all-among : (l : ℕ) → l < 16 → among l 65535 ≡ true
+unfolding every
+all-among l h = every-at (λ i. among i 65535) 16 l h refl
+
+pub all-seen : (m : Mesh) (ss : List Place) → ((i : ℕ) → Within m (getD ss i empty)) → seenPlaces 65535 ss ≡ ss
+all-seen m [] w = refl
+all-seen m (empty ∷ ss) w = ap (λ (t : List Place). empty ∷ t) (all-seen m ss (λ i. w (suc i)))
+all-seen m (full k fit p l ∷ ss) w =
+    rw (all-among l (w zero .layer)) (ap (λ (t : List Place). full k fit p l ∷ t) (all-seen m ss (λ i. w (suc i))))
+
+-- ---- the places that are seen
+module _ (layers : ℕ) where
+  -- what is seen at a place is there
+  seen-is : (s : Place) (k : Kernel) (fit : Pieces) (p l : ℕ) → seenPlace layers s ≡ full k fit p l → s ≡ full k fit p l
+  seen-is empty k fit p l e = e
+  seen-is (full j was q n) k fit p l e = go (among n layers) e
+    where
+      go : (b : Bool) → cond b (full j was q n) empty ≡ full k fit p l → full j was q n ≡ full k fit p l
+      go true z = z
+      go false z = absurd (let y : _≡_ {A = ℕ} 0 1 = ap (λ (s : Place). length (kernelOf s)) z in omega arith)
+
+  within-seen : (m : Mesh) (s : Place) → Within m s → Within m (seenPlace layers s)
+  within-seen m empty w = w
+  within-seen m (full k fit p l) w = go (among l layers)
+    where
+      go : (b : Bool) → Within m (cond b (full k fit p l) empty)
+      go true = w
+      go false = tt {0}
+
+  seen-at : (ss : List Place) (i : ℕ) → getD (seenPlaces layers ss) i empty ≡ seenPlace layers (getD ss i empty)
+  seen-at ss i = List·getD-map (seenPlace layers) ss i empty
+
+  pub seen-there : (ss : List Place) (i : ℕ) (k : Kernel) (fit : Pieces) (p l : ℕ)
+      → getD (seenPlaces layers ss) i empty ≡ full k fit p l → getD ss i empty ≡ full k fit p l
+  seen-there ss i k fit p l e = seen-is (getD ss i empty) k fit p l (sym (seen-at ss i) ∙ e)
+
+  pub seen-valid : (m : Mesh) (ss : List Place) → Valid m ss → Valid m (seenPlaces layers ss)
+  seen-valid m ss v =
+      record {
+        mesh = v .mesh;
+        places = length-map ss (seenPlace layers) ∙ v .places;
+        within = λ i. subst (Within m) (sym (seen-at ss i)) (within-seen m (getD ss i empty) (v .within i));
+      }
+
+  -- ---- the words
+  module _ (wd : ℕ) (fm : Width wd) (m : Mesh) (ss : List Place) (hs : length ss ≡ 32) (ys : List ℕ) where
+    abbrev WS : List ℕ
+    WS = wordsOf m ss ys
+
+    -- the first k places as they are seen, the others as they are
+    abbrev partly : ℕ → List Place
+    partly k = seenPlaces layers (take k ss) ++ drop k ss
+
+    split : (k : ℕ) → k < 32 → partly k ≡ seenPlaces layers (take k ss) ++ (getD ss k empty ∷ drop (suc k) ss)
+    split k h = ap (λ (t : List Place). seenPlaces layers (take k ss) ++ t) (drop-cons ss k empty (rw hs h))
+
+    head-long : (k : ℕ) → k ≤ 32 → length (seenPlaces layers (take k ss)) ≡ k
+    head-long k h = length-map (take k ss) (seenPlace layers) ∙ length-take-le k ss (rw hs h)
+
+    long : (k : ℕ) → k < 32 → length (partly k) ≡ 32
+    long k h =
+        length-append (seenPlaces layers (take k ss)) (drop k ss)
+        ∙ rw (head-long k (omega arith), length-drop k ss, hs) (omega arith)
+
+    at : (k : ℕ) → k < 32 → getD (partly k) k empty ≡ getD ss k empty
+    at k h =
+        ap (λ (t : List Place). getD t k empty) (split k h)
+        ∙ getD-at (seenPlaces layers (take k ss)) (getD ss k empty) (drop (suc k) ss) empty k (head-long k (omega arith))
+
+    next : (k : ℕ) → k < 32 → set (partly k) k (seenPlace layers (getD ss k empty)) ≡ partly (suc k)
+    next k h =
+        let s = getD ss k empty in
+        rw (
+          split k h,
+          set-at (seenPlaces layers (take k ss)) s (drop (suc k) ss) (seenPlace layers s) k (head-long k (omega arith)),
+          take-suc ss k empty (rw hs h),
+          map-append (seenPlace layers) (take k ss) (s ∷ []),
+          append-assoc,
+        ) refl
+
+    seen-by : (s : Place) → cond (inSet layers (getD (placeRow m s) 3 0)) s empty ≡ seenPlace layers s
+    seen-by empty = go (inSet layers 0)
+      where
+        go : (b : Bool) → cond b empty empty ≡ empty
+        go true = refl
+        go false = refl
+    seen-by (full k fit p l) = rw (same-set l layers) refl
+
+    one-hidden : (k : ℕ) → k < 32 → (b : Bool)
+        → cond b (wordsOf m (partly k) ys) (write (wordsOf m (partly k) ys) (2 + wd * k) (replicate wd 0))
+        ≡ wordsOf m (set (partly k) k (cond b (getD ss k empty) empty)) ys
+    one-hidden k h true =
+        ap (λ (t : List Place). wordsOf m t ys)
+        (sym (ap (set (partly k) k) (sym (at k h)) ∙ set-getD (partly k) k empty))
+    one-hidden k h false = rw (zeros-row wd fm m) (write-words wd fm m (partly k) (long k h) ys k h empty)
+
+    hidden : (k : ℕ) → k ≤ 32
+        → hiding wd (λ i. inSet layers (layerOf wd WS i)) WS k ≡ wordsOf m (partly k) ys
+    unfolding hiding
+    hidden zero h = refl
+    hidden (suc k) h =
+        let s = getD ss k empty in
+        rw (hidden k (omega arith), layer-held wd fm m ss hs ys k h)
+        (one-hidden k h (inSet layers (getD (placeRow m s) 3 0))
+        ∙ ap (λ (t : List Place). wordsOf m t ys) (ap (set (partly k) k) (seen-by s) ∙ next k h))
+
+    pub layers-held : inLayers wd layers WS ≡ wordsOf m (seenPlaces layers ss) ys
+    unfolding inLayers
+    layers-held =
+        let t : take 32 ss ≡ ss = take-all 32 ss (rw hs (omega arith)) in
+        let d : drop 32 ss ≡ [] = drop-of-length-le ss {i = 32} (rw hs (omega arith)) in
+        hidden 32 (omega arith) ∙ rw (t, d, append-nil) refl

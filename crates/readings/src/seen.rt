@@ -1,0 +1,68 @@
+// What a reading sees of a store's places. Whether it sees a place is decided here and nowhere else.
+// Internal: a function with a `requires` is called by proved code alone.
+ghost use mathlib.Core.Path.{_≡_};
+ghost use Prim.Native.Nat.{_≤_, _<_};
+ghost use lib.Dec.{ltb};
+ghost use lib.ListN.{length, take};
+ghost use Rattle.layout.specs.Layout.{width, placeLimit, layerLimit, cornersFrom};
+ghost use Rattle.layout.specs.Layers.{inSet, layersCheck, inLayers};
+ghost use Rattle.layout.specs.Left.{leftOf};
+ghost use Rattle.layout.specs.SoundLaws.{Worded};
+use base::refusal::Checked;
+use base::refusal::Refusal;
+use layout::left::left;
+use layout::offsets::PLACES;
+use layout::offsets::STATE;
+use layout::offsets::WIDTH;
+
+// Refusal 16 of a set of layers: a bit from 16 on names a layer above 15.
+pub fn check_layers(layers: u32) -> Checked
+    ensures { λ r. ⌜ r ≡ layersCheck layers ⌝ }
+{
+    if layers < 65536 {
+        Checked::Passed
+    } else {
+        Checked::Failed(Refusal::NoLayer)
+    }
+}
+
+// Whether a layer is in a set.
+fn in_set(layers: u32, layer: u32) -> bool
+    requires { ⌜ layer < layerLimit ⌝ }
+    ensures { λ r. ⌜ r ≡ inSet layers layer ⌝ }
+{
+    (layers >> layer) % 2 == 1
+}
+
+// The words of a sound store up to the corners, with the places outside the layers empty. The other functions of a reading
+// go over these words, so that they know of no layers.
+pub fn seen_places(words: &[u32], layers: u32, faces: usize) -> [u32; 130]
+    requires { ⌜ Worded width (now words) faces ⌝ }
+    ensures { λ r. ⌜ r ≡ take (cornersFrom width) (inLayers width layers (now (words .entry))) ⌝ }
+{
+    let mut seen = [0; 130];
+    seen[0] = words[0];
+    seen[1] = words[1];
+    let mut i: usize = 0;
+    while i < PLACES {
+        let at = STATE + WIDTH * i;
+        let layer = words[at + 3];
+        if in_set(layers, layer) {
+            seen[at] = words[at];
+            seen[at + 1] = words[at + 1];
+            seen[at + 2] = words[at + 2];
+            seen[at + 3] = layer;
+        }
+        i += 1;
+    }
+    seen
+}
+
+// Whether work is left in the places that a reading sees.
+pub fn unfinished(words: &[u32], layers: u32, faces: usize) -> bool
+    requires { ⌜ Worded width (now words) faces ⌝ }
+    ensures { λ r. ⌜ r ≡ ltb 0 (leftOf width (inLayers width layers (now (words .entry))) faces placeLimit) ⌝ }
+{
+    let seen = seen_places(words, layers, faces);
+    0 < left(&seen, faces)
+}
