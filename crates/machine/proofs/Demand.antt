@@ -131,7 +131,7 @@ module _ (wd : ℕ) (fm : Width wd) (exF : List Float) (exW : List ℕ) where
   same : (m : Machine) → Valid (m .mesh) (m .places) → (c : Call) → Same wd exF exW m (holding m exF exW) c
   same m v c =
       let e = one-call wd fm m v exF exW c in
-      record { before = refl; reply = ap (λ (r : Result). r .reply) e; lent = ap (λ (r : Result). r .out) e; shown = ap (λ (r : Result). r .page) e; fields = ap (λ (r : Result). r .left) e }
+      record { before = refl; reply = ap (λ (r : Result). r .reply) e; lent = ap (λ (r : Result). r .out) e; shown = ap (λ (r : Result). r .page) e; fields = ap (λ (r : Result). r .runs) e }
 
   reading : (o : Mesh) (m : Machine) → Valid (m .mesh) (m .places) → From o (m .mesh) → (layers : ℕ) (r : Reading) → Read wd o m (holding m exF exW) layers r
   unfolding machine
@@ -158,7 +158,7 @@ module _ (wd : ℕ) (fm : Width wd) (exF : List Float) (exW : List ℕ) where
             let t = when-not r f a b (lt-leb (2 ^ 16) layers h) (λ y. z (er ∙ y)) ∙ on-opened o (m .mesh) g ss r in
             (er ∙ ap (λ (x : Outcome). x .reply) t, eo ∙ ap (λ (x : Outcome). x .out) t);
         all-sixteen = all-seen (m .mesh) (m .places) (v .within);
-        kept = ap (λ (x : Result). x .left) e;
+        kept = ap (λ (x : Result). x .runs) e;
       }
 
   posting : (o : Mesh) (m : Machine) → Valid (m .mesh) (m .places) → From o (m .mesh) → (bs : List ℕ) → Post wd o m (holding m exF exW) bs
@@ -175,7 +175,7 @@ module _ (wd : ℕ) (fm : Width wd) (exF : List Float) (exW : List ℕ) where
         afresh = λ z.
             let t = page-other f bs (ltb 0 l) (λ y. z (er ∙ y)) ∙ page-opened o (m .mesh) g (m .places) bs in
             (er ∙ ap (λ (a : Paged). a .reply) t, ep ∙ ap (λ (a : Paged). a .page) t);
-        kept = ap (λ (x : Result). x .left) e;
+        kept = ap (λ (x : Result). x .runs) e;
       }
 
   each : (o : Mesh) (cs : List Call) (m : Machine) → Valid (m .mesh) (m .places) → From o (m .mesh) → Each wd exF exW o m (holding m exF exW) cs
