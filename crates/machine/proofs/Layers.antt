@@ -1,4 +1,4 @@
--- A reading of a set of layers: the words as it sees them are those of a store that holds only the places in the set. Assumes nothing.
+-- The words as a reading of some layers sees them are those of a store that holds only its places. Assumes nothing.
 use mathlib.Core.Path.{_≡_, refl, sym, ap, subst, _∙_}
 use mathlib.Core.Bool.{Bool, true, false, cond}
 use mathlib.Core.List.{List, [], _∷_, _++_, map-append, append-assoc, append-nil}

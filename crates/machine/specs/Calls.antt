@@ -60,12 +60,12 @@ needs (report v) = true
 needs (list v out) = byTarget v
 needs (track v points out) = byTarget v
 
--- "16 when a layer is above 15": a set of such a layer is a number of more than sixteen bits. "Left is then counted over
--- the places in the set where a reading decides whether it is unfinished"; any other reading is worked afresh on those
--- places; no reading changes the machine
+-- "Left is then counted over the places in the set where a reading decides whether it is unfinished"
 abbrev pub workSeen : Machine → ℕ → ℕ
 workSeen m layers = leftSum (m .mesh) (seenPlaces layers (m .places))
 
+-- "16 when a layer is above 15": a set that has such a layer is a number of more than sixteen bits. It comes before 8.
+-- Any other reading is worked afresh on the places that it sees; none changes the machine
 abbrev pub readTurn : Machine → ℕ → Reading → Outcome
 readTurn m layers r =
     cond (leb (2 ^ 16) layers) (refusing r NoLayer)

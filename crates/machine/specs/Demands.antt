@@ -81,7 +81,8 @@ pub record Post (q : ℕ) (mesh : Mesh) (m : Machine) (s : Store) (bs : List ℕ
 pub data Each (q : ℕ) (exF : List Float) (exW : List ℕ) (mesh : Mesh) : Machine → Store → List Call → Type 0 where
   end : {m : Machine} {s : Store} → Each q exF exW mesh m s []
   next : {m : Machine} {s : Store} {c : Call} {cs : List Call}
-      → Same q exF exW m s c → ((layers : ℕ) (r : Reading) → Read q mesh m s layers r) → ((bs : List ℕ) → Post q mesh m s bs)
+      → Same q exF exW m s c
+      → ((layers : ℕ) (r : Reading) → Read q mesh m s layers r) → ((bs : List ℕ) → Post q mesh m s bs)
       → Each q exF exW mesh (machine m c .next) (store q s c .runs) cs → Each q exF exW mesh m s (c ∷ cs)
 
 -- ---- the pieces worked afresh are demand 2's too: the call that decomposes a list of kernels ks, six floats each,

@@ -21,7 +21,7 @@ pub record Mesh : Type 0 where
   pub verts : ℕ
   pub faces : ℕ
 
--- "each place is empty or (kernel, steps p)"; a filled one keeps the pieces that its decomposition gave, and 02, L5: "Each
+-- "each place is empty or (kernel, steps p)"; a filled one keeps the pieces that its decomposition gave. 02, L5: "Each
 -- place, the machine's too, gets a layer number from 0 to 15". In `full k fit p l`, p are the steps and l is the layer
 pub data Place : Type 0 where
   empty : Place
@@ -108,8 +108,8 @@ openRow q xs ks a b =
     -- "below 1,761+3V floats or 98+3F words", and by 02's L5 "below 130+3F words": 98 and 130 are 2 + 32q
     (cond (ltb a (1761 + 3 * v) || ltb b (2 + 32 * q + 3 * f)) 4 0)))
 
--- "Put: charged += need, dropped += the old need - p (0 for an empty place), p = 0. Answers pieces and need."; the layer
--- is "given at put"
+-- "Put: charged += need, dropped += the old need - p (0 for an empty place), p = 0. Answers pieces and need."; a layer is
+-- "given at put"
 abbrev pub putTurn : Machine → ℕ → Kernel → Pieces → ℕ → Turn
 putTurn m i k fit l =
     let old = getD (m .places) i empty in
