@@ -29,7 +29,7 @@ use Rattle.machine.specs.Valid.{Valid}
 use Rattle.machine.proofs.Rows.{Width, width4}
 use Rattle.machine.proofs.Parts.{freshSeen}
 use Rattle.machine.proofs.Afresh.{joined}
-use Rattle.machine.proofs.Layers.{all-seen}
+use Rattle.machine.proofs.Layers.{all-seen, none-seen}
 use Rattle.machine.proofs.Claim.{one-call, kept, books, charges}
 use Rattle.machine.proofs.Unaltered.{From, from-start, from-next, on-opened, page-opened, unaltered}
 use Rattle.machine.proofs.Listed.{listed}
@@ -161,6 +161,7 @@ module _ (wd : ℕ) (fm : Width wd) (exF : List Float) (exW : List ℕ) where
             let t = when-not r f a b (lt-leb (2 ^ 16) layers h) (λ y. z (er ∙ y)) ∙ on-opened o (m .mesh) g ss r in
             (er ∙ ap (λ (x : Outcome). x .reply) t, eo ∙ ap (λ (x : Outcome). x .out) t);
         all-sixteen = all-seen (m .mesh) (m .places) (v .within);
+        none = none-seen (m .places);
         kept = ap (λ (x : Result). x .runs) e;
       }
 

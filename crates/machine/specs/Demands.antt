@@ -59,6 +59,8 @@ pub record Read (q : ℕ) (mesh : Mesh) (m : Machine) (s : Store) (layers : ℕ)
       × (store q s (read layers r) .out ≡ workedAfresh mesh (seenPlaces layers (m .places)) r .out)
   -- "with all sixteen it reads as before": all places are seen
   pub all-sixteen : seenPlaces 65535 (m .places) ≡ m .places
+  -- with none no place is, so that such a reading is worked on no kernel
+  pub none : kernelsOf (seenPlaces 0 (m .places)) ≡ []
   -- "no reading alters a kept weight", nor any other word of the store
   pub kept : store q s (read layers r) .runs ≡ s
 
