@@ -83,8 +83,8 @@ granted-run Passed a run o = refl
 granted-run (Failed r) a run o = refl
 
 module _ (wd : ℕ) (fm : Width wd) (exF : List Float) (exW : List ℕ) (m : Machine) where
-  list-answer : Valid (m .mesh) (m .places) → (layers : ℕ) → layers < 2 ^ 16 → (cv : Convention) (run : List Float) (n : ℕ)
-      → heldIn (m .mesh .radius) (seenPlaces layers (m .places)) ≡ n
+  list-answer : Valid (m .mesh) (m .places) → (layers : ℕ) → layers < 2 ^ 16
+      → (cv : Convention) (run : List Float) (n : ℕ) → heldIn (m .mesh .radius) (seenPlaces layers (m .places)) ≡ n
       → Listing (store wd (holding m exF exW) (read layers (list cv run)) .reply) n (length run)
   unfolding machine workedAfresh
   list-answer v layers few cv run n e =
@@ -92,8 +92,10 @@ module _ (wd : ℕ) (fm : Width wd) (exF : List Float) (exW : List ℕ) (m : Mac
       let ks = allPieces (m .mesh .radius) (kernelsOf ss) in
       let c = roomCheck (6 * length ks) (length run) in
       let g = granted-run c (counted (length ks ∷ [])) run (write run 0 (scaledList cv (m .mesh) ks)) in
-      let h = ap (λ (j : ℕ). granted (roomCheck (6 * j) (length run)) (counted (j ∷ []))) (pieces-held (m .mesh .radius) ss ∙ e) in
-      let o = rw (lt-leb (2 ^ 16) layers few) at (ap (λ (x : Result). x .reply) (one-call wd fm m v exF exW (read layers (list cv run)))) in
+      let p = pieces-held (m .mesh .radius) ss ∙ e in
+      let h = ap (λ (j : ℕ). granted (roomCheck (6 * j) (length run)) (counted (j ∷ []))) p in
+      let a = ap (λ (x : Result). x .reply) (one-call wd fm m v exF exW (read layers (list cv run))) in
+      let o = rw (lt-leb (2 ^ 16) layers few) at a in
       go (workedAfresh (m .mesh) ss (list cv run)) (needsWork (list cv run) && ltb 0 (workSeen m layers)) (g ∙ h) o
     where
       go : {a x : Answer} (o : Outcome) (b : Bool) → o .reply ≡ x
@@ -152,7 +154,8 @@ module _
   list-after cs layers few cv run =
       let i = last wd fm exF exW cs M v in
       let e = ap (λ (x : Float). heldIn x (seenPlaces layers (after-all M cs .places))) (radius-after cs M v) in
-      subst (λ (s : Store). Listing (store wd s (read layers (list cv run)) .reply) (after cs layers) (length run)) (sym (i .0))
+      subst (λ (s : Store). Listing (store wd s (read layers (list cv run)) .reply) (after cs layers) (length run))
+      (sym (i .0))
       (list-answer wd fm exF exW (after-all M cs) (i .1) layers few cv run (after cs layers) e)
 
   -- never below

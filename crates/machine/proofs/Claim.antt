@@ -66,7 +66,7 @@ abbrev inner : Machine → List Float → List ℕ → Store
 inner m xs ys = record { floats = laidOut (m .mesh) (m .places) (past m xs); words = wordsOf (m .mesh) (m .places) ys }
 
 abbrev shownIn : List Float → List ℕ → Turn → Result
-shownIn xs ys t = record { left = inner (t .next) xs ys; reply = t .reply; out = t .out; page = t .page }
+shownIn xs ys t = record { runs = inner (t .next) xs ys; reply = t .reply; out = t .out; page = t .page }
 
 module _ (wd : ℕ) (fm : Width wd) (m : Machine) (v : Valid (m .mesh) (m .places)) (xs : List Float) (ys : List ℕ) where
   abbrev FS : List Float
@@ -136,7 +136,7 @@ module _ (wd : ℕ) (fm : Width wd) (m : Machine) (v : Valid (m .mesh) (m .place
       let f = set-seven wd fm (m .mesh) (m .places) (v .places) (past m xs) i h s 4 w (omega arith) (rw e refl) (rw e (same-volumes k fit w p l)) in
       let g : WS ≡ wordsOf (m .mesh) (set (m .places) i s) ys = same-place i h s (rw e refl) in
       rw (filled-in i h k fit p l e, n, f)
-      (ap (λ (t : List ℕ). record { left = record { floats = laidOut (m .mesh) (set (m .places) i s) (past m xs); words = t }; reply = done; out = []; page = [] }) g)
+      (ap (λ (t : List ℕ). record { runs = record { floats = laidOut (m .mesh) (set (m .places) i s) (past m xs); words = t }; reply = done; out = []; page = [] }) g)
 
   reweigh-held : (i : ℕ) (w : Float) → store wd (inner m xs ys) (reweigh i w) ≡ shownIn xs ys (machine m (reweigh i w))
   unfolding store machine reweighStep
@@ -328,7 +328,7 @@ module _ (m : Machine) (v : Valid (m .mesh) (m .places)) where
 
 -- ---- one call, on the runs that hold the machine
 abbrev pub shown : List Float → List ℕ → Turn → Result
-shown xs ys t = record { left = holding (t .next) xs ys; reply = t .reply; out = t .out; page = t .page }
+shown xs ys t = record { runs = holding (t .next) xs ys; reply = t .reply; out = t .out; page = t .page }
 
 held-in : (m : Machine) → Valid (m .mesh) (m .places) → (xs : List Float) (ys : List ℕ) → holding m xs ys ≡ inner m xs ys
 held-in m v xs ys = ap (λ (fs : List Float). record { floats = fs; words = wordsOf (m .mesh) (m .places) ys }) (laid-out (m .mesh) (m .places) v (past m xs))
@@ -337,7 +337,7 @@ pub one-call : (wd : ℕ) → Width wd → (m : Machine) → Valid (m .mesh) (m 
 one-call wd fm m v xs ys c =
     let t = machine m c in
     ap (λ (s : Store). store wd s c) (held-in m v xs ys)
-    ∙ (one-in wd fm m v xs ys c ∙ ap (λ (s : Store). record { left = s; reply = t .reply; out = t .out; page = t .page }) (sym (held-in (t .next) (kept m v c .valid) xs ys)))
+    ∙ (one-in wd fm m v xs ys c ∙ ap (λ (s : Store). record { runs = s; reply = t .reply; out = t .out; page = t .page }) (sym (held-in (t .next) (kept m v c .valid) xs ys)))
 
 -- ---- every list of calls
 module _ (wd : ℕ) (fm : Width wd) where

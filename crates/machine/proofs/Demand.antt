@@ -29,7 +29,7 @@ use Rattle.machine.specs.Valid.{Valid}
 use Rattle.machine.proofs.Rows.{Width, width4}
 use Rattle.machine.proofs.Parts.{freshSeen}
 use Rattle.machine.proofs.Afresh.{joined}
-use Rattle.machine.proofs.Layers.{all-seen}
+use Rattle.machine.proofs.Layers.{all-seen, none-seen}
 use Rattle.machine.proofs.Claim.{one-call, kept, books, charges}
 use Rattle.machine.proofs.Unaltered.{From, from-start, from-next, on-opened, page-opened, unaltered}
 use Rattle.machine.proofs.Listed.{listed}
@@ -40,15 +40,18 @@ use Rattle.machine.proofs.Refused.{row}
 abbrev Answered : ℕ → Type 0
 Answered n = (n ≡ 0) ⊎ ((n ≡ 9) ⊎ (n ≡ 14))
 
-listed-as : (b : Bool) (n : ℕ) (o out : List Float) → Answered (guardedRun (cond b Passed (Failed ShortList)) out (outcome (counted (n ∷ [])) o) .reply .refusal)
+listed-as : (b : Bool) (n : ℕ) (o out : List Float)
+    → Answered (guardedRun (cond b Passed (Failed ShortList)) out (outcome (counted (n ∷ [])) o) .reply .refusal)
 listed-as true n o out = inl refl
 listed-as false n o out = inr (inl refl)
 
-tracked-as : (a b n : ℕ) (o out : List Float) → Answered (guardedRun (trackCheck a b) out (outcome (counted (n ∷ [])) o) .reply .refusal)
+tracked-as : (a b n : ℕ) (o out : List Float)
+    → Answered (guardedRun (trackCheck a b) out (outcome (counted (n ∷ [])) o) .reply .refusal)
 unfolding trackCheck
 tracked-as a b n o out = go (eqb (a % 3) 0 && leb (a / 3) trackLimit && leb (a / 3) b)
   where
-    go : (t : Bool) → Answered (guardedRun (cond t Passed (Failed BadTrack)) out (outcome (counted (n ∷ [])) o) .reply .refusal)
+    go : (t : Bool)
+        → Answered (guardedRun (cond t Passed (Failed BadTrack)) out (outcome (counted (n ∷ [])) o) .reply .refusal)
     go true = inl refl
     go false = inr (inr refl)
 
@@ -57,9 +60,12 @@ answered (density v x) s = inl refl
 answered (report v) s = inl refl
 answered (list v out) s =
     let ks = map bare (s .parts) in
-    listed-as (leb (6 * length ks) (length out)) (length ks) (write out 0 (sixes (map (rescaled (applied v (s .parts))) ks))) out
+    let js = map (rescaled (applied v (s .parts))) ks in
+    listed-as (leb (6 * length ks) (length out)) (length ks) (write out 0 (sixes js)) out
 answered (track v points out) s =
-    tracked-as (length points) (length out) (length points / 3) (write out 0 (along (densityAt (map (rescaled (applied v (s .parts))) (map bare (s .parts)))) points (length points / 3))) out
+    let n = length points / 3 in
+    let js = map (rescaled (applied v (s .parts))) (map bare (s .parts)) in
+    tracked-as (length points) (length out) n (write out 0 (along (densityAt js) points n)) out
 
 refuses-as : (r : Reading) (e : Refusal) → refusing r e .reply ≡ refused e
 refuses-as (density v x) e = refl
@@ -67,21 +73,16 @@ refuses-as (report v) e = refl
 refuses-as (list v out) e = refl
 refuses-as (track v points out) e = refl
 
-not-eight : (a : Answer) → Answered (a .refusal) → a ≡ refused Unfinished → ⊥
-not-eight a n e = let z : a .refusal ≡ 8 = ap (λ (x : Answer). x .refusal) e in go n z
-  where
-    go : {k : ℕ} → Answered k → k ≡ 8 → ⊥
-    go (inl x) z = omega arith
-    go (inr (inl x)) z = omega arith
-    go (inr (inr x)) z = omega arith
+never : {n : ℕ} → Answered n → (n ≡ 8 → ⊥) × (n ≡ 16 → ⊥)
+never (inl x) = (λ z. omega arith, λ z. omega arith)
+never (inr (inl x)) = (λ z. omega arith, λ z. omega arith)
+never (inr (inr x)) = (λ z. omega arith, λ z. omega arith)
 
-not-sixteen : (a : Answer) → Answered (a .refusal) → a ≡ refused NoLayer → ⊥
-not-sixteen a n e = let z : a .refusal ≡ 16 = ap (λ (x : Answer). x .refusal) e in go n z
-  where
-    go : {k : ℕ} → Answered k → k ≡ 16 → ⊥
-    go (inl x) z = omega arith
-    go (inr (inl x)) z = omega arith
-    go (inr (inr x)) z = omega arith
+abbrev number : Answer → ℕ
+number a = a .refusal
+
+not-both : refused Unfinished ≡ refused NoLayer → ⊥
+not-both e = let z : _≡_ {A = ℕ} 8 16 = ap number e in omega arith
 
 -- 16, then 8, then what is worked afresh
 module _ (r : Reading) (o : Outcome) where
@@ -90,20 +91,21 @@ module _ (r : Reading) (o : Outcome) where
 
   when-sixteen : Answered (o .reply .refusal) → (a b : Bool) → turned a b .reply ≡ refused NoLayer → a ≡ true
   when-sixteen n true b e = refl
-  when-sixteen n false true e = absurd (let z : _≡_ {A = ℕ} 8 16 = ap (λ (x : Answer). x .refusal) (sym (refuses-as r Unfinished) ∙ e) in omega arith)
-  when-sixteen n false false e = absurd (not-sixteen (o .reply) n e)
+  when-sixteen n false true e = absurd (not-both (sym (refuses-as r Unfinished) ∙ e))
+  when-sixteen n false false e = absurd (never n .1 (ap number e))
 
-  when-eight : Answered (o .reply .refusal) → (a b : Bool) → turned a b .reply ≡ refused Unfinished → (a ≡ false) × (b ≡ true)
-  when-eight n true b e = absurd (let z : _≡_ {A = ℕ} 16 8 = ap (λ (x : Answer). x .refusal) (sym (refuses-as r NoLayer) ∙ e) in omega arith)
+  when-eight : Answered (o .reply .refusal) → (a b : Bool) → turned a b .reply ≡ refused Unfinished
+      → (a ≡ false) × (b ≡ true)
+  when-eight n true b e = absurd (not-both (sym e ∙ refuses-as r NoLayer))
   when-eight n false true e = (refl, refl)
-  when-eight n false false e = absurd (not-eight (o .reply) n e)
+  when-eight n false false e = absurd (never n .0 (ap number e))
 
   when-not : (a b : Bool) → a ≡ false → (turned a b .reply ≡ refused Unfinished → ⊥) → turned a b ≡ o
   when-not true b h n = absurd (true≢false h)
   when-not false true h n = absurd (n (refuses-as r Unfinished))
   when-not false false h n = refl
 
--- a page's neither
+-- what a page answers is never 8
 paged-not : (rs : List Row) (bs : List ℕ) → pageAnswer rs bs .reply ≡ refused Unfinished → ⊥
 unfolding pageAnswer
 paged-not rs bs e = go (allPrintable rs) (leb (length (pageOf rs)) (length bs)) (ap (λ (a : Answer). a .refusal) e)
@@ -131,9 +133,10 @@ module _ (wd : ℕ) (fm : Width wd) (exF : List Float) (exW : List ℕ) where
   same : (m : Machine) → Valid (m .mesh) (m .places) → (c : Call) → Same wd exF exW m (holding m exF exW) c
   same m v c =
       let e = one-call wd fm m v exF exW c in
-      record { before = refl; reply = ap (λ (r : Result). r .reply) e; lent = ap (λ (r : Result). r .out) e; shown = ap (λ (r : Result). r .page) e; fields = ap (λ (r : Result). r .left) e }
+      record { before = refl; reply = ap (λ (r : Result). r .reply) e; lent = ap (λ (r : Result). r .out) e; shown = ap (λ (r : Result). r .page) e; fields = ap (λ (r : Result). r .runs) e }
 
-  reading : (o : Mesh) (m : Machine) → Valid (m .mesh) (m .places) → From o (m .mesh) → (layers : ℕ) (r : Reading) → Read wd o m (holding m exF exW) layers r
+  reading : (o : Mesh) (m : Machine) → Valid (m .mesh) (m .places) → From o (m .mesh)
+      → (layers : ℕ) (r : Reading) → Read wd o m (holding m exF exW) layers r
   unfolding machine
   reading o m v g layers r =
       let e = one-call wd fm m v exF exW (read layers r) in
@@ -144,8 +147,8 @@ module _ (wd : ℕ) (fm : Width wd) (exF : List Float) (exW : List ℕ) where
       let a = leb (2 ^ 16) layers in
       let b = needs r && ltb 0 l in
       let f = workedAfresh (m .mesh) ss r in
-      let n : Answered (f .reply .refusal)
-      = subst (λ (x : Outcome). Answered (x .reply .refusal)) (joined (m .mesh) (v .mesh) ss r) (answered r (freshSeen (m .mesh) ss)) in
+      let j = joined (m .mesh) (v .mesh) ss r in
+      let n = subst (λ (x : Outcome). Answered (x .reply .refusal)) j (answered r (freshSeen (m .mesh) ss)) in
       record {
         no-layer = λ h. er ∙ rw (le-leb (2 ^ 16) layers h) (refuses-as r NoLayer);
         one-of-sixteen = λ z. leb-true (2 ^ 16) layers (when-sixteen r f n a b (sym er ∙ z));
@@ -158,7 +161,8 @@ module _ (wd : ℕ) (fm : Width wd) (exF : List Float) (exW : List ℕ) where
             let t = when-not r f a b (lt-leb (2 ^ 16) layers h) (λ y. z (er ∙ y)) ∙ on-opened o (m .mesh) g ss r in
             (er ∙ ap (λ (x : Outcome). x .reply) t, eo ∙ ap (λ (x : Outcome). x .out) t);
         all-sixteen = all-seen (m .mesh) (m .places) (v .within);
-        kept = ap (λ (x : Result). x .left) e;
+        none = none-seen (m .places);
+        kept = ap (λ (x : Result). x .runs) e;
       }
 
   posting : (o : Mesh) (m : Machine) → Valid (m .mesh) (m .places) → From o (m .mesh) → (bs : List ℕ) → Post wd o m (holding m exF exW) bs
@@ -175,7 +179,7 @@ module _ (wd : ℕ) (fm : Width wd) (exF : List Float) (exW : List ℕ) where
         afresh = λ z.
             let t = page-other f bs (ltb 0 l) (λ y. z (er ∙ y)) ∙ page-opened o (m .mesh) g (m .places) bs in
             (er ∙ ap (λ (a : Paged). a .reply) t, ep ∙ ap (λ (a : Paged). a .page) t);
-        kept = ap (λ (x : Result). x .left) e;
+        kept = ap (λ (x : Result). x .runs) e;
       }
 
   each : (o : Mesh) (cs : List Call) (m : Machine) → Valid (m .mesh) (m .places) → From o (m .mesh) → Each wd exF exW o m (holding m exF exW) cs

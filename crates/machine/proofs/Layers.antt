@@ -1,4 +1,4 @@
--- A reading of a set of layers: the words as it sees them are those of a store that holds only the places in the set. Assumes nothing.
+-- The words as a reading of some layers sees them are those of a store that holds only its places. Assumes nothing.
 use mathlib.Core.Path.{_≡_, refl, sym, ap, subst, _∙_}
 use mathlib.Core.Bool.{Bool, true, false, cond}
 use mathlib.Core.List.{List, [], _∷_, _++_, map-append, append-assoc, append-nil}
@@ -17,7 +17,7 @@ use Rattle.layout.specs.Soundness.{every}
 use Rattle.layout.specs.SoundLaws.{every-at}
 use Rattle.machine.specs.Machine.{Mesh, Place, empty, full, among, seenPlace, seenPlaces}
 use Rattle.machine.specs.Holding.{placeRow, wordsOf}
-use Rattle.machine.specs.Fresh.{kernelOf}
+use Rattle.machine.specs.Fresh.{kernelOf, kernelsOf}
 use Rattle.machine.specs.Valid.{Within, Valid}
 use Rattle.machine.proofs.Rows.{Width}
 use Rattle.machine.proofs.Held.{layer-held, write-words, zeros-row}
@@ -40,6 +40,16 @@ all-seen m [] w = refl
 all-seen m (empty ∷ ss) w = ap (λ (t : List Place). empty ∷ t) (all-seen m ss (λ i. w (suc i)))
 all-seen m (full k fit p l ∷ ss) w =
     rw (all-among l (w zero .layer)) (ap (λ (t : List Place). full k fit p l ∷ t) (all-seen m ss (λ i. w (suc i))))
+
+-- ---- with none no place is seen
+none-among : (l : ℕ) → among l 0 ≡ false
+none-among zero = refl
+none-among (suc l) = none-among l
+
+pub none-seen : (ss : List Place) → kernelsOf (seenPlaces 0 ss) ≡ []
+none-seen [] = refl
+none-seen (empty ∷ ss) = none-seen ss
+none-seen (full k fit p l ∷ ss) = rw (none-among l) (none-seen ss)
 
 -- ---- the places that are seen
 module _ (layers : ℕ) where

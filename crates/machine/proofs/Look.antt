@@ -22,7 +22,7 @@ use Rattle.density.specs.Conventions.{bulkOf, targetOf, rho0Scale, massScale, a
 use Rattle.layout.specs.Layout.{vertsOf, facesOf}
 use Rattle.layout.specs.Left.{held, leftOf}
 use Rattle.layout.specs.Layers.{layersCheck}
-use Rattle.base.specs.Answers.{outcome}
+use Rattle.base.specs.Answers.{Outcome, outcome}
 use Rattle.readings.specs.Readings.{Reading, density, report, list, track, byMass, needsWork, Part, bare, densityAt, rawMass, origin, applied, rescaled, Seen, seeing, listing, tracking, answerOf, refusing, readingOf, heldFilled, heldWorst, heldSeen, guardedRead, readStep}
 use Rattle.machine.specs.Machine.{Mesh, Place, empty, full, leftSum, seenPlaces}
 use Rattle.machine.specs.Holding.{triangles, placeRow, wordsOf}
@@ -90,7 +90,9 @@ kernels-snoc [] s = append-nil (kernelOf s)
 kernels-snoc (x ∷ l) s = ap (λ (t : List Kernel). kernelOf x ++ t) (kernels-snoc l s) ∙ sym (append-assoc (kernelOf x) (kernelsOf l) (kernelOf s))
 
 -- ---- the floats hold all places ss, the words only the places ts that a reading sees
-module _ (wd : ℕ) (fm : Width wd) (m : Mesh) (ss ts : List Place) (hs : length ss ≡ 32) (v : Valid m ts) (there : There ts ss) (xs : List Float) (ys : List ℕ) where
+module _
+    (wd : ℕ) (fm : Width wd) (m : Mesh) (ss ts : List Place) (hs : length ss ≡ 32) (v : Valid m ts)
+    (there : There ts ss) (xs : List Float) (ys : List ℕ) where
   abbrev FS : List Float
   FS = laidOut m ss xs
 
@@ -168,34 +170,47 @@ module _ (wd : ℕ) (fm : Width wd) (m : Mesh) (ss ts : List Place) (hs : length
       → readingOf r (leftOf wd WS (facesOf WS) 32) (heldSeen wd FS WS) ≡ readingOf r (leftSum m ts) (freshSeen m ts)
   read-parts r = rw (faces-held, left-held wd fm m ts v ys) (go (needsWork r) refl (ltb 0 (leftSum m ts)) refl)
     where
-      go : (b : Bool) → needsWork r ≡ b → (c : Bool) → ltb 0 (leftSum m ts) ≡ c → cond (b && c) (refusing r Unfinished) (answerOf r (heldSeen wd FS WS)) ≡ cond (b && c) (refusing r Unfinished) (answerOf r (freshSeen m ts))
+      go : (b : Bool) → needsWork r ≡ b → (c : Bool) → ltb 0 (leftSum m ts) ≡ c
+          → cond (b && c) (refusing r Unfinished) (answerOf r (heldSeen wd FS WS))
+          ≡ cond (b && c) (refusing r Unfinished) (answerOf r (freshSeen m ts))
       go false n c e = blind r n (heldSeen wd FS WS) (freshSeen m ts) bare-seen
       go true n true e = refl
       go true n false e = ap (answerOf r) (whole-seen (let z = ltb-false 0 (leftSum m ts) e in omega arith))
 
   pub seen-held : (r : Reading)
-      → readingOf r (leftOf wd WS (facesOf WS) 32) (heldSeen wd FS WS) ≡ cond (needs r && ltb 0 (leftSum m ts)) (refusing r Unfinished) (workedAfresh m ts r)
+      → readingOf r (leftOf wd WS (facesOf WS) 32) (heldSeen wd FS WS)
+      ≡ cond (needs r && ltb 0 (leftSum m ts)) (refusing r Unfinished) (workedAfresh m ts r)
   seen-held r =
       read-parts r
       ∙ (ap (cond (needsWork r && ltb 0 (leftSum m ts)) (refusing r Unfinished)) (joined m (v .mesh) ts r)
       ∙ ap (λ (b : Bool). cond (b && ltb 0 (leftSum m ts)) (refusing r Unfinished) (workedAfresh m ts r)) (same-needs r))
 
 -- ---- a reading of a set of layers
-module _ (wd : ℕ) (fm : Width wd) (m : Mesh) (ss : List Place) (v : Valid m ss) (xs : List Float) (ys : List ℕ) (layers : ℕ) where
+module _
+    (wd : ℕ) (fm : Width wd) (m : Mesh) (ss : List Place) (v : Valid m ss) (xs : List Float) (ys : List ℕ)
+    (layers : ℕ) (r : Reading) where
   abbrev seen : List Place
   seen = seenPlaces layers ss
 
-  pub read-held : (r : Reading) → readStep wd (laidOut m ss xs) (wordsOf m ss ys) layers r
-      ≡ cond (leb (2 ^ 16) layers) (refusing r NoLayer) (cond (needs r && ltb 0 (leftSum m seen)) (refusing r Unfinished) (workedAfresh m seen r))
+  -- of the places that are seen: by the fields held, and by the machine
+  abbrev byFields : Outcome
+  byFields =
+      let ws = wordsOf m seen ys in
+      readingOf r (leftOf wd ws (facesOf ws) 32) (heldSeen wd (laidOut m ss xs) ws)
+
+  abbrev byMachine : Outcome
+  byMachine = cond (needs r && ltb 0 (leftSum m seen)) (refusing r Unfinished) (workedAfresh m seen r)
+
+  pub read-held : readStep wd (laidOut m ss xs) (wordsOf m ss ys) layers r
+      ≡ cond (leb (2 ^ 16) layers) (refusing r NoLayer) byMachine
   unfolding readStep layersCheck
-  read-held r = rw (no-fault wd fm m ss v xs ys, layers-held layers wd fm m ss (v .places) ys) (go (decLt layers 65536))
+  read-held =
+      rw (no-fault wd fm m ss v xs ys, layers-held layers wd fm m ss (v .places) ys) (go (decLt layers 65536))
     where
-      held : readingOf r (leftOf wd (wordsOf m seen ys) (facesOf (wordsOf m seen ys)) 32) (heldSeen wd (laidOut m ss xs) (wordsOf m seen ys))
-          ≡ cond (needs r && ltb 0 (leftSum m seen)) (refusing r Unfinished) (workedAfresh m seen r)
+      held : byFields ≡ byMachine
       held = seen-held wd fm m ss seen (v .places) (seen-valid layers m ss v) (seen-there layers ss) xs ys r
 
-      go : Dec (layers < 65536)
-          → guardedRead (cond (ltb layers 65536) Passed (Failed NoLayer)) r (readingOf r (leftOf wd (wordsOf m seen ys) (facesOf (wordsOf m seen ys)) 32) (heldSeen wd (laidOut m ss xs) (wordsOf m seen ys)))
-          ≡ cond (leb (2 ^ 16) layers) (refusing r NoLayer) (cond (needs r && ltb 0 (leftSum m seen)) (refusing r Unfinished) (workedAfresh m seen r))
+      go : Dec (layers < 65536) → guardedRead (cond (ltb layers 65536) Passed (Failed NoLayer)) r byFields
+          ≡ cond (leb (2 ^ 16) layers) (refusing r NoLayer) byMachine
       go (yes h) = rw (lt-ltb layers 65536 h, lt-leb 65536 layers h) held
       go (no h) = rw (le-ltb layers 65536 (omega arith), le-leb 65536 layers (omega arith)) refl

@@ -58,10 +58,14 @@ module _ (m : Mesh) (k : Kernel) (fit : Pieces) where
 
 -- the filled places of ts are so in ss
 abbrev pub There : List Place → List Place → Type 0
-There ts ss = (i : ℕ) (k : Kernel) (fit : Pieces) (p l : ℕ) → getD ts i empty ≡ full k fit p l → getD ss i empty ≡ full k fit p l
+There ts ss =
+    (i : ℕ) (k : Kernel) (fit : Pieces) (p l : ℕ)
+    → getD ts i empty ≡ full k fit p l → getD ss i empty ≡ full k fit p l
 
 -- ---- the floats hold all places ss, the words only the places ts that a reading sees
-module _ (wd : ℕ) (fm : Width wd) (m : Mesh) (ss ts : List Place) (hs : length ss ≡ 32) (v : Valid m ts) (there : There ts ss) (xs : List Float) (ys : List ℕ) where
+module _
+    (wd : ℕ) (fm : Width wd) (m : Mesh) (ss ts : List Place) (hs : length ss ≡ 32) (v : Valid m ts)
+    (there : There ts ss) (xs : List Float) (ys : List ℕ) where
   abbrev FS : List Float
   FS = laidOut m ss xs
 

@@ -56,7 +56,8 @@ unfolding placeSound
 place-sound m empty h = refl
 place-sound m (full k fit p l) h = steps-sound (fit .count) (m .faces) p (h .few) (h .steps)
 
-layer-sound : (m : Mesh) (s : Place) → Within m s → layerSound (getD (placeRow m s) 0 0) (getD (placeRow m s) 3 0) ≡ true
+layer-sound : (m : Mesh) (s : Place) → Within m s
+    → layerSound (getD (placeRow m s) 0 0) (getD (placeRow m s) 3 0) ≡ true
 unfolding layerSound
 layer-sound m empty h = refl
 layer-sound m (full k fit p l) h = rw (ne-eqb (1 + fit .count) 0 (λ e. omega arith), lt-ltb l 16 (h .layer)) refl

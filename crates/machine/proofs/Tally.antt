@@ -77,7 +77,8 @@ seen-one radius layers (full k fit p l) = go (among l layers)
     go true = omega arith
     go false = omega arith
 
-pub seen-within : (radius : Float) (layers : ℕ) (ss : List Place) → heldIn radius (seenPlaces layers ss) ≤ heldIn radius ss
+pub seen-within : (radius : Float) (layers : ℕ) (ss : List Place)
+    → heldIn radius (seenPlaces layers ss) ≤ heldIn radius ss
 seen-within radius layers [] = omega arith
 seen-within radius layers (s ∷ ss) = omega (arith, seen-one radius layers s, seen-within radius layers ss)
 
@@ -137,7 +138,8 @@ record Step (m : Machine) (c : Call) (t : Turn) : Type 0 where
   charge : chargedBy c (t .reply) ≤ fitsIn m (putBy c) * m .mesh .faces
   pieces : heldBy m (t .next .places) ≤ heldBy m (m .places) + fitsIn m (putBy c)
   -- just those, where its place is one of the store's and its layer one of the sixteen; the pieces where that is empty
-  charge-all : InStore (placeBy c) → InSixteen (layerBy c) → chargedBy c (t .reply) ≡ fitsIn m (putBy c) * m .mesh .faces
+  charge-all : InStore (placeBy c) → InSixteen (layerBy c)
+      → chargedBy c (t .reply) ≡ fitsIn m (putBy c) * m .mesh .faces
   pieces-all : InStore (placeBy c) → InSixteen (layerBy c) → Every (Vacancy (m .places)) (placeBy c)
       → heldBy m (t .next .places) ≡ heldBy m (m .places) + fitsIn m (putBy c)
   -- other places that are empty stay so
@@ -324,7 +326,8 @@ module _ (wd : ℕ) (fm : Width wd) (exF : List Float) (exW : List ℕ) where
       let i = charged-within cs (machine m c .next) (kept m v c .valid) in
       rw (one-call wd fm m v exF exW c) (omega (arith, i, s m v c .charge, all-charge m v c cs))
 
-  pub charged-all : (cs : List Call) (m : Machine) → Valid (m .mesh) (m .places) → InStore (placesIn cs) → InSixteen (layersIn cs)
+  pub charged-all : (cs : List Call) (m : Machine) → Valid (m .mesh) (m .places)
+      → InStore (placesIn cs) → InSixteen (layersIn cs)
       → chargedIn wd (holding m exF exW) cs ≡ fitsIn m (putIn cs) * m .mesh .faces
   charged-all [] m v p b = omega arith
   charged-all (c ∷ cs) m v p b =

@@ -173,10 +173,8 @@ module _ (m : Machine) (xs : List Float) (ks : List ℕ) (w g : ℕ) where
   unfolding machine
   read-goes a ls r =
       let ss = seenPlaces ls (m .places) in
-      record {
-        lift = rw (left-sum-same (m .mesh) xs ks w ss, afresh-same (m .mesh) xs ks w (a .same) (a .shape) (a .was) ss r) refl;
-        mesh = refl;
-      }
+      let f = afresh-same (m .mesh) xs ks w (a .same) (a .shape) (a .was) ss r in
+      record { lift = rw (left-sum-same (m .mesh) xs ks w ss, f) refl; mesh = refl }
 
   pub page-goes : Alike (m .mesh) xs ks w → (bs : List ℕ) → Goes m (page bs) xs ks w g
   unfolding machine

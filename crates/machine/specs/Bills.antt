@@ -121,8 +121,8 @@ pub record Covered (q : ℕ) (s : Store) (cs : List Call) (steps floats : ℕ) :
   pub listed : (layers : ℕ) → layers < 2 ^ 16 → (v : Convention) (run : List Float) (pieces : ℕ)
       → listAfter q s cs layers v run ≡ counted (pieces ∷ []) → 6 * pieces ≤ floats
 
--- just as much; of a list of all sixteen layers, where each place is filled or emptied once at most: a shorter run is too
--- short for it
+-- just as much; of a list of all sixteen layers, where each place is filled or emptied once at most: a shorter run is
+-- too short for it
 pub record Met (q : ℕ) (s : Store) (cs : List Call) (steps floats : ℕ) : Type 0 where
   pub charged : chargedIn q s cs ≡ steps
   pub room : Apart (placesIn cs) → (v : Convention) (run : List Float) → length run < floats
@@ -137,8 +137,8 @@ pub record Due (q : ℕ) (s : Store) (kernels : List Float) (steps floats : ℕ)
   -- them
   pub never-below : (cs : List Call) (rest : List Kernel) → Reordered (putIn cs ++ rest) (kernelsIn kernels)
       → Covered q s cs steps floats
-  -- "For a kernel that stays or has a NaN exponent both are exact": each is put into one of the store's places, in one of
-  -- the sixteen layers
+  -- "For a kernel that stays or has a NaN exponent both are exact": each is put into one of the store's places, in one
+  -- of the sixteen layers
   pub exact : Every Exact (kernelsIn kernels) → (cs : List Call) → Reordered (putIn cs) (kernelsIn kernels)
       → InStore (placesIn cs) → InSixteen (layersIn cs) → Met q s cs steps floats
 

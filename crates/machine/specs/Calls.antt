@@ -64,12 +64,12 @@ needs (report v) = true
 needs (list v out) = byTarget v
 needs (track v points out) = byTarget v
 
--- "16 when a layer is above 15": a set of such a layer is a number of more than sixteen bits. "Left is then counted over
--- the places in the set where a reading decides whether it is unfinished"; any other reading is worked afresh on those
--- places; no reading changes the machine
+-- "Left is then counted over the places in the set where a reading decides whether it is unfinished"
 abbrev pub workSeen : Machine → ℕ → ℕ
 workSeen m layers = leftSum (m .mesh) (seenPlaces layers (m .places))
 
+-- "16 when a layer is above 15": a set that has such a layer is a number of more than sixteen bits. It comes before 8.
+-- Any other reading is worked afresh on the places that it sees; none changes the machine
 abbrev pub readTurn : Machine → ℕ → Reading → Outcome
 readTurn m layers r =
     cond (leb (2 ^ 16) layers) (refusing r NoLayer)
@@ -113,22 +113,22 @@ pub record Store : Type 0 where
   pub floats : List Float
   pub words : List ℕ
 
--- what a call on them leaves and answers
+-- what a call on them does: the runs that it leaves, its reply, and what is lent beside them as it is then
 pub record Result : Type 0 where
-  pub left : Store
+  pub runs : Store
   pub reply : Answer
   pub out : List Float
   pub page : List ℕ
 
 abbrev pub result : After → Result
-result a = record { left = record { floats = a .floats; words = a .words }; reply = a .reply; out = []; page = [] }
+result a = record { runs = record { floats = a .floats; words = a .words }; reply = a .reply; out = []; page = [] }
 
 -- a reading leaves the store, and so does a page
 abbrev pub seen : Store → Outcome → Result
-seen s a = record { left = s; reply = a .reply; out = a .out; page = [] }
+seen s a = record { runs = s; reply = a .reply; out = a .out; page = [] }
 
 abbrev pub pinned : Store → Paged → Result
-pinned s a = record { left = s; reply = a .reply; out = []; page = a .page }
+pinned s a = record { runs = s; reply = a .reply; out = []; page = a .page }
 
 -- each call is the function of its contract
 unfoldable pub store : ℕ → Store → Call → Result
@@ -144,7 +144,7 @@ store q s (page bs) = pinned s (pageStep q (s .floats) (s .words) bs)
 -- ---- a list of calls: each gets what the call before it left
 abbrev pub leaves : ℕ → Store → List Call → Store
 leaves q s [] = s
-leaves q s (c ∷ cs) = leaves q (store q s c .left) cs
+leaves q s (c ∷ cs) = leaves q (store q s c .runs) cs
 
 abbrev pub after-all : Machine → List Call → Machine
 after-all m [] = m
@@ -186,11 +186,11 @@ leftIn r = getD (r .counts) 1 0
 
 abbrev pub chargedIn : ℕ → Store → List Call → ℕ
 chargedIn q s [] = 0
-chargedIn q s (c ∷ cs) = chargedBy c (store q s c .reply) + chargedIn q (store q s c .left) cs
+chargedIn q s (c ∷ cs) = chargedBy c (store q s c .reply) + chargedIn q (store q s c .runs) cs
 
 abbrev pub doneIn : ℕ → Store → List Call → ℕ
 doneIn q s [] = 0
-doneIn q s (c ∷ cs) = doneBy c (store q s c .reply) + doneIn q (store q s c .left) cs
+doneIn q s (c ∷ cs) = doneBy c (store q s c .reply) + doneIn q (store q s c .runs) cs
 
 -- ---- a list without its squeezes, and what its other calls answer and write into what is lent beside the store
 abbrev pub without : List Call → List Call
@@ -225,4 +225,4 @@ hearing a = record { reply = a .reply; out = a .out; page = a .page }
 
 abbrev pub heard : ℕ → Store → List Call → List Heard
 heard q s [] = []
-heard q s (c ∷ cs) = others c (hearing (store q s c)) (heard q (store q s c .left) cs)
+heard q s (c ∷ cs) = others c (hearing (store q s c)) (heard q (store q s c .runs) cs)

@@ -39,7 +39,7 @@ pub record Same (q : ℕ) (exF : List Float) (exW : List ℕ) (m : Machine) (s :
   pub shown : store q s c .page ≡ machine m c .page
   -- "After each call the runs hold 01's fields for its mesh, radius, places and steps, volumes so far included": each
   -- word of both; past the fields come the words that squeezes freed, which are zero, and the excess
-  pub fields : store q s c .left ≡ holding (machine m c .next) exF exW
+  pub fields : store q s c .runs ≡ holding (machine m c .next) exF exW
 
 -- ---- a reading r of a set of layers, anywhere in a list; mesh is the mesh opened, of which squeezes may have dropped
 -- vertices in m
@@ -61,8 +61,10 @@ pub record Read (q : ℕ) (mesh : Mesh) (m : Machine) (s : Store) (layers : ℕ)
       × (store q s (read layers r) .out ≡ workedAfresh mesh (seenPlaces layers (m .places)) r .out)
   -- "with all sixteen it reads as before": all places are seen
   pub all-sixteen : seenPlaces 65535 (m .places) ≡ m .places
+  -- with none no place is, so that such a reading is worked on no kernel
+  pub none : kernelsOf (seenPlaces 0 (m .places)) ≡ []
   -- "no reading alters a kept weight", nor any other word of the store
-  pub kept : store q s (read layers r) .left ≡ s
+  pub kept : store q s (read layers r) .runs ≡ s
 
 -- ---- 02, L7: a report of what is finished, of a set of layers, anywhere in a list
 pub record Partly (q : ℕ) (mesh : Mesh) (m : Machine) (s : Store) (layers : ℕ) (v : Convention) : Type 0 where
@@ -77,7 +79,7 @@ pub record Partly (q : ℕ) (mesh : Mesh) (m : Machine) (s : Store) (layers : �
   -- and is the ordinary report
   pub whole : layers < 2 ^ 16 → workSeen m layers ≡ 0
       → store q s (finished layers v) .reply ≡ beside 0 (store q s (read layers (report v)) .reply)
-  pub kept : store q s (finished layers v) .left ≡ s
+  pub kept : store q s (finished layers v) .runs ≡ s
 
 -- ---- 02, L8: a page anywhere in a list, into the bytes bs
 pub record Post (q : ℕ) (mesh : Mesh) (m : Machine) (s : Store) (bs : List ℕ) : Type 0 where
@@ -91,15 +93,17 @@ pub record Post (q : ℕ) (mesh : Mesh) (m : Machine) (s : Store) (bs : List ℕ
       → (store q s (page bs) .reply ≡ pageAfresh mesh (m .places) bs .reply)
       × (store q s (page bs) .page ≡ pageAfresh mesh (m .places) bs .page)
   -- a page alters no word of the store
-  pub kept : store q s (page bs) .left ≡ s
+  pub kept : store q s (page bs) .runs ≡ s
 
 -- ---- "the first gets the runs that an accepted opening left, each later one those that the call before it left,
 -- whole, and nobody else writes there"
 pub data Each (q : ℕ) (exF : List Float) (exW : List ℕ) (mesh : Mesh) : Machine → Store → List Call → Type 0 where
   end : {m : Machine} {s : Store} → Each q exF exW mesh m s []
   next : {m : Machine} {s : Store} {c : Call} {cs : List Call}
-      → Same q exF exW m s c → ((layers : ℕ) (r : Reading) → Read q mesh m s layers r) → ((layers : ℕ) (v : Convention) → Partly q mesh m s layers v) → ((bs : List ℕ) → Post q mesh m s bs)
-      → Each q exF exW mesh (machine m c .next) (store q s c .left) cs → Each q exF exW mesh m s (c ∷ cs)
+      → Same q exF exW m s c
+      → ((layers : ℕ) (r : Reading) → Read q mesh m s layers r) → ((layers : ℕ) (v : Convention) → Partly q mesh m s layers v)
+      → ((bs : List ℕ) → Post q mesh m s bs)
+      → Each q exF exW mesh (machine m c .next) (store q s c .runs) cs → Each q exF exW mesh m s (c ∷ cs)
 
 -- ---- the pieces worked afresh are demand 2's too: the call that decomposes a list of kernels ks, six floats each,
 -- writes them into a run that is long enough, and answers the kernels, the pieces and the greatest error

@@ -24,7 +24,7 @@ pub record Mesh : Type 0 where
   pub verts : ℕ
   pub faces : ℕ
 
--- "each place is empty or (kernel, steps p)"; a filled one keeps the pieces that its decomposition gave, and 02, L5: "Each
+-- "each place is empty or (kernel, steps p)"; a filled one keeps the pieces that its decomposition gave. 02, L5: "Each
 -- place, the machine's too, gets a layer number from 0 to 15". In `full k fit p l`, p are the steps and l is the layer
 pub data Place : Type 0 where
   empty : Place

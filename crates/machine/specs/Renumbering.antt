@@ -30,7 +30,7 @@ pub record Renumbered (p q : ℕ → ℕ) (xs : List Float) (ks : List ℕ) (ys 
 -- what the calls of a list answer and write into what is lent beside the store; each gets what the call before it left
 abbrev pub answers : ℕ → Store → List Call → List Heard
 answers q s [] = []
-answers q s (c ∷ cs) = hearing (store q s c) ∷ answers q (store q s c .left) cs
+answers q s (c ∷ cs) = hearing (store q s c) ∷ answers q (store q s c .runs) cs
 
 -- ---- what two openings answered and left
 pub record Agree (q : ℕ) (a b : After) : Type 0 where

@@ -64,7 +64,7 @@ unsignedHeard (page bs) o = o
 
 abbrev pub said : ℕ → Store → List Call → List Heard
 said q s [] = []
-said q s (c ∷ cs) = unsignedHeard c (hearing (store q s c)) ∷ said q (store q s c .left) cs
+said q s (c ∷ cs) = unsignedHeard c (hearing (store q s c)) ∷ said q (store q s c .runs) cs
 
 pub record SameSaid (q : ℕ) (s : Store) (cs ds : List Call) : Type 0 where
   pub calls : said q s cs ≡ said q s ds
