@@ -1,31 +1,31 @@
 -- 02, L2, in words of real numbers. T of a whole number from 0 to 22 is the real power of ten, T of one from -22 to -1 the real power rounded
 -- once, and T of any other argument is what 01's steps give. `HasValue y s k 1` says that y is finite, of the sign s, and k in size. Assumes nothing.
 use mathlib.Core.Path.{_≡_, refl, sym, ap, _∙_, subst}
-use mathlib.Core.Bool.{Bool, true, false, not, _&&_, _||_, cond, true≢false, false≢true}
+use mathlib.Core.Bool.{Bool, true, false, _&&_, cond, true≢false, false≢true}
 use Prim.Native.Nat.{ℕ, zero, suc, _+_, _-_, _*_, _/_, _^_, _≤_, _<_}
-use native.Mathlib.Nat.{mul-one, one-mul, zero-mul, mul-comm, mul-right-comm, mul-pos, mul-div-cancel, eq-of-mul-eq-mul-right, le-trans, lt-irrefl, zero-lt-suc, pow-succ'}
+use native.Mathlib.Nat.{mul-one, zero-mul, mul-comm, mul-right-comm, mul-pos, mul-div-cancel, eq-of-mul-eq-mul-right, le-trans, lt-irrefl, zero-lt-suc, pow-succ'}
 use native.Mathlib.Decide.{decLt}
 use native.Mathlib.Omega.{arith}
 use borrow.Author.Tests.{leb-true, eq-eqb, ne-eqb, le-leb, le-ltb, lt-ltb}
 use lib.Dec.{T, eqb, leb, ltb, ltb→lt, eqb→eq, lit≤, lit<}
-use lib.IntN.{ℤ, pos}
-use lib.Ieee.{Float, nan, inf, fin, binary64, up, down, round, lt, eq, neg, div, ofBits, ofInt, toBits, size}
+use lib.IntN.{ℤ}
+use lib.Ieee.{Float, nan, inf, fin, binary64, up, down, round, lt, eq, div, ofBits, ofInt, toBits}
 use lib.Ieee.Fits.{down-pos, and-l, and-r}
 use lib.Ieee.Exact.{HasValue}
 use lib.Ieee.Back.{round-whole}
 use lib.Ieee.Positive.{first-pos}
 use lib.Ieee.Scale.{round-same}
-use Rattle.base.specs.Floats.{_⊘_, bits, whole, decimal, +0, sign, abs, unitsIn}
+use Rattle.base.specs.Floats.{_⊘_, bits, decimal, +0, sign, abs, unitsIn}
 use Rattle.base.specs.Constants.{one, one-is}
 use Rattle.powers.specs.Exp.{cut}
 use Rattle.powers.specs.Power.{tenSteps, wholeTen, smallWhole, tenTo}
 
 -- ---- one computed test of every number below n is a test of each
-abbrev every : (ℕ → Bool) → ℕ → Bool
+abbrev pub every : (ℕ → Bool) → ℕ → Bool
 every f zero = true
 every f (suc n) = f n && every f n
 
-each : (f : ℕ → Bool) (n k : ℕ) → T (every f n) → k < n → T (f k)
+pub each : (f : ℕ → Bool) (n k : ℕ) → T (every f n) → k < n → T (f k)
 each f zero k t h = absurd (omega (arith, h))
 each f (suc n) k t h = go (each f n k (and-r (f n) (every f n) t)) (decLt k n)
   where
@@ -127,21 +127,15 @@ both true b h = (refl, h)
 both false b h = absurd (false≢true h)
 
 -- what the test finds has such a value
-whole-value : (y : Float) → smallWhole y ≡ true → (cut y ≤ 22) × HasValue (abs y) false (cut y) 1
+pub small-value : (y : Float) → smallWhole y ≡ true → (cut y ≤ 22) × HasValue y (sign y) (cut y) 1
 unfolding smallWhole abs eq cut ofInt round
-whole-value nan h = absurd (false≢true h)
-whole-value (inf s) h = absurd (false≢true h)
-whole-value (fin s m e) h =
+small-value nan h = absurd (false≢true h)
+small-value (inf s) h = absurd (false≢true h)
+small-value (fin s m e) h =
     let k = cut (fin s m e) in
     let b = both (leb k 22) (eq (fin false m e) (round binary64 false k 1)) h in
     let l = leb-true k 22 (b .0) in
     (l, (refl, back s m e k (round binary64 false k 1) (round-whole binary64 false k (le-trans l (lit≤ tt))) (b .1)))
-
-signed-value : (y : Float) (k : ℕ) → HasValue (abs y) false k 1 → HasValue y (sign y) k 1
-unfolding abs
-signed-value nan k v = v
-signed-value (inf s) k v = v
-signed-value (fin s m e) k v = (refl, v .1)
 
 -- "Other arguments keep 01's steps"
 pub elsewhere : (y : Float) → ((s : Bool) (k : ℕ) → k ≤ 22 → HasValue y s k 1 → ⊥) → tenTo y ≡ tenSteps y
@@ -150,7 +144,7 @@ elsewhere y f = go (smallWhole y) refl
   where
     go : (b : Bool) → smallWhole y ≡ b → cond b (cond (lt y +0) (one ⊘ wholeTen (cut y)) (wholeTen (cut y))) (tenSteps y) ≡ tenSteps y
     go false h = refl
-    go true h = let v = whole-value y h in absurd (f (sign y) (cut y) (v .0) (signed-value y (cut y) (v .1)))
+    go true h = let v = small-value y h in absurd (f (sign y) (cut y) (v .0) (v .1))
 
 -- ---- in real numbers
 

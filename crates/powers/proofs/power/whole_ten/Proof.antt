@@ -1,11 +1,11 @@
--- `powers::tens::whole_ten` meets its contract: each literal is its power, by computation. Assumes nothing.
+-- `powers::power::whole_ten` meets its contract: each literal is its power, by computation. Assumes nothing.
 use mathlib.Core.Path.{_≡_, refl}
 use native.Mathlib.Omega.{arith}
 use lib.Ieee.{ofBits, ofInt, round}
 use Rattle.powers.specs.Power.{wholeTen}
 use Rattle.powers.proofs.SmallWholes.{past}
-use Rattle.powers.proofs.tens.whole_ten.Statement.{statement}
-use Rattle.powers.proofs.tens.whole_ten.Tie as tie
+use Rattle.powers.proofs.power.whole_ten.Statement.{statement}
+use Rattle.powers.proofs.power.whole_ten.Tie as tie
 
 returns-23 : tie.Need-returns-23
 unfolding wholeTen ofBits ofInt round
