@@ -1,22 +1,33 @@
--- Theorems of the fit: where the fallback stands, that the peak error is at least +0, and that it is 1 where the exponent is a NaN. Assumes nothing.
+-- Theorems of the fit: what its outer scales are, where the fallback stands, that the peak error is at least +0, and that it is 1 where the exponent is a NaN. Assumes nothing.
 use mathlib.Core.Path.{_≡_, refl}
 use mathlib.Core.Logic.{⊎-elim}
 use mathlib.Core.Bool.{Bool, true, false, cond, _||_}
 use mathlib.Core.List.{List}
 use Prim.Native.Nat.{ℕ, zero, suc}
 use lib.ListN.{set}
-use lib.Ieee.{Float, nan, ofBits, lt, le, eq, add, sub, mul, neg, isNan}
+use lib.Ieee.{Float, nan, ofBits, ofInt, round, lt, le, eq, add, sub, mul, div, neg, isNan}
 use Rattle.base.specs.Floats.{_⊖_, _⊗_, bits, +0, abs, greater}
-use Rattle.base.specs.Constants.{one}
+use Rattle.base.specs.Constants.{one, tenth, ten}
 use Rattle.base.specs.Loops.{times}
 use Rattle.base.specs.ChoiceLaws.{cond-of}
 use Rattle.base.specs.OrderLaws.{lt-nan, abs-least}
-use Rattle.powers.specs.Exp.{exp}
+use Rattle.powers.specs.Exp.{cut, exp}
 use Rattle.powers.specs.Log.{log}
-use Rattle.powers.specs.Power.{power}
+use Rattle.powers.specs.Power.{power, wholeTen, smallWhole, tenTo}
 use Rattle.solve.specs.Elimination.{flat}
-use Rattle.pieces.specs.Fit.{zeros, sampleOf, targetOf, coefficientsOf, approx, errorAt, peakError}
+use Rattle.pieces.specs.Fit.{zeros, scaleOf, sampleOf, targetOf, coefficientsOf, approx, errorAt, peakError}
 use Rattle.pieces.specs.declared.points.Curve.{Curve}
+
+-- ---- the outer scales
+
+-- 02, L2: "outer scales of exactly 0.1 and 10", by T at -1 and at 1
+pub outer-13 : (scaleOf 13 0 ≡ tenth) × (scaleOf 13 12 ≡ ten)
+unfolding scaleOf tenTo smallWhole wholeTen cut abs add mul div neg lt eq ofBits ofInt round
+outer-13 = (refl, refl)
+
+pub outer-16 : (scaleOf 16 0 ≡ tenth) × (scaleOf 16 15 ≡ ten)
+unfolding scaleOf tenTo smallWhole wholeTen cut abs add mul div neg lt eq ofBits ofInt round
+outer-16 = (refl, refl)
 
 -- ---- the fallback
 

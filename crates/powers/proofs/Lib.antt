@@ -3,3 +3,4 @@ pub mod Scalings
 pub mod Wholes
 pub mod Bounds
 pub mod Binaries
+pub mod SmallWholes

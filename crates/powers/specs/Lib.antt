@@ -2,4 +2,5 @@ pub mod Arc
 pub mod Log
 pub mod Exp
 pub mod Power
+pub mod TenLaws
 pub mod Rows

@@ -1,20 +1,21 @@
 -- Rows of 01's bench table on powers, by computation, and the ends of the range. The values come from 01's formulas, worked out in IEEE floats and exact fractions apart from these definitions.
 -- Assumes nothing.
 use mathlib.Core.Path.{_≡_, refl}
+use mathlib.Core.Bool.{true, false}
 use Prim.Native.Nat.{ℕ}
-use lib.Ieee.{nan, add, sub, mul, div, neg, ofBits, ofInt, round, lt, le, eq, isNan, size}
+use lib.Ieee.{nan, inf, add, sub, mul, div, neg, ofBits, ofInt, round, lt, le, eq, isNan, size}
 use Rattle.base.specs.Loops.{down}
 use Rattle.base.specs.Floats.{bits, signed, abs, unitsIn}
-use Rattle.base.specs.Constants.{half, one, two, three}
+use Rattle.base.specs.Constants.{half, one, two, three, twentyThree}
 use Rattle.root.specs.Root.{squareRoot}
 use Rattle.powers.specs.Arc.{halved, arcSum, arcCore, arcAbs, arc}
 use Rattle.powers.specs.Log.{placeOf, mantissa, logSum, logCore, logAt, logPositive, log}
 use Rattle.powers.specs.Exp.{cut, raised, scale, expSum, expAt, exp}
-use Rattle.powers.specs.Power.{power, tenTo}
+use Rattle.powers.specs.Power.{power, tenSteps, wholeTen, smallWhole, tenTo}
 
 -- opens what the rows compute with
 unfoldable rows : ℕ
-unfolding add sub mul div neg ofBits ofInt round lt le eq isNan size down signed abs unitsIn squareRoot halved arcSum arcCore arcAbs arc placeOf mantissa logSum logCore logAt logPositive log cut raised scale expSum expAt exp power tenTo
+unfolding add sub mul div neg ofBits ofInt round lt le eq isNan size down signed abs unitsIn squareRoot halved arcSum arcCore arcAbs arc placeOf mantissa logSum logCore logAt logPositive log cut raised scale expSum expAt exp power tenSteps wholeTen smallWhole tenTo
 rows = 0
 
 -- P: power(1, NaN) = 1
@@ -67,7 +68,39 @@ pub exp-below-half : exp (bits 0x3FDF_FFFF_FFFF_FFFF) ≡ bits 0x3FF6_A09E_667F_
 unfolding rows
 exp-below-half = refl
 
--- T(1) is one unit in the last place below 10
-pub ten-one : tenTo one ≡ bits 0x4023_FFFF_FFFF_FFFF
+-- ---- T
+
+-- -0 is whole: 1
+pub ten-minus-zero : tenTo (neg (bits 0)) ≡ one
 unfolding rows
-ten-one = refl
+ten-minus-zero = refl
+
+-- 23, -23 and 0.5 keep 01's steps, and so do a NaN and the infinities
+pub ten-steps-23 : tenTo twentyThree ≡ tenSteps twentyThree
+unfolding rows
+ten-steps-23 = refl
+
+pub ten-steps-minus-23 : tenTo (neg twentyThree) ≡ tenSteps (neg twentyThree)
+unfolding rows
+ten-steps-minus-23 = refl
+
+pub ten-steps-half : tenTo half ≡ tenSteps half
+unfolding rows
+ten-steps-half = refl
+
+pub ten-nan : tenTo nan ≡ nan
+unfolding rows
+ten-nan = refl
+
+pub ten-inf : tenTo (inf false) ≡ inf false
+unfolding rows
+ten-inf = refl
+
+pub ten-minus-inf : tenTo (inf true) ≡ bits 0
+unfolding rows
+ten-minus-inf = refl
+
+-- by 01's steps T(1) was one unit in the last place below 10
+pub steps-one : tenSteps one ≡ bits 0x4023_FFFF_FFFF_FFFF
+unfolding rows
+steps-one = refl
