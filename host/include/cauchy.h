@@ -427,7 +427,7 @@ double cauchy_arc(double t);             /* arc tangent */
 double cauchy_log(double b);             /* logarithm to base 2 */
 double cauchy_exp(double y);             /* 2 to the power y */
 double cauchy_power(double b, double y); /* b to the power y */
-double cauchy_ten(double y);             /* 10 to the power y */
+double cauchy_ten(double y);             /* 10 to the power y; of whole y from 0 to 22 exact, from -22 to -1 rounded once */
 double cauchy_log10(double b);           /* logarithm to base 10 */
 double cauchy_radial_g(double t);        /* (t - arc(t)) / t^3, which is 1/3 at 0 */
 

@@ -47,10 +47,10 @@ pub fn power(b: f64, y: f64) -> f64 {
     sys::cauchy_power(b, y)
 }
 
-/// 10 to the power y.
+/// 10 to the power y: of a whole y exact from 0 to 22, and rounded once from -22 to -1.
 ///
 /// ```
-/// assert!((cauchy::numbers::ten(2.0) - 100.0).abs() < 1e-12);
+/// assert_eq!((cauchy::numbers::ten(1.0), cauchy::numbers::ten(-1.0)), (10.0, 0.1));
 /// ```
 pub fn ten(y: f64) -> f64 {
     sys::cauchy_ten(y)

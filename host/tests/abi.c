@@ -849,6 +849,7 @@ static void numbers(void) {
     CHECK(cauchy_root(7) == sqrt(7.0) && near(cauchy_arc(0.7), atan(0.7), 1e-15));
     CHECK(near(cauchy_log(0.3), log2(0.3), 1e-15) && near(cauchy_exp(2.3), exp2(2.3), 1e-15));
     CHECK(near(cauchy_power(3, 0.7), pow(3, 0.7), 1e-14) && near(cauchy_ten(0.6), pow(10, 0.6), 1e-14));
+    CHECK(cauchy_ten(1) == 10 && cauchy_ten(-1) == 0.1 && cauchy_ten(22) == 1e22 && cauchy_ten(-22) == 1e-22);
     CHECK(near(cauchy_log10(0.02), log10(0.02), 1e-15));
     CHECK(cauchy_radial_g(0) == 1.0 / 3 && near(cauchy_radial_g(2), (2 - atan(2)) / 8, 1e-15));
 }

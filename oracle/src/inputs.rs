@@ -158,14 +158,18 @@ pub const EXP: [Family<f64>; 7] = [
     family("special", 5, special),
 ];
 
-pub const TEN: [Family<f64>; 5] = [
-    family("E's arguments by log 10", 60, |r| {
+pub const TEN: [Family<f64>; 6] = [
+    family("E's arguments by log 10", 50, |r| {
         let x = exponent(r) / 3.321928094887362;
         r.beside(x)
     }),
     family("-330 to 310", 20, |r| r.within(-330.0, 310.0)),
     family("beside a whole", 10, |r| {
         let x = r.below(640) as f64 - 330.0;
+        r.beside(x)
+    }),
+    family("beside a whole, -24 to 24", 10, |r| {
+        let x = r.below(49) as f64 - 24.0;
         r.beside(x)
     }),
     family("any pattern", 5, any),

@@ -49,10 +49,10 @@ def power(b: float, y: float) -> float:
 
 
 def ten(y: float) -> float:
-    """10 to the power y.
+    """10 to the power y: of a whole y exact from 0 to 22, and rounded once from -22 to -1.
 
-    >>> round(ten(2), 9)
-    100.0
+    >>> ten(1), ten(-1)
+    (10.0, 0.1)
     """
     return float(ask("ten", number(y, "y")))
 

@@ -67,6 +67,7 @@ fn main() {
     let ten = |range, draw| row("T", "`10.0_f64.powf`", range, draw, |y| cauchy_ten(y), powf_ten);
     ten("-300 to 300", |r| r.within(-300.0, 300.0));
     ten("-4 to 4 (the fit's)", |r| r.within(-4.0, 4.0));
+    ten("whole, -22 to 22", |r| r.below(45) as f64 - 22.0);
     let log_ten = |range, draw| row("log10", "`log10`", range, draw, |b| cauchy_log10(b), log10);
     log_ten("any above 0", inputs::positive);
     log_ten("subnormal", |r| inputs::subnormal(r).abs());

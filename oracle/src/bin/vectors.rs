@@ -104,6 +104,8 @@ fn arguments() -> Vec<(f64, String)> {
     both_sides(-1075.0, "-1075, half the smallest subnormal");
     both_sides(-1080.0, "-1080, the exp's lower bound");
     both_sides(308.25471555991675, "log10 of the largest finite");
+    both_sides(22.0, "22, the last of ten's whole arguments");
+    both_sides(-22.0, "-22, the first of ten's whole arguments");
     let mut plain = |what: &str, values: &[f64]| list.extend(values.iter().map(|&x| (x, what.to_string())));
     plain("beside the square of a middle", &[1.828242970224758, 2.715490852226126, 1.1680200140908301, 1.1460784549969931]);
     // (a·2^-1022)·2^(n+1022) answers another float here: a·2^-1022 is rounded already
@@ -111,6 +113,13 @@ fn arguments() -> Vec<(f64, String)> {
     plain("exp to a subnormal", &[-1021.3, -1030.3, -1040.0, -1040.7, -1057.25, -1073.3, -1074.3]);
     plain("ten to a subnormal and below", &[-307.7, -308.0, -315.4, -323.0, -323.3, -323.6, -324.0, -325.2]);
     plain("", &[2.0, 3.0, -3.0, 10.0, 0.1, -0.1, 0.25, 0.3, 100.0, 1000.0, 1e-3, 1e20, -1e-20, 1e300, 1e-300, -4.0, 308.0, 1023.0]);
+    // every whole argument of ten's table, and the first on each side of it
+    for whole in -23..=23 {
+        let x = f64::from(whole);
+        if list.iter().all(|&(y, _)| y != x) {
+            list.push((x, String::new()));
+        }
+    }
     list
 }
 

@@ -5,10 +5,10 @@ use Rattle.test_powers.proofs.put_arguments.Statement.{statement}
 use Rattle.test_powers.proofs.put_arguments.Tie as tie
 
 abbrev Inv-loop : tie.InvT-loop
-Inv-loop i₀ i = i ≤ 120
+Inv-loop i₀ i = i ≤ 161
 
 abbrev μ-loop : tie.MeasureT-loop
-μ-loop i₀ i = 120 - i
+μ-loop i₀ i = 161 - i
 
 pub put-arguments-spec : {M : Type 1} → statement M
 put-arguments-spec =
