@@ -1,5 +1,5 @@
 //! The store, over two vectors of its own.
-use crate::{Convention, FloatState, Kernel, MAX_PIECES, Mesh, Refusal, StoreReport, sys};
+use crate::{Convention, Fit, FloatState, Kernel, MAX_PIECES, Mesh, Refusal, StoreReport, sys};
 use std::error::Error;
 use std::fmt;
 
@@ -32,12 +32,14 @@ pub struct Store {
 }
 
 /// What a put answers.
-#[derive(Clone, Copy, Debug, PartialEq, Eq)]
+#[derive(Clone, Copy, Debug, PartialEq)]
 pub struct Placed {
     /// The kernel's pieces.
     pub pieces: u32,
     /// The steps that they need: one for each piece and face.
     pub need: u32,
+    /// How their fit ended; the store does not keep it.
+    pub fit: Fit,
 }
 
 /// What an advance answers.
@@ -125,7 +127,7 @@ impl Store {
             sys::cauchy_store_put(floats.as_mut_ptr(), n_floats, words.as_mut_ptr(), n_words, place, kernel)
         };
         Refusal::check(told.no)?;
-        Ok(Placed { pieces: told.pieces, need: told.need })
+        Ok(Placed { pieces: told.pieces, need: told.need, fit: told.fit.into() })
     }
 
     /// Empties a place.

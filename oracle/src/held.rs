@@ -5,6 +5,7 @@ use crate::conventions::{Convention, Reading, Report, write_list, write_track};
 use crate::machine::squeezed;
 use crate::page::{self, Row};
 use crate::pieces::Kernel;
+use crate::recorder::{Fit, watched};
 use crate::text::{ByArchive, Text, volume_on};
 
 /// Rows 4 and 5, of a store given to a call; 0 where it is sound.
@@ -79,9 +80,9 @@ impl Held {
         if self.sound().is_ok() { (0..32).map(owed).sum() } else { 0 }
     }
 
-    pub fn put(&mut self, place: u32, k: Kernel) -> Result<(u32, u32), u32> {
+    pub fn put(&mut self, place: u32, k: Kernel) -> Result<(u32, u32, Fit), u32> {
         let i = self.place(place)?;
-        let (pieces, error) = ByArchive::decompose(&[Kernel { w: 1.0, ..k }], self.floats[0]);
+        let ((pieces, error), pivots) = watched(|| ByArchive::decompose(&[Kernel { w: 1.0, ..k }], self.floats[0]));
         let count = pieces.len() as u32;
         self.floats[1 + 7 * i..][..7].copy_from_slice(&[k.c[0], k.c[1], k.c[2], k.sigma, k.w, k.alpha, error]);
         self.floats[225 + 48 * i..][..48].fill(0.0);
@@ -91,7 +92,7 @@ impl Held {
         }
         let finished = if self.words[1] == 0 { count } else { 0 };
         self.words[2 + 3 * i..][..3].copy_from_slice(&[1 + count, finished, 0]);
-        Ok((count, count * self.words[1]))
+        Ok((count, count * self.words[1], Fit::of(k.alpha, &pivots)))
     }
 
     pub fn clear(&mut self, place: u32) -> Result<(), u32> {

@@ -8,7 +8,8 @@ from .memory import Runs
 from .refusals import NoPlace, Refused, Unsound, check_float_state
 from .turns import Turns
 from .values import (
-    Convention, Held, Kernel, Placed, Steps, StoreReport, crossing_convention, crossing_kernel, listed, masses, vector,
+    Convention, Held, Kernel, Placed, Steps, StoreReport, answered_fit, crossing_convention, crossing_kernel, listed,
+    masses, vector,
 )
 
 # Where a place's kernel and state stand in the runs, and their sizes.
@@ -32,8 +33,8 @@ class Store:
     >>> store = Store(500, [0] * 9, [0, 1, 2])
     >>> store
     Store(vertices=3, faces=1, radius=500.0, filled=0)
-    >>> store.put(4, Kernel((0, 0, 0), 0.01, 300, 2))
-    Placed(pieces=13, need=13)
+    >>> store.put(4, Kernel((0, 0, 0), 0.01, 300, 2)).fit.kind
+    'fitted'
     >>> store.reweigh(4, -20)
     >>> store.advance(5), store.left()
     (Steps(done=5, left=8), 8)
@@ -69,10 +70,10 @@ class Store:
     # ---- Changes ------------------------------------------------------------------------------------------
 
     def put(self, place: int, kernel: Kernel) -> Placed:
-        """Puts a kernel into a place, whatever that held, with all its work to do; its pieces, and the steps that
-        they need."""
+        """Puts a kernel into a place, whatever that held, with all its work to do; its pieces, the steps that they
+        need, and how their fit ended, which the store does not keep."""
         answer = self._call("store_put", _place(place), crossing_kernel(kernel))
-        return Placed(answer.pieces, answer.need)
+        return Placed(answer.pieces, answer.need, answered_fit(answer.fit))
 
     def clear(self, place: int) -> None:
         """Empties a place."""
@@ -113,8 +114,8 @@ class Store:
         beginning and those left, so `done / (done + left)` is the progress. Without work it gives nothing.
 
         >>> store = Store(500, [0] * 9, [0, 1, 2])
-        >>> store.put(4, Kernel((0, 0, 0), 0.01, 300, 2))
-        Placed(pieces=13, need=13)
+        >>> store.put(4, Kernel((0, 0, 0), 0.01, 300, 2)).fit.kind
+        'fitted'
         >>> for done, left in store.work(5):
         ...     print(done, left)
         5 8
@@ -151,7 +152,7 @@ class Store:
 
         >>> store = Store(500, [0] * 9, [0, 1, 2])
         >>> store.put(0, Kernel((0, 0, 0), 1, 2, 1))
-        Placed(pieces=1, need=1)
+        Placed(pieces=1, need=1, fit=Fit(kind='kept', pivot=None, column=None))
         >>> store.density(RAW, (1, 0, 0))
         1.0
         >>> store.density(RAW, [(0, 0, 0), (1, 0, 0)]).tolist(), len(store.density(RAW, [(0, 0, 3)] * 10_000))
@@ -182,7 +183,7 @@ class Store:
 
         >>> store = Store(500, [0] * 9, [0, 1, 2])
         >>> store.put(0, Kernel((0, 0, 0), 1, 2, 1))
-        Placed(pieces=1, need=1)
+        Placed(pieces=1, need=1, fit=Fit(kind='kept', pivot=None, column=None))
         >>> store.track(RAW, [(0, 0, 0), (1, 0, 0), (0, 0, 3)]).tolist(), store.track(RAW, []).tolist()
         ([2.0, 1.0, 0.2], [])
         >>> from array import array
@@ -212,7 +213,7 @@ class Store:
 
         >>> store = Store(500, [0] * 9, [0, 1, 2])
         >>> store.put(7, Kernel((0, 0, 0), 0.01, 300, 1))
-        Placed(pieces=1, need=1)
+        Placed(pieces=1, need=1, fit=Fit(kind='kept', pivot=None, column=None))
         >>> store.list(rho0(1200))
         [Kernel(c=(0.0, 0.0, 0.0), sigma=0.01, w=1200.0, alpha=1.0)]
         """
@@ -227,8 +228,8 @@ class Store:
         needs all work done, and no mass that is NaN or exceeds 10^15 kg.
 
         >>> store = Store(6, [0, 0, 0, 6, 0, 0, 0, 6, 0, 0, 0, 6], [0, 2, 1, 0, 1, 3, 0, 3, 2, 1, 2, 3])
-        >>> store.put(7, Kernel((1, 1, 1), 0, 1000, 1)), store.put(12, Kernel((1, 1, 1), 0, -1, 1))
-        (Placed(pieces=1, need=4), Placed(pieces=1, need=4))
+        >>> store.put(7, Kernel((1, 1, 1), 0, 1000, 1)).need, store.put(12, Kernel((1, 1, 1), 0, -1, 1)).need
+        (4, 4)
         >>> store.advance(8)
         Steps(done=8, left=0)
         >>> print(store.page(), end="")
@@ -249,7 +250,7 @@ class Store:
 
         >>> store = Store(500, [0] * 9, [0, 1, 2])
         >>> store.put(7, Kernel((1, 2, 3), 0.01, 300, 1))
-        Placed(pieces=1, need=1)
+        Placed(pieces=1, need=1, fit=Fit(kind='kept', pivot=None, column=None))
         >>> store.held(7), store.held(8)
         (Held(kernel=Kernel(c=(1.0, 2.0, 3.0), sigma=0.01, w=300.0, alpha=1.0), pieces=1, error=0.0), None)
         """
