@@ -20,7 +20,8 @@
  *
  * Answers. The first field, `no`, is 0 where the call is accepted, else the number of the refusal. The
  * numbers before a declaration are the refusals that it may answer: the first of those listed that applies
- * is answered. A refused call changes no element of any run, and its other fields are 0.
+ * is answered. A refused call changes no element of any run, and its other fields are 0, but for the column
+ * of a flat pivot.
  *
  * What the host guarantees, and what happens otherwise:
  *  1. A run of n > 0 elements is n initialised elements, aligned as its type. (A run of 0 elements may have
@@ -166,8 +167,23 @@ typedef struct CauchyOpened {
     uint32_t no, verts, faces; /* of the mesh */
 } CauchyOpened;
 
+/* How a kernel's fit ended. */
+enum {
+    CAUCHY_KEPT = 0,       /* the exponent is within 1e-9 of 1: the kernel stays, and nothing is fitted */
+    CAUCHY_FITTED = 1,     /* by the solver */
+    CAUCHY_FALLBACK = 2,   /* the solver met a flat pivot, and one piece stands for the fit */
+    CAUCHY_NO_EXPONENT = 3 /* the exponent is a NaN: there is no piece */
+};
+
+typedef struct CauchyFit {
+    uint32_t kind;   /* one of those */
+    uint32_t column; /* CAUCHY_FALLBACK: the column of the flat pivot, from 0; else 0 */
+    double pivot;    /* CAUCHY_FITTED: the smallest pivot accepted, in absolute value: above 1e-18 or a NaN; else 0 */
+} CauchyFit;
+
 typedef struct CauchyPlaced {
     uint32_t no, pieces, need; /* the kernel's pieces, and the steps that they need */
+    CauchyFit fit;             /* all 0 at a refusal */
 } CauchyPlaced;
 
 typedef struct CauchySqueezed {
@@ -231,6 +247,7 @@ typedef struct CauchyPieces {
     uint32_t no;
     uint64_t pieces; /* pieces written */
     double error;    /* the fit's greatest error, as a fraction of the kernel's peak */
+    CauchyFit fit;   /* all 0 at a refusal */
 } CauchyPieces;
 
 typedef struct CauchyListPieces {
@@ -238,6 +255,11 @@ typedef struct CauchyListPieces {
     uint64_t kernels, pieces; /* kernels of the list, and pieces written */
     double error;             /* the greatest error of a fit, 0 where none was needed */
 } CauchyListPieces;
+
+typedef struct CauchySolved {
+    uint32_t no, column; /* CAUCHY_FLAT_PIVOT: the column of the flat pivot, from 0; else 0 */
+    double pivot;        /* the smallest pivot accepted, in absolute value: infinite for n = 0, a NaN where one was */
+} CauchySolved;
 
 typedef struct CauchyBill {
     uint32_t no;
@@ -252,7 +274,8 @@ CAUCHY_MUST_USE
 CauchyOpened cauchy_store_open(double *floats, size_t n_floats, uint32_t *words, size_t n_words, double radius,
                                const double *xyz, size_t n_xyz, const uint32_t *faces, size_t n_faces);
 
-/* Puts a kernel into a place, whatever that held, with all its work to do, in a layer from 0 to 15. 4 5 6 16 */
+/* Puts a kernel into a place, whatever that held, with all its work to do, in a layer from 0 to 15, and tells how its
+ * fit ended; the store does not keep that.                                                    4 5 6 16 */
 CAUCHY_MUST_USE
 CauchyPlaced cauchy_store_put(double *floats, size_t n_floats, uint32_t *words, size_t n_words, uint32_t place,
                               CauchyKernel kernel, uint32_t layer);
@@ -359,9 +382,9 @@ CauchyBill cauchy_bill(const double *kernels, size_t n_kernels, uint32_t verts, 
 CAUCHY_MUST_USE
 CauchyValue cauchy_densitize(const double *kernels, size_t n_kernels, CauchyVector point);
 
-/* Solves n equations, n + 1 cells each, the right-hand side last; answers `no`.                  10 11 */
+/* Solves n equations, n + 1 cells each, the right-hand side last.                                10 11 */
 CAUCHY_MUST_USE
-uint32_t cauchy_solve(size_t n, const double *cells, size_t n_cells, double *answer, size_t n_answer);
+CauchySolved cauchy_solve(size_t n, const double *cells, size_t n_cells, double *answer, size_t n_answer);
 
 /* ---- Meshes --------------------------------------------------------------------------------------- */
 

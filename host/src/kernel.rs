@@ -1,5 +1,5 @@
 //! Kernels, as a store keeps them and as a file has them.
-use crate::{Refusal, sys};
+use crate::{Fit, Refusal, sys};
 
 /// The most pieces that one kernel can have.
 pub const MAX_PIECES: usize = 16;
@@ -38,7 +38,18 @@ pub struct FileKernel {
     pub alpha: Option<f64>,
 }
 
-/// The pieces of a kernel or of a list, each of exponent 1 unless a kernel is its own only piece.
+/// The pieces of a kernel, each of exponent 1 unless the kernel is its own only piece.
+#[derive(Clone, Debug, PartialEq)]
+pub struct KernelPieces {
+    /// The pieces, at most [`MAX_PIECES`].
+    pub kernels: Vec<Kernel>,
+    /// The greatest error of the fit, as a fraction of the kernel's peak.
+    pub error: f64,
+    /// How the fit ended.
+    pub fit: Fit,
+}
+
+/// The pieces of a list of kernels, each of exponent 1 unless a kernel is its own only piece.
 #[derive(Clone, Debug, PartialEq)]
 pub struct Pieces {
     /// The pieces, at most [`MAX_PIECES`] of each kernel.
@@ -81,13 +92,13 @@ impl Kernel {
     /// assert!(pieces.error < 0.01);
     /// # Ok::<(), cauchy::Refusal>(())
     /// ```
-    pub fn pieces(self, radius: f64) -> Result<Pieces, Refusal> {
+    pub fn pieces(self, radius: f64) -> Result<KernelPieces, Refusal> {
         let mut out = [0.0; 6 * MAX_PIECES];
         // SAFETY: one slice, borrowed for the call.
         let told = unsafe { sys::cauchy_decompose(self, radius, out.as_mut_ptr(), out.len()) };
         Refusal::check(told.no)?;
         let kernels = Kernel::listed(&out, told.pieces as usize);
-        Ok(Pieces { kernels, error: told.error })
+        Ok(KernelPieces { kernels, error: told.error, fit: told.fit.into() })
     }
 
     /// A kernel list as the archive takes it, six floats each.

@@ -1,5 +1,5 @@
 //! The store, over two vectors of its own.
-use crate::{Convention, Finished, FloatState, Kernel, Layers, Mesh, Refusal, StoreReport, sys};
+use crate::{Convention, Finished, Fit, FloatState, Kernel, Layers, Mesh, Refusal, StoreReport, sys};
 use std::error::Error;
 use std::fmt;
 
@@ -33,12 +33,14 @@ pub struct Store {
 }
 
 /// What a put answers.
-#[derive(Clone, Copy, Debug, PartialEq, Eq)]
+#[derive(Clone, Copy, Debug, PartialEq)]
 pub struct Placed {
     /// The kernel's pieces.
     pub pieces: u32,
     /// The steps that they need: one for each piece and face.
     pub need: u32,
+    /// How their fit ended; the store does not keep it.
+    pub fit: Fit,
 }
 
 /// What an advance answers.
@@ -152,7 +154,7 @@ impl Store {
             )
         };
         Refusal::check(told.no)?;
-        Ok(Placed { pieces: told.pieces, need: told.need })
+        Ok(Placed { pieces: told.pieces, need: told.need, fit: told.fit.into() })
     }
 
     /// Empties a place.

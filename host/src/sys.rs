@@ -40,10 +40,18 @@ pub struct Opened {
 }
 
 #[repr(C)]
+pub struct Fit {
+    pub kind: u32,
+    pub column: u32,
+    pub pivot: f64,
+}
+
+#[repr(C)]
 pub struct Placed {
     pub no: u32,
     pub pieces: u32,
     pub need: u32,
+    pub fit: Fit,
 }
 
 #[repr(C)]
@@ -125,6 +133,7 @@ pub struct Pieces {
     pub no: u32,
     pub pieces: u64,
     pub error: f64,
+    pub fit: Fit,
 }
 
 #[repr(C)]
@@ -133,6 +142,13 @@ pub struct ListPieces {
     pub kernels: u64,
     pub pieces: u64,
     pub error: f64,
+}
+
+#[repr(C)]
+pub struct Solved {
+    pub no: u32,
+    pub column: u32,
+    pub pivot: f64,
 }
 
 #[repr(C)]
@@ -275,7 +291,7 @@ unsafe extern "C" {
         n_cells: usize,
         answer: *mut f64,
         n_answer: usize,
-    ) -> u32;
+    ) -> Solved;
 
     pub fn cauchy_closed(xyz: *const f64, n_xyz: usize, faces: *const u32, n_faces: usize) -> u32;
     pub fn cauchy_kernel_volume(

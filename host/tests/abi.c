@@ -155,17 +155,27 @@ static int holds(int place, CauchyKernel k) {
         && floats[1 + 7 * place + 4] == k.w && floats[1 + 7 * place + 5] == k.alpha;
 }
 
+/* a fit's end without column and pivot */
+static int ended(CauchyFit fit, uint32_t kind) {
+    return fit.kind == kind && fit.column == 0 && fit.pivot == 0;
+}
+
 static void put_clear_reweigh(void) {
     CauchyPlaced p = cauchy_store_put(floats, N_FLOATS, words, N_WORDS, 3, flat(), 2);
-    CHECK(p.no == 0 && p.pieces == 1 && p.need == F && holds(3, flat()));
+    CHECK(p.no == 0 && p.pieces == 1 && p.need == F && holds(3, flat()) && ended(p.fit, CAUCHY_KEPT));
+    CauchyKernel k = flat();
+    k.alpha = NAN;
+    p = cauchy_store_put(floats, N_FLOATS, words, N_WORDS, 31, k, 9);
+    CHECK(p.no == 0 && p.pieces == 0 && p.need == 0 && ended(p.fit, CAUCHY_NO_EXPONENT));
     p = cauchy_store_put(floats, N_FLOATS, words, N_WORDS, 31, steep(), 15);
     CHECK(p.no == 0 && p.pieces == 13 && p.need == 13 * F && holds(31, steep()) && holds(3, flat()));
+    CHECK(p.fit.kind == CAUCHY_FITTED && p.fit.column == 0 && p.fit.pivot > 1e-18 && p.fit.pivot < 1);
 
     remember();
     p = cauchy_store_put(floats, N_FLOATS, words, N_WORDS, 32, flat(), 16);
-    CHECK(p.no == CAUCHY_NO_PLACE && p.pieces == 0 && p.need == 0 && unchanged());
+    CHECK(p.no == CAUCHY_NO_PLACE && p.pieces == 0 && p.need == 0 && ended(p.fit, 0) && unchanged());
     p = cauchy_store_put(NULL, 0, NULL, 0, 3, flat(), 16);
-    CHECK(p.no == CAUCHY_SHORT_STORE && p.pieces == 0 && p.need == 0);
+    CHECK(p.no == CAUCHY_SHORT_STORE && p.pieces == 0 && p.need == 0 && ended(p.fit, 0));
     CHECK(cauchy_store_clear(floats, N_FLOATS, words, N_WORDS, 33) == CAUCHY_NO_PLACE && unchanged());
     CHECK(cauchy_store_clear(floats, N_FLOATS, words, N_WORDS, 4) == CAUCHY_VACANT && unchanged());
     CHECK(cauchy_store_reweigh(floats, N_FLOATS, words, N_WORDS, 34, 5) == CAUCHY_NO_PLACE && unchanged());
@@ -275,8 +285,11 @@ static void list_store(void) {
     CHECK(!memcmp(list, first, sizeof first));
     for (int i = 0; i < 13 * 6 + 1; i++) pieces[i] = 800 + i;
     CauchyPieces p = cauchy_decompose(steep(), radius, pieces, 13 * 6 - 1);
-    CHECK(p.no == CAUCHY_SHORT_LIST && p.pieces == 0 && p.error == 0 && pieces[0] == 800);
+    CHECK(p.no == CAUCHY_SHORT_LIST && p.pieces == 0 && p.error == 0 && ended(p.fit, 0) && pieces[0] == 800);
+    p = cauchy_decompose(flat(), radius, pieces, 13 * 6);
+    CHECK(p.no == 0 && p.pieces == 1 && ended(p.fit, CAUCHY_KEPT));
     p = cauchy_decompose(steep(), radius, pieces, 13 * 6 + 1);
+    CHECK(p.fit.kind == CAUCHY_FITTED && p.fit.column == 0 && p.fit.pivot > 1e-18 && p.fit.pivot < 1);
     CHECK(p.no == 0 && p.pieces == 13 && p.error > 0 && p.error == floats[1 + 7 * 31 + 6] && pieces[13 * 6] == 800 + 13 * 6);
     CHECK(!memcmp(list + 6, pieces, 13 * 6 * sizeof(double)));
     for (int i = 0; i < 13; i++) CHECK(!memcmp(pieces + 6 * i, steep().c, 3 * sizeof(double)) && pieces[6 * i + 5] == 1);
@@ -606,12 +619,20 @@ static void kernels(void) {
     d = cauchy_source_density_at(list, 14 * 6 - 1, at);
     CHECK(d.no == CAUCHY_SHORT_LIST && d.value == 0);
 
-    static const double cells[6] = {1, 1, 3, 1, 2, 5}, flat_cells[2] = {1e-18, 1};
+    static const double cells[6] = {4, 0, 4, 0, 0.5, 1}, late[6] = {2, 2, 1, 1, 1, 1}, flat_cells[2] = {1e-18, 1};
     double answer[3] = {-1, -1, -1};
-    CHECK(cauchy_solve(2, cells, 5, answer, 3) == CAUCHY_BAD_MATRIX && answer[0] == -1);
-    CHECK(cauchy_solve(2, cells, 6, answer, 1) == CAUCHY_BAD_MATRIX && answer[0] == -1);
-    CHECK(cauchy_solve(1, flat_cells, 2, answer, 3) == CAUCHY_FLAT_PIVOT && answer[0] == -1);
-    CHECK(cauchy_solve(2, cells, 6, answer, 3) == 0 && answer[0] == 1 && answer[1] == 2 && answer[2] == -1);
+    CauchySolved s = cauchy_solve(2, cells, 5, answer, 3);
+    CHECK(s.no == CAUCHY_BAD_MATRIX && s.column == 0 && s.pivot == 0 && answer[0] == -1);
+    s = cauchy_solve(2, cells, 6, answer, 1);
+    CHECK(s.no == CAUCHY_BAD_MATRIX && s.column == 0 && s.pivot == 0 && answer[0] == -1);
+    s = cauchy_solve(1, flat_cells, 2, answer, 3);
+    CHECK(s.no == CAUCHY_FLAT_PIVOT && s.column == 0 && s.pivot == 0 && answer[0] == -1);
+    s = cauchy_solve(2, late, 6, answer, 3);
+    CHECK(s.no == CAUCHY_FLAT_PIVOT && s.column == 1 && s.pivot == 0 && answer[0] == -1);
+    s = cauchy_solve(0, NULL, 0, NULL, 0);
+    CHECK(s.no == 0 && s.column == 0 && s.pivot == INFINITY);
+    s = cauchy_solve(2, cells, 6, answer, 3);
+    CHECK(s.no == 0 && s.column == 0 && s.pivot == 0.5 && answer[0] == 1 && answer[1] == 2 && answer[2] == -1);
 }
 
 /* ---- Lines of kernels ------------------------------------------------------------------------------- */

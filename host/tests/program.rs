@@ -174,7 +174,7 @@ fn a_loader_is_named_where_the_loaders_differ() {
     assert!(said.contains("the target is NOT met") && said.contains("not a finite number"), "{said}");
     folder.write("wide.lines", line([0.1, f64::INFINITY, 0.1, 2.0, 5.0], Some(f64::NAN)));
     let said = folder.goes("run a.obj wide.lines --raw --loader source");
-    assert!(said.contains("place 0   0 pieces    exponent NaN"), "{said}");
+    assert!(said.contains("place 0   0 pieces    exponent NaN: no exponent, so no piece\n"), "{said}");
 }
 
 #[test]

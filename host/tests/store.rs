@@ -1,7 +1,7 @@
 //! The crate over the archive, as a user sees it.
 use cauchy::{
-    Bill, Convention, Kernel, MAX_PIECES, MAX_TRACK, Mesh, OpenError, Placed, Refusal, SnapshotError, Steps,
-    Store, bill, density,
+    Bill, Convention, Fit, Kernel, MAX_PIECES, MAX_TRACK, Mesh, OpenError, Placed, Refusal, SnapshotError, SolveError,
+    Steps, Store, bill, density, solve,
 };
 
 const VERTICES: [[f64; 3]; 4] = [[0.0, 0.0, 0.0], [900.0, 0.0, 0.0], [0.0, 800.0, 0.0], [0.0, 0.0, 700.0]];
@@ -51,16 +51,48 @@ fn a_bad_mesh_is_refused() {
 }
 
 #[test]
+fn a_put_tells_how_its_fit_ended() {
+    let mut store = opened();
+    assert_eq!(store.put(0, FLAT).unwrap().fit, Fit::Kept);
+    let told = store.put(1, STEEP).unwrap().fit;
+    assert!(matches!(told, Fit::Fitted { pivot } if pivot > 1e-18 && pivot < 1.0), "{told:?}");
+    // a decomposition on the store's radius tells the same, whatever the weight and the centre
+    assert_eq!(Kernel { c: [7.0; 3], w: -1.0, ..STEEP }.pieces(900.0).unwrap().fit, told);
+    let none = store.put(2, Kernel { alpha: f64::NAN, ..FLAT });
+    assert_eq!(none, Ok(Placed { pieces: 0, need: 0, fit: Fit::NoExponent }));
+    // sums that overflow leave a NaN among the pivots, which is told
+    let wild = store.put(3, Kernel { alpha: f64::NEG_INFINITY, ..FLAT }).unwrap().fit;
+    assert!(matches!(wild, Fit::Fitted { .. } | Fit::Fallback { .. }), "{wild:?}");
+}
+
+#[test]
+fn a_flat_pivot_is_told_with_its_column() {
+    let mut answer = [0.0; 2];
+    assert_eq!(solve(2, &[4.0, 0.0, 8.0, 0.0, -0.5, 1.0], &mut answer), Ok(0.5));
+    assert_eq!(answer, [2.0, -2.0]);
+    assert_eq!(solve(0, &[], &mut answer), Ok(f64::INFINITY));
+    assert!(solve(1, &[f64::NAN, 1.0], &mut answer).unwrap().is_nan());
+    answer = [7.0, 7.0];
+    let flat = solve(2, &[1.0, 1.0, 2.0, 1.0, 1.0, 2.0], &mut answer);
+    assert_eq!((flat, answer), (Err(SolveError::FlatPivot { column: 1 }), [7.0, 7.0]));
+    assert_eq!(solve(1, &[1e-18, 1.0], &mut answer), Err(SolveError::FlatPivot { column: 0 }));
+    assert_eq!(solve(2, &[1.0; 5], &mut answer), Err(SolveError::BadMatrix));
+    assert_eq!(Refusal::from(SolveError::FlatPivot { column: 3 }), Refusal::FlatPivot);
+    assert_eq!(SolveError::BadMatrix.to_string(), Refusal::BadMatrix.to_string());
+}
+
+#[test]
 fn steps_add_up() {
     let mut store = opened();
-    assert_eq!(store.put(0, FLAT), Ok(Placed { pieces: 1, need: 4 }));
-    assert_eq!(store.put(5, STEEP), Ok(Placed { pieces: 13, need: 52 }));
+    assert_eq!(store.put(0, FLAT), Ok(Placed { pieces: 1, need: 4, fit: Fit::Kept }));
+    let steep = store.put(5, STEEP).unwrap();
+    assert_eq!((steep.pieces, steep.need), (13, 52));
     assert_eq!(store.advance(6), Ok(Steps { done: 6, left: 50 }));
     assert_eq!(store.reweigh(5, 9.0), Ok(()));
     assert_eq!(store.left(), Ok(50));
     assert_eq!(store.clear(5), Ok(()));
     assert_eq!(store.left(), Ok(0));
-    assert_eq!(store.put(5, FLAT), Ok(Placed { pieces: 1, need: 4 }));
+    assert_eq!(store.put(5, FLAT), Ok(Placed { pieces: 1, need: 4, fit: Fit::Kept }));
     assert_eq!(store.advance(u64::MAX), Ok(Steps { done: 4, left: 0 }));
 }
 

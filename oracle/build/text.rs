@@ -27,10 +27,10 @@ struct Source {
 }
 
 /// A change of the text: what, into what, how often. The platform's functions become those of 01, which the module that includes the
-/// text brings along, and a sum starts at +0, as 01 says.
+/// text brings along, a sum starts at +0, as 01 says, and the elimination hands over its pivots.
 type Change = (&'static str, &'static str, usize);
 
-const NATIVE_CHANGES: [Change; 8] = [
+const NATIVE_CHANGES: [Change; 9] = [
     // 01: "`powi(2)` is a product"
     (".powi(", ".powi(", 1),
     (".powi(2)", ".powi(2)", 1),
@@ -40,6 +40,8 @@ const NATIVE_CHANGES: [Change; 8] = [
     (".atan()", ".arc()", 1),
     (".sqrt()", ".root()", 1),
     (".sum::<f64>()", ".fold(0.0, |sum, x| sum + x)", 1),
+    // 02's L4: each column's pivot is handed over
+    ("if value <= 1e-18 {", "crate::recorder::met(col, value);\n        if value <= 1e-18 {", 1),
 ];
 
 const SOURCE_CHANGES: [Change; 4] =

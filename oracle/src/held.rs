@@ -5,6 +5,7 @@ use crate::conventions::{Convention, Reading, Report, write_list, write_track};
 use crate::machine::{ALL_LAYERS, CORNERS, RECORD, in_set, set_number, squeezed};
 use crate::page::{self, Row};
 use crate::pieces::Kernel;
+use crate::recorder::{Fit, watched};
 use crate::text::{ByArchive, Text, volume_on};
 
 /// Rows 4 and 5, of a store given to a call; 0 where it is sound.
@@ -90,12 +91,12 @@ impl Held {
         in_set(layers, self.words[2 + RECORD * i + 3])
     }
 
-    pub fn put(&mut self, place: u32, k: Kernel, layer: u32) -> Result<(u32, u32), u32> {
+    pub fn put(&mut self, place: u32, k: Kernel, layer: u32) -> Result<(u32, u32, Fit), u32> {
         let i = self.place(place)?;
         if layer > 15 {
             return Err(16);
         }
-        let (pieces, error) = ByArchive::decompose(&[Kernel { w: 1.0, ..k }], self.floats[0]);
+        let ((pieces, error), pivots) = watched(|| ByArchive::decompose(&[Kernel { w: 1.0, ..k }], self.floats[0]));
         let count = pieces.len() as u32;
         self.floats[1 + 7 * i..][..7].copy_from_slice(&[k.c[0], k.c[1], k.c[2], k.sigma, k.w, k.alpha, error]);
         self.floats[225 + 48 * i..][..48].fill(0.0);
@@ -105,7 +106,7 @@ impl Held {
         }
         let finished = if self.words[1] == 0 { count } else { 0 };
         self.words[2 + RECORD * i..][..RECORD].copy_from_slice(&[1 + count, finished, 0, layer]);
-        Ok((count, count * self.words[1]))
+        Ok((count, count * self.words[1], Fit::of(k.alpha, &pivots)))
     }
 
     pub fn clear(&mut self, place: u32) -> Result<(), u32> {

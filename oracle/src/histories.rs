@@ -6,6 +6,7 @@ use crate::inputs::{self, Rng};
 use crate::machine::{ALL_LAYERS, Machine};
 use crate::page;
 use crate::pieces::Kernel;
+use crate::recorder::Fit;
 use crate::text::Text;
 use std::sync::LazyLock;
 
@@ -29,7 +30,7 @@ pub enum Call {
 #[derive(Clone, Copy, Debug)]
 pub enum Answer {
     Refused(u32),
-    Placed(u32, u32),
+    Placed(u32, u32, Fit),
     Edited,
     Steps(u64, u64),
     Freed(u32),
@@ -58,7 +59,7 @@ macro_rules! model {
     ($advance:expr, $squeeze:expr) => {
         fn answer(&mut self, call: Call, out: &mut [f64]) -> Answer {
             match call {
-                Call::Put(place, k, layer) => of(self.put(place, k, layer), |(pieces, need)| Answer::Placed(pieces, need)),
+                Call::Put(place, k, layer) => of(self.put(place, k, layer), |(pieces, need, fit)| Answer::Placed(pieces, need, fit)),
                 Call::Clear(place) => of(self.clear(place), |()| Answer::Edited),
                 Call::Reweigh(place, w) => of(self.reweigh(place, w), |()| Answer::Edited),
                 Call::Advance(n) => of($advance(self, n), |(done, left)| Answer::Steps(done, left)),

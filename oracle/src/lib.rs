@@ -21,6 +21,8 @@ pub mod page;
 pub mod pieces;
 #[cfg(original)]
 pub mod program;
+#[cfg(original)]
+pub mod recorder;
 pub mod solids;
 pub mod steps;
 #[cfg(original)]

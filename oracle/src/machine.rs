@@ -3,6 +3,7 @@
 use crate::conventions::{Convention, Reading, Report, write_list, write_track};
 use crate::page::{self, Row};
 use crate::pieces::Kernel;
+use crate::recorder::{Fit, watched};
 use crate::text::Text;
 use std::cell::RefCell;
 use std::collections::HashMap;
@@ -65,11 +66,12 @@ pub fn set_number(layers: u32) -> Result<(), u32> {
     if layers > ALL_LAYERS { Err(16) } else { Ok(()) }
 }
 
-/// What a kernel's decomposition is, whatever its w: the pieces with their coefficients as w, and the error. The volumes are those over
-/// a piece's first faces, where they have been asked for.
+/// What a kernel's decomposition is, whatever its w: the pieces with their coefficients as w, the error, and how the fit ended. The volumes
+/// are those over a piece's first faces, where they have been asked for.
 struct Known {
     pieces: Vec<Kernel>,
     error: f64,
+    fit: Fit,
     volumes: RefCell<HashMap<(usize, usize), f64>>,
 }
 
@@ -108,8 +110,8 @@ impl<T: Text> Machine<T> {
     fn known(&self, k: &Kernel) -> Rc<Known> {
         let key = [k.c[0], k.c[1], k.c[2], k.sigma, k.alpha].map(f64::to_bits);
         let work = || {
-            let (pieces, error) = T::decompose(&[Kernel { w: 1.0, ..*k }], self.radius);
-            Rc::new(Known { pieces, error, volumes: RefCell::default() })
+            let ((pieces, error), pivots) = watched(|| T::decompose(&[Kernel { w: 1.0, ..*k }], self.radius));
+            Rc::new(Known { pieces, error, fit: Fit::of(k.alpha, &pivots), volumes: RefCell::default() })
         };
         self.known.borrow_mut().entry(key).or_insert_with(work).clone()
     }
@@ -150,9 +152,9 @@ impl<T: Text> Machine<T> {
         self.places[i].as_mut().map(|at| (i, at)).ok_or(7)
     }
 
-    /// "charged += need, dropped += the old need - p (0 for an empty place), p = 0. Answers pieces and need."; "16 when a layer is above 15,
-    /// after 6".
-    pub fn put(&mut self, place: u32, kernel: Kernel, layer: u32) -> Result<(u32, u32), u32> {
+    /// "charged += need, dropped += the old need - p (0 for an empty place), p = 0. Answers pieces and need", and by 02's L4 how the fit
+    /// ended; "16 when a layer is above 15, after 6".
+    pub fn put(&mut self, place: u32, kernel: Kernel, layer: u32) -> Result<(u32, u32, Fit), u32> {
         let i = self.place(place)?;
         if layer > 15 {
             return Err(16);
@@ -161,7 +163,8 @@ impl<T: Text> Machine<T> {
         self.charged += need;
         self.dropped += self.owed(i);
         self.places[i] = Some(Filled { kernel, layer, p: 0 });
-        Ok((self.known(&kernel).pieces.len() as u32, need as u32))
+        let known = self.known(&kernel);
+        Ok((known.pieces.len() as u32, need as u32, known.fit))
     }
 
     /// "dropped += need - p; empty."

@@ -198,7 +198,7 @@ fn no(number: u32) -> String {
 fn printed(call: Call, answer: Answer) -> String {
     match (call, answer) {
         (_, Answer::Refused(number)) => no(number),
-        (Call::Put(place, ..), Answer::Placed(pieces, need)) => format!("(put {place} (pieces {pieces}) (steps {need}))"),
+        (Call::Put(place, ..), Answer::Placed(pieces, need, _)) => format!("(put {place} (pieces {pieces}) (steps {need}))"),
         (Call::Clear(place), _) => format!("(clear {place})"),
         (Call::Reweigh(place, _), _) => format!("(reweigh {place})"),
         (_, Answer::Steps(done, left)) => format!("(advance (done {done}) (left {left}))"),

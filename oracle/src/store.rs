@@ -1,5 +1,5 @@
 //! The archive's calls on a store. A store is two lent runs, floats and words.
-use crate::pieces::Kernel;
+use crate::pieces::{Fit, Kernel};
 
 /// What an opening answers: 01's number of a refusal or 0, vertices, faces.
 #[repr(C)]
@@ -10,13 +10,14 @@ pub struct Opened {
     pub faces: u32,
 }
 
-/// What a put answers: a number, pieces, the steps that they need.
+/// What a put answers: a number, pieces, the steps that they need, how their fit ended.
 #[repr(C)]
-#[derive(Clone, Copy, Debug, PartialEq, Eq)]
+#[derive(Clone, Copy, Debug)]
 pub struct Placed {
     pub no: u32,
     pub pieces: u32,
     pub need: u32,
+    pub fit: Fit,
 }
 
 /// What an advance answers: a number, steps done, steps left.

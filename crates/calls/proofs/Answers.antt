@@ -19,6 +19,7 @@ use Rattle.store.specs.declared.open.Opened.{Opened}
 use Rattle.store.specs.declared.open.Opened.the-variants.{Mesh, Refused as Unopened}
 use Rattle.store.specs.declared.edit.Edited.{Edited}
 use Rattle.store.specs.declared.edit.Edited.the-variants.{Done, Refused as Unedited}
+use Rattle.pieces.specs.declared.fit.Fit.{Fit}
 use Rattle.store.specs.PutAnswer.{placed}
 use Rattle.store.specs.declared.put.Placed.{Placed}
 use Rattle.store.specs.declared.put.Placed.the-variants.{Needs, Refused as Unplaced}
@@ -54,7 +55,7 @@ pub open-refused : {x : Opened} {r : Refusal} → x ≡ Unopened r → openText 
 unfolding openText
 open-refused {r} e = rw (e, never-zero r) refl
 
-pub put-done : (place : ℕ) {x : Placed} {p n : ℕ} → x ≡ Needs p n → putText place (placed x) ≡ lined (print putAnswer (place & p & n & tt))
+pub put-done : (place : ℕ) {x : Placed} {p n : ℕ} {f : Fit} → x ≡ Needs p n f → putText place (placed x) ≡ lined (print putAnswer (place & p & n & tt))
 unfolding putText
 put-done place e = rw (e) refl
 

@@ -93,7 +93,7 @@ pub fn answer_put(
     ensures { λ r. ⌜ Wrote (now (out .entry)) 0 (putText place (putStep width (now (floats .entry)) (now (words .entry)) place k .reply)) r (now (out .exit)) ⌝ }
 {
     match put(floats, words, place, k) {
-        Placed::Needs(pieces, need) => {
+        Placed::Needs(pieces, need, _) => {
             let at = write_put(out, 0, place, pieces, need);
             end_line(out, at)
         }

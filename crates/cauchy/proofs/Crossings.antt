@@ -9,9 +9,9 @@ use Rattle.base.specs.Answers.{Answer, measuredAs}
 use Rattle.base.specs.declared.refusal.Measured.{Measured}
 use Rattle.base.specs.declared.refusal.Measured.the-variants as measured
 use Rattle.base.specs.RefusalLaws.{never-zero}
-use Rattle.solve.specs.declared.Solve.{Solve}
-use Rattle.solve.specs.declared.Solve.the-variants as solving
-use Rattle.solve.specs.Solve.{solvedAs}
+use Rattle.base.specs.declared.refusal.Refusal.the-variants.{BadMatrix}
+use Rattle.solve.specs.declared.Solve.the-variants.{Solved, Flat, Refused}
+use Rattle.solve.specs.Solve.{flatAt, solvedAs}
 use Rattle.pieces.specs.declared.kernels.Decomposed.{Decomposed}
 use Rattle.pieces.specs.declared.kernels.Decomposed.the-variants as decomposing
 use Rattle.pieces.specs.Kernels.{decomposedAs}
@@ -43,7 +43,8 @@ use Rattle.readings.specs.ListAnswer.{listRead}
 use Rattle.readings.specs.declared.tracks.TrackRead.{TrackRead}
 use Rattle.readings.specs.declared.tracks.TrackRead.the-variants as tracks
 use Rattle.readings.specs.TrackAnswer.{trackRead}
-use Rattle.cauchy.specs.Crossing.{numberFrom, piecesFrom, listPiecesFrom}
+use Rattle.cauchy.specs.Crossing.{solvedFrom, piecesFrom, listPiecesFrom}
+use Rattle.cauchy.specs.declared.kernels.CauchySolved.{CauchySolved}
 use Rattle.cauchy.specs.Volumes.{valueFrom}
 use Rattle.cauchy.specs.Bills.{billFrom}
 use Rattle.cauchy.specs.Files.{convertedFrom}
@@ -53,12 +54,21 @@ use Rattle.cauchy.specs.StoreCrossing.{openedFrom, placedFrom, stepsFrom
 abbrev pub told : ℕ → List ℕ → List Float → Answer
 told n ns xs = cond (eqb n 0) (record { refusal = 0; counts = ns; floats = xs }) (record { refusal = n; counts = []; floats = [] })
 
-pub solves : (s : Solve) → told (numberFrom (solvedAs s)) [] [] ≡ solvedAs s
-solves solving.Solved = refl
-solves (solving.Refused r) = rw (never-zero r) refl
+-- the solver's reply, where the number 11 comes with a column and any other refusal with none
+abbrev pub toldSolved : CauchySolved → Answer
+toldSolved c = cond (eqb (c .no) 11) (flatAt (c .column)) (told (c .no) [] (c .pivot ∷ []))
 
-pub decomposes : (d : Decomposed) → let c = piecesFrom (decomposedAs d) in told (c .no) (c .pieces ∷ []) (c .error ∷ []) ≡ decomposedAs d
-decomposes (decomposing.Written n e) = refl
+pub solves : (pivot : Float) → toldSolved (solvedFrom (solvedAs (Solved pivot))) ≡ solvedAs (Solved pivot)
+solves pivot = refl
+
+pub flat : (column : ℕ) → toldSolved (solvedFrom (solvedAs (Flat column))) ≡ solvedAs (Flat column)
+flat column = refl
+
+pub bad-matrix : toldSolved (solvedFrom (solvedAs (Refused BadMatrix))) ≡ solvedAs (Refused BadMatrix)
+bad-matrix = refl
+
+pub decomposes : (d : Decomposed) → let c = piecesFrom (decomposedAs d) in told (c .no) (c .pieces ∷ c .fit .kind ∷ c .fit .column ∷ []) (c .error ∷ c .fit .pivot ∷ []) ≡ decomposedAs d
+decomposes (decomposing.Written n e f) = refl
 decomposes (decomposing.Refused r) = rw (never-zero r) refl
 
 pub list-decomposes : (d : DecomposedList) → let c = listPiecesFrom (listedAs d) in told (c .no) (c .kernels ∷ c .pieces ∷ []) (c .error ∷ []) ≡ listedAs d
@@ -69,8 +79,8 @@ pub opens : (o : Opened) → let c = openedFrom (opened o) in told (c .no) (c .v
 opens (opening.Mesh verts faces) = refl
 opens (opening.Refused r) = rw (never-zero r) refl
 
-pub places : (p : Placed) → let c = placedFrom (placed p) in told (c .no) (c .pieces ∷ c .need ∷ []) [] ≡ placed p
-places (placing.Needs pieces need) = refl
+pub places : (p : Placed) → let c = placedFrom (placed p) in told (c .no) (c .pieces ∷ c .need ∷ c .fit .kind ∷ c .fit .column ∷ []) (c .fit .pivot ∷ []) ≡ placed p
+places (placing.Needs pieces need fit) = refl
 places (placing.Refused r) = rw (never-zero r) refl
 
 pub advances : (a : Advanced) → let c = stepsFrom (advanced a) in told (c .no) (c .done ∷ c .left ∷ []) [] ≡ advanced a

@@ -1,5 +1,5 @@
 -- What crosses to C: of each answer its number, 01's (0 where the call is not refused), beside its values, 0 where it has none. Definitions only.
-use Prim.Native.Nat.{ℕ}
+use Prim.Native.Nat.{ℕ, _+_}
 use mathlib.Core.Bool.{cond}
 use mathlib.Core.List.{List}
 use lib.Dec.{eqb}
@@ -11,7 +11,11 @@ use Rattle.kernel.specs.declared.kernel.Kernel.{Kernel}
 use Rattle.kernel.specs.declared.file.Exponent.{Exponent}
 use Rattle.kernel.specs.declared.file.Exponent.the-variants.{Given, Missing}
 use Rattle.kernel.specs.File.{fromFile}
+use Rattle.pieces.specs.declared.fit.Fit.{Fit}
+use Rattle.pieces.specs.FitEnd.{kindOf, columnOf, pivotOf}
 use Rattle.cauchy.specs.declared.kernels.CauchyFileKernel.{CauchyFileKernel}
+use Rattle.cauchy.specs.declared.kernels.CauchySolved.{CauchySolved}
+use Rattle.cauchy.specs.declared.kernels.CauchyFit.{CauchyFit}
 use Rattle.cauchy.specs.declared.kernels.CauchyPieces.{CauchyPieces}
 use Rattle.cauchy.specs.declared.kernels.CauchyListPieces.{CauchyListPieces}
 
@@ -31,6 +35,10 @@ lentFrom answer o = lent (answer (o .reply)) (o .out)
 abbrev pub numberFrom : Answer → ℕ
 numberFrom a = a .refusal
 
+-- ---- a solution: the smallest accepted pivot, and beside refusal 11 the column of the flat one
+abbrev pub solvedFrom : Answer → CauchySolved
+solvedFrom a = record { no = a .refusal; column = getD (a .counts) 0 0; pivot = getD (a .floats) 0 +0 }
+
 -- ---- a file's kernel: the exponent is missing where `given` is 0
 abbrev pub exponentOf : ℕ → Float → Exponent
 exponentOf given alpha = cond (eqb given 0) Missing (Given alpha)
@@ -38,9 +46,17 @@ exponentOf given alpha = cond (eqb given 0) Missing (Given alpha)
 abbrev pub crossedKernel : CauchyFileKernel → Float → Kernel
 crossedKernel k default = fromFile (k .c, k .sigma) (k .w) (exponentOf (k .given) (k .alpha)) default
 
+-- ---- how a fit ended
+abbrev pub fitCrossed : Fit → CauchyFit
+fitCrossed f = record { kind = kindOf f; column = columnOf f; pivot = pivotOf f }
+
+-- and as an answer carries it: kind and column from count i on, the pivot at float j
+abbrev pub fitFrom : ℕ → ℕ → Answer → CauchyFit
+fitFrom i j a = record { kind = getD (a .counts) i 0; column = getD (a .counts) (i + 1) 0; pivot = getD (a .floats) j +0 }
+
 -- ---- a kernel's pieces
 abbrev pub piecesFrom : Answer → CauchyPieces
-piecesFrom a = record { no = a .refusal; pieces = getD (a .counts) 0 0; error = getD (a .floats) 0 +0 }
+piecesFrom a = record { no = a .refusal; pieces = getD (a .counts) 0 0; error = getD (a .floats) 0 +0; fit = fitFrom 1 1 a }
 
 -- ---- a list's pieces
 abbrev pub listPiecesFrom : Answer → CauchyListPieces

@@ -11,7 +11,7 @@ use Rattle.density.specs.declared.convention.Convention.{Convention}
 use Rattle.density.specs.declared.convention.Convention.the-variants.{Raw, Rho0, Mass}
 use Rattle.layout.specs.After.{After}
 use Rattle.page.specs.Page.{Paged}
-use Rattle.cauchy.specs.Crossing.{Lent, lent}
+use Rattle.cauchy.specs.Crossing.{Lent, lent, fitFrom}
 use Rattle.cauchy.specs.Volumes.{massFrom}
 use Rattle.cauchy.specs.declared.stores.CauchyOpened.{CauchyOpened}
 use Rattle.cauchy.specs.declared.stores.CauchyPlaced.{CauchyPlaced}
@@ -42,9 +42,9 @@ across answer a = crossed (answer (a .reply)) (a .floats) (a .words)
 abbrev pub openedFrom : Answer → CauchyOpened
 openedFrom a = record { no = a .refusal; verts = getD (a .counts) 0 0; faces = getD (a .counts) 1 0 }
 
--- put: "pieces and need"
+-- put: "pieces and need", and how the fit ended
 abbrev pub placedFrom : Answer → CauchyPlaced
-placedFrom a = record { no = a .refusal; pieces = getD (a .counts) 0 0; need = getD (a .counts) 1 0 }
+placedFrom a = record { no = a .refusal; pieces = getD (a .counts) 0 0; need = getD (a .counts) 1 0; fit = fitFrom 2 0 a }
 
 -- advance: "done, beside left"
 abbrev pub stepsFrom : Answer → CauchySteps

@@ -4,12 +4,14 @@ ghost use mathlib.Core.Path.{_≡_};
 ghost use Rattle.solve.specs.Solve.{solution, solvedAs};
 ghost use Rattle.pieces.specs.Kernels.{decomposition, decomposedAs};
 ghost use Rattle.pieces.specs.Lists.{listDecomposition, listedAs};
-ghost use Rattle.cauchy.specs.Crossing.{lent, lentFrom, numberFrom, exponentOf, crossedKernel, piecesFrom, listPiecesFrom};
+ghost use Rattle.cauchy.specs.Crossing.{lent, lentFrom, solvedFrom, exponentOf, crossedKernel, fitCrossed, piecesFrom, listPiecesFrom};
+use base::refusal::Refusal;
 use base::refusal::refusal_number;
 use kernel::file::Exponent;
 use kernel::file::Kilometres;
 use kernel::file::kernel_from_file;
 use kernel::kernel::Kernel;
+use pieces::fit::Fit;
 use pieces::kernels::Decomposed;
 use pieces::kernels::decompose_into;
 use pieces::lists::DecomposedList;
@@ -27,13 +29,32 @@ pub struct CauchyFileKernel {
     pub given: u32,
 }
 
-// What a decomposition answers: 01's number, 0 where it is not refused, the count of pieces and the
-// fit's peak error.
+// What the solver answers: 01's number, 0 where it is not refused; with 11 the column of the flat pivot, from 0;
+// with 0 the smallest pivot that it accepted, in absolute value.
+#[repr(C)]
+pub struct CauchySolved {
+    pub no: u32,
+    pub column: u32,
+    pub pivot: f64,
+}
+
+// How a fit ended: the kind is 0 for kept, 1 for fitted, with the pivot, 2 for the fallback, with the column, and
+// 3 for no exponent. What a kind does not use is 0.
+#[repr(C)]
+pub struct CauchyFit {
+    pub kind: u32,
+    pub column: u32,
+    pub pivot: f64,
+}
+
+// What a decomposition answers: 01's number, 0 where it is not refused, the count of pieces, the fit's peak
+// error and how it ended.
 #[repr(C)]
 pub struct CauchyPieces {
     pub no: u32,
     pub pieces: u64,
     pub error: f64,
+    pub fit: CauchyFit,
 }
 
 // What the decomposition of a list answers: 01's number, the counts of kernels and pieces, and the
@@ -46,21 +67,34 @@ pub struct CauchyListPieces {
     pub error: f64,
 }
 
-fn solve_number(s: Solve) -> u32
-    ensures { λ r. ⌜ r ≡ numberFrom (solvedAs s) ⌝ }
+fn solved_of(s: Solve) -> CauchySolved
+    ensures { λ r. ⌜ r ≡ solvedFrom (solvedAs s) ⌝ }
 {
     match s {
-        Solve::Solved => 0,
-        Solve::Refused(r) => refusal_number(r),
+        Solve::Solved(pivot) => CauchySolved {
+            no: 0,
+            column: 0,
+            pivot,
+        },
+        Solve::Flat(column) => CauchySolved {
+            no: refusal_number(Refusal::FlatPivot),
+            column,
+            pivot: 0.0,
+        },
+        Solve::Refused(r) => CauchySolved {
+            no: refusal_number(r),
+            column: 0,
+            pivot: 0.0,
+        },
     }
 }
 
-// Solves n rows of n + 1 floats; answers 0, 10 or 11.
+// Solves n rows of n + 1 floats: 10 or 11.
 #[no_mangle]
-pub extern "C" fn cauchy_solve(n: usize, cells: &[f64], answer: &mut [f64]) -> u32
-    ensures { λ r. ⌜ lent r (now (answer .exit)) ≡ lentFrom numberFrom (solution n (now (cells .entry)) (now (answer .entry))) ⌝ }
+pub extern "C" fn cauchy_solve(n: usize, cells: &[f64], answer: &mut [f64]) -> CauchySolved
+    ensures { λ r. ⌜ lent r (now (answer .exit)) ≡ lentFrom solvedFrom (solution n (now (cells .entry)) (now (answer .entry))) ⌝ }
 {
-    solve_number(solve_linear_system(n, cells, answer))
+    solved_of(solve_linear_system(n, cells, answer))
 }
 
 fn exponent_of(given: u32, alpha: f64) -> Exponent
@@ -86,19 +120,53 @@ pub extern "C" fn cauchy_kernel_from_file(k: CauchyFileKernel, default: f64) -> 
     )
 }
 
+// How a fit ended, as C gets it.
+pub fn fit_of(f: Fit) -> CauchyFit
+    ensures { λ r. ⌜ r ≡ fitCrossed f ⌝ }
+{
+    match f {
+        Fit::Kept => CauchyFit {
+            kind: 0,
+            column: 0,
+            pivot: 0.0,
+        },
+        Fit::Fitted(pivot) => CauchyFit {
+            kind: 1,
+            column: 0,
+            pivot,
+        },
+        Fit::Fallback(column) => CauchyFit {
+            kind: 2,
+            column,
+            pivot: 0.0,
+        },
+        Fit::NoExponent => CauchyFit {
+            kind: 3,
+            column: 0,
+            pivot: 0.0,
+        },
+    }
+}
+
 fn pieces_of(d: Decomposed) -> CauchyPieces
     ensures { λ r. ⌜ r ≡ piecesFrom (decomposedAs d) ⌝ }
 {
     match d {
-        Decomposed::Written(n, e) => CauchyPieces {
+        Decomposed::Written(n, e, f) => CauchyPieces {
             no: 0,
             pieces: n as u64,
             error: e,
+            fit: fit_of(f),
         },
         Decomposed::Refused(r) => CauchyPieces {
             no: refusal_number(r),
             pieces: 0,
             error: 0.0,
+            fit: CauchyFit {
+                kind: 0,
+                column: 0,
+                pivot: 0.0,
+            },
         },
     }
 }

@@ -27,6 +27,8 @@ ghost use Rattle.page.specs.PageAnswer.{pageRead};
 ghost use Rattle.cauchy.specs.Volumes.{valueFrom};
 ghost use Rattle.cauchy.specs.Crossing.{lent, lentFrom, numberFrom};
 ghost use Rattle.cauchy.specs.StoreCrossing.{crossed, across, openedFrom, placedFrom, stepsFrom, squeezedFrom, conventionOf, reportFrom, listedFrom, trackFrom, bytesFrom, pinnedFrom};
+use crate::kernels::CauchyFit;
+use crate::kernels::fit_of;
 use crate::volumes::CauchyValue;
 use crate::volumes::value_of;
 use advance::advance::Advanced;
@@ -63,12 +65,13 @@ pub struct CauchyOpened {
     pub faces: u32,
 }
 
-// 01's number, then the kernel's pieces and the steps that they need.
+// 01's number, then the kernel's pieces, the steps that they need, and how their fit ended.
 #[repr(C)]
 pub struct CauchyPlaced {
     pub no: u32,
     pub pieces: u32,
     pub need: u32,
+    pub fit: CauchyFit,
 }
 
 // 01's number, then the coordinates freed.
@@ -122,15 +125,21 @@ fn placed_of(p: Placed) -> CauchyPlaced
     ensures { λ r. ⌜ r ≡ placedFrom (placed p) ⌝ }
 {
     match p {
-        Placed::Needs(pieces, need) => CauchyPlaced {
+        Placed::Needs(pieces, need, f) => CauchyPlaced {
             no: 0,
             pieces,
             need,
+            fit: fit_of(f),
         },
         Placed::Refused(r) => CauchyPlaced {
             no: refusal_number(r),
             pieces: 0,
             need: 0,
+            fit: CauchyFit {
+                kind: 0,
+                column: 0,
+                pivot: 0.0,
+            },
         },
     }
 }

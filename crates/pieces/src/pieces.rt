@@ -152,7 +152,10 @@ pub fn decompose(k: Kernel, radius: f64) -> Decomposition
         };
         pieces.sigma[0] = k.sigma;
         pieces.coefficient[0] = 1.0;
-        return Decomposition { pieces, fit: Fit::Kept };
+        return Decomposition {
+            pieces,
+            fit: Fit::Kept,
+        };
     }
     let size = size_of(delta);
     let reach = log10(greater_of(1.0, k.sigma * greater_of(1.0, radius)));

@@ -1,7 +1,8 @@
-// Whole fits: a line for each with its sigma, alpha and radius, how many pieces it has and its peak
-// error, then a line for each piece: its sigma and its coefficient.
+// Whole fits: a line for each with its sigma, alpha and radius, how many pieces it has, its peak error and
+// how it ended, then a line for each piece: its sigma and its coefficient.
 use crate::lines::put_bits;
 use crate::lines::put_end;
+use crate::lines::put_end_of_fit;
 use crate::lines::put_float;
 use crate::lines::put_number;
 use crate::tables::FITS;
@@ -39,13 +40,16 @@ fn put_fit(sigma: u64, alpha: u64, radius: u64) {
         w: 1.0,
         alpha: from_pattern(alpha),
     };
-    let p = decompose(k, from_pattern(radius));
+    let d = decompose(k, from_pattern(radius));
+    let p = d.pieces;
+    let fit = d.fit;
     io::write_all(STDOUT_FILENO, b"fit");
     put_bits(sigma);
     put_bits(alpha);
     put_bits(radius);
     put_number(p.count as u64);
     put_float(p.error);
+    put_end_of_fit(fit);
     put_end();
     put_pieces(p);
 }

@@ -4,6 +4,7 @@ use base::floats::to_pattern;
 use base::refusal::Refusal;
 use base::refusal::refusal_number;
 use libc::STDOUT_FILENO;
+use pieces::fit::Fit;
 
 // Writes a space and a number.
 pub fn put_number(n: u64) {
@@ -41,6 +42,22 @@ pub fn put_sizes(name: &[u8], row: usize, count: usize, room: usize) {
 // Writes 01's number of a refusal.
 pub fn put_refusal(refusal: Refusal) {
     put_number(refusal_number(refusal) as u64);
+}
+
+// Writes how a fit ended.
+pub fn put_end_of_fit(fit: Fit) {
+    match fit {
+        Fit::Kept => io::write_all(STDOUT_FILENO, b" kept"),
+        Fit::Fitted(pivot) => {
+            io::write_all(STDOUT_FILENO, b" fitted");
+            put_float(pivot);
+        }
+        Fit::Fallback(column) => {
+            io::write_all(STDOUT_FILENO, b" fallback");
+            put_number(column as u64);
+        }
+        Fit::NoExponent => io::write_all(STDOUT_FILENO, b" no-exponent"),
+    }
 }
 
 // Writes the words of a run, and ends the line.

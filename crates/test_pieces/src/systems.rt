@@ -2,6 +2,7 @@
 // the answer is lent full of sevens, as long as the table says.
 ghost use Prim.Native.Nat.{_≤_, _<_};
 use crate::lines::at_most;
+use crate::lines::put_float;
 use crate::lines::put_number;
 use crate::lines::put_refusal;
 use crate::lines::put_run;
@@ -9,6 +10,7 @@ use crate::lines::put_sizes;
 use crate::tables::SYSTEM_CELLS;
 use crate::tables::SYSTEM_SIZES;
 use base::floats::from_pattern;
+use base::refusal::Refusal;
 use solve::Solve;
 use solve::solve_linear_system;
 
@@ -17,7 +19,14 @@ fn put_solved(n: usize, cells: &[f64], answer: &mut [f64]) {
     put_number(n as u64);
     let told = solve_linear_system(n, cells, answer);
     match told {
-        Solve::Solved => put_number(0),
+        Solve::Solved(pivot) => {
+            put_number(0);
+            put_float(pivot);
+        }
+        Solve::Flat(column) => {
+            put_refusal(Refusal::FlatPivot);
+            put_number(column as u64);
+        }
         Solve::Refused(refusal) => put_refusal(refusal),
     }
     put_run(answer);

@@ -2,6 +2,7 @@
 // as the tables say.
 ghost use Prim.Native.Nat.{_≤_, _<_};
 use crate::lines::at_most;
+use crate::lines::put_end_of_fit;
 use crate::lines::put_float;
 use crate::lines::put_number;
 use crate::lines::put_refusal;
@@ -22,10 +23,11 @@ use pieces::lists::decompose_list;
 fn put_decomposed(k: Kernel, radius: f64, out: &mut [f64]) {
     let told = decompose_into(k, radius, out);
     match told {
-        Decomposed::Written(pieces, error) => {
+        Decomposed::Written(pieces, error, fit) => {
             put_number(0);
             put_number(pieces as u64);
             put_float(error);
+            put_end_of_fit(fit);
         }
         Decomposed::Refused(refusal) => put_refusal(refusal),
     }

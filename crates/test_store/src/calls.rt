@@ -15,6 +15,7 @@ use density::convention::Convention;
 use kernel::kernel::Kernel;
 use page::call::PageRead;
 use page::call::page;
+use pieces::fit::Fit;
 use readings::at_point::density;
 use readings::listing::ListRead;
 use readings::listing::list;
@@ -66,6 +67,19 @@ pub fn run_open(
     }
 }
 
+fn say_fit(fit: Fit) {
+    match fit {
+        Fit::Kept => say(b" kept", [0, 0], NO_FLOATS),
+        Fit::Fitted(pivot) => {
+            let mut floats = NO_FLOATS;
+            floats[0] = pivot;
+            say(b" fitted A", [0, 0], floats);
+        }
+        Fit::Fallback(column) => say(b" fallback 0", [column as u64, 0], NO_FLOATS),
+        Fit::NoExponent => say(b" no-exponent", [0, 0], NO_FLOATS),
+    }
+}
+
 // Puts a kernel; all have one centre.
 pub fn run_put(f: &mut Floats, w: &mut Words, place: u64, sigma: f64, weight: f64, alpha: f64) {
     let k = Kernel {
@@ -75,8 +89,9 @@ pub fn run_put(f: &mut Floats, w: &mut Words, place: u64, sigma: f64, weight: f6
         alpha,
     };
     match put(f, w, (place % WORD) as u32, k) {
-        Placed::Needs(pieces, need) => {
+        Placed::Needs(pieces, need, fit) => {
             say(b" pieces 0 need 1", [pieces as u64, need as u64], NO_FLOATS);
+            say_fit(fit);
         }
         Placed::Refused(r) => say_refused(r),
     }

@@ -8,7 +8,7 @@ is in kilometres (`kernel_from_file`, `convert`).
 >>> faces = [(0, 2, 1), (0, 1, 3), (0, 3, 2), (1, 2, 3)]
 >>> store = Store(1000, vertices, faces)
 >>> store.put(0, Kernel((200, 200, 200), 0.002, 1500, 1))
-Placed(pieces=1, need=4)
+Placed(pieces=1, need=4, fit=Fit(kind='kept', pivot=None, column=None))
 >>> for done, left in store.work(3):
 ...     print(f"{done} steps done, {left} left")
 3 steps done, 1 left
@@ -43,17 +43,19 @@ from .source import (
 )
 from .store import Store
 from .values import (
-    RAW, Bill, Convention, Held, Kernel, KernelList, Loader, MassReport, Pieces, Placed, Steps, StoreReport, mass, rho0,
+    RAW, Bill, Convention, Fit, Held, Kernel, KernelList, Loader, MassReport, Pieces, Placed, Solution, Steps,
+    StoreReport, mass, rho0,
 )
 
 __version__ = "0.1.0"
 
 __all__ = [
-    "ALL_LAYERS", "LAYERS", "MAX_FACES", "MAX_PIECES", "MAX_TRACK", "MAX_VERTICES", "PLACES", "RAW", "REFUSALS", "BadKernelLine",
-    "BadMatrix", "BadTrack", "Bill", "Convention", "Exponent", "FlatPivot", "FloatStateError", "Floats", "Held",
-    "Items", "Kernel", "KernelList", "Loader", "LoadersDiffer", "LooseCorner", "ManyKernels", "MassReport",
-    "NoFigure", "NoLayer", "NoPlace", "NotClosed", "Oversize", "Pieces", "Placed", "Ragged", "Refused", "ShortList",
-    "ShortPage", "ShortStore", "SnapshotError", "Steps", "Store", "StoreReport", "Unfinished", "UnknownRefusal",
+    "ALL_LAYERS", "LAYERS", "MAX_FACES", "MAX_PIECES", "MAX_TRACK", "MAX_VERTICES", "PLACES", "RAW", "REFUSALS",
+    "BadKernelLine", "BadMatrix", "BadTrack", "Bill", "Convention", "Exponent", "Fit", "FlatPivot", "FloatStateError",
+    "Floats", "Held", "Items", "Kernel", "KernelList", "Loader", "LoadersDiffer", "LooseCorner", "ManyKernels",
+    "MassReport", "NoFigure", "NoLayer", "NoPlace", "NotClosed", "Oversize", "Pieces", "Placed", "Ragged", "Refused",
+    "ShortList", "ShortPage", "ShortStore", "SnapshotError", "Solution", "Steps", "Store", "StoreReport", "Unfinished",
+    "UnknownRefusal",
     "Unsound", "Vacant", "arc", "bill", "body_volume", "check_float_state", "closed", "convert", "decompose",
     "decompose_list", "densitize", "exp", "field_mass", "homogeneous", "kernel_from_file", "kernel_volume", "log",
     "log10", "mass", "power", "radial_g", "rho0", "root", "solve", "source_calibrate", "source_density_at",

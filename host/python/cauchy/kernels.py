@@ -4,9 +4,9 @@ from typing import List, Optional, Union
 
 from . import arrays
 from .library import CauchyFileKernel, MAX_PIECES, SHORTEST_LINE, ask, call
-from .refusals import BadMatrix
+from .refusals import BadMatrix, FlatPivot, check
 from .values import (
-    Bill, Kernel, KernelList, Loader, Pieces, answered_kernel, crossing_kernel, crossing_loader, kernel_run, listed,
+    Bill, Kernel, KernelList, Loader, Pieces, Solution, answered_fit, answered_kernel, crossing_kernel, crossing_loader, kernel_run, listed,
     vector,
 )
 
@@ -61,16 +61,18 @@ def convert(lines: Union[bytes, bytearray, memoryview], default: float, loader: 
 
 
 def decompose(kernel: Kernel, radius: float) -> Pieces:
-    """The pieces of a kernel on a body of this radius, and the fit's greatest error.
+    """The pieces of a kernel on a body of this radius, the fit's greatest error, and how it ended.
 
     >>> pieces, error = decompose(Kernel((0, 0, 0), 0.01, 2, 2), 500)
     >>> len(pieces), error < 0.01
     (13, True)
+    >>> decompose(Kernel((0, 0, 0), 0.01, 2, float("nan")), 500).fit.kind
+    'no exponent'
     """
     out = array("d", [0.0]) * (MAX_PIECES * 6)
     size = arrays.number(radius, "radius")
     answer = call("decompose", crossing_kernel(kernel), size, *arrays.written(out).lent())
-    return Pieces(tuple(listed(out, answer.pieces)), answer.error)
+    return Pieces(tuple(listed(out, answer.pieces)), answer.error, answered_fit(answer.fit))
 
 
 def decompose_list(kernels: KernelList, radius: float) -> Pieces:
@@ -124,20 +126,28 @@ def densitize(kernels: KernelList, point: arrays.Items) -> float:
     return float(call("densitize", *kernel_run(kernels).lent(), vector(point, "point")).value)
 
 
-def solve(n: int, cells: arrays.Items) -> List[float]:
-    """The answer of n equations, at most 16, with n + 1 cells each, the right-hand side last; the cells are flat or
-    in rows of n + 1.
+def solve(n: int, cells: arrays.Items) -> Solution:
+    """The answer of n equations, at most 16, with n + 1 cells each, the right-hand side last, and the smallest pivot
+    that was accepted; the cells are flat or in rows of n + 1. A flat pivot is told with its column.
 
-    >>> solve(2, [1, 1, 3, 1, 2, 5]), solve(2, [(1, 1, 3), (1, 2, 5)])
-    ([1.0, 2.0], [1.0, 2.0])
+    >>> solve(2, [4, 0, 4, 0, 0.5, 1]), solve(2, [(1, 1, 3), (1, 2, 5)]).answer
+    (Solution(answer=[1.0, 2.0], pivot=0.5), [1.0, 2.0])
     >>> solve(1, [0, 1])
     Traceback (most recent call last):
     cauchy.FlatPivot: flat pivot: the equations have no usable pivot in some column (no 11)
+    >>> try:
+    ...     solve(2, [1, 1, 2, 1, 1, 2])
+    ... except FlatPivot as flat:
+    ...     flat.column
+    1
     """
     count = arrays.whole(n, "n")
     if not 0 <= count <= 16:
         raise BadMatrix()
     run = arrays.floats(cells, "cells", count + 1)
     answer = array("d", [0.0]) * count
-    call("solve", count, *run.lent(), *arrays.written(answer).lent())
-    return answer.tolist()
+    told = ask("solve", count, *run.lent(), *arrays.written(answer).lent())
+    if told.no == FlatPivot.number:
+        raise FlatPivot(told.column)
+    check(told.no)
+    return Solution(answer.tolist(), told.pivot)

@@ -55,8 +55,12 @@ class CauchyOpened(Structure):
     _fields_ = [("no", c_uint32), ("verts", c_uint32), ("faces", c_uint32)]
 
 
+class CauchyFit(Structure):
+    _fields_ = [("kind", c_uint32), ("column", c_uint32), ("pivot", c_double)]
+
+
 class CauchyPlaced(Structure):
-    _fields_ = [("no", c_uint32), ("pieces", c_uint32), ("need", c_uint32)]
+    _fields_ = [("no", c_uint32), ("pieces", c_uint32), ("need", c_uint32), ("fit", CauchyFit)]
 
 
 class CauchySqueezed(Structure):
@@ -110,11 +114,15 @@ class CauchyKernels(Structure):
 
 
 class CauchyPieces(Structure):
-    _fields_ = [("no", c_uint32), ("pieces", c_uint64), ("error", c_double)]
+    _fields_ = [("no", c_uint32), ("pieces", c_uint64), ("error", c_double), ("fit", CauchyFit)]
 
 
 class CauchyListPieces(Structure):
     _fields_ = [("no", c_uint32), ("kernels", c_uint64), ("pieces", c_uint64), ("error", c_double)]
+
+
+class CauchySolved(Structure):
+    _fields_ = [("no", c_uint32), ("column", c_uint32), ("pivot", c_double)]
 
 
 class CauchyBill(Structure):
@@ -146,7 +154,7 @@ PROTOTYPES: Dict[str, Tuple[Any, ...]] = {
     "decompose_list": (CauchyListPieces, *_FLOATS, c_double, *_FLOATS),
     "bill": (CauchyBill, *_FLOATS, c_uint32, c_uint32),
     "densitize": (CauchyValue, *_FLOATS, CauchyVector),
-    "solve": (c_uint32, c_size_t, *_FLOATS, *_FLOATS),
+    "solve": (CauchySolved, c_size_t, *_FLOATS, *_FLOATS),
     "closed": (c_uint32, *_MESH),
     "kernel_volume": (CauchyValue, *_MESH, CauchyVector, c_double),
     "body_volume": (CauchyValue, *_MESH),

@@ -102,10 +102,14 @@ class BadMatrix(Refused):
 
 
 class FlatPivot(Refused):
-    """The equations have no usable pivot in some column."""
+    """The equations have no usable pivot in some column; `column` is that one, from 0."""
 
     number = 11
     meaning = "flat pivot: the equations have no usable pivot in some column"
+
+    def __init__(self, column: int = 0) -> None:
+        super().__init__(column)
+        self.column = column
 
 
 class Exponent(Refused):

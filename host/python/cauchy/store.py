@@ -10,7 +10,8 @@ from .memory import Runs
 from .refusals import NoLayer, NoPlace, Refused, Unsound, check_float_state
 from .turns import Turns
 from .values import (
-    Convention, Held, Kernel, Placed, Steps, StoreReport, crossing_convention, crossing_kernel, listed, masses, vector,
+    Convention, Held, Kernel, Placed, Steps, StoreReport, answered_fit, crossing_convention, crossing_kernel, listed,
+    masses, vector,
 )
 
 # Where a place's kernel and state stand in the runs, and their sizes.
@@ -38,8 +39,8 @@ class Store:
     >>> store = Store(500, [0] * 9, [0, 1, 2])
     >>> store
     Store(vertices=3, faces=1, radius=500.0, filled=0)
-    >>> store.put(4, Kernel((0, 0, 0), 0.01, 300, 2))
-    Placed(pieces=13, need=13)
+    >>> store.put(4, Kernel((0, 0, 0), 0.01, 300, 2)).fit.kind
+    'fitted'
     >>> store.reweigh(4, -20)
     >>> store.advance(5), store.left()
     (Steps(done=5, left=8), 8)
@@ -76,7 +77,7 @@ class Store:
 
     def put(self, place: int, kernel: Kernel, layer: int = 0) -> Placed:
         """Puts a kernel into a place, whatever that held, with all its work to do, in a layer from 0 to 15; its
-        pieces, and the steps that they need.
+        pieces, the steps that they need, and how their fit ended, which the store does not keep.
 
         >>> store = Store(500, [0] * 9, [0, 1, 2])
         >>> store.put(0, Kernel((0, 0, 0), 1, 2, 1), layer=3), store.put(1, Kernel((0, 0, 0), 1, 5, 1))
@@ -88,7 +89,7 @@ class Store:
         cauchy.NoLayer: no layer: the layers are 0 to 15 (no 16)
         """
         answer = self._call("store_put", _place(place), crossing_kernel(kernel), _layer(layer))
-        return Placed(answer.pieces, answer.need)
+        return Placed(answer.pieces, answer.need, answered_fit(answer.fit))
 
     def clear(self, place: int) -> None:
         """Empties a place."""
@@ -129,8 +130,8 @@ class Store:
         beginning and those left, so `done / (done + left)` is the progress. Without work it gives nothing.
 
         >>> store = Store(500, [0] * 9, [0, 1, 2])
-        >>> store.put(4, Kernel((0, 0, 0), 0.01, 300, 2))
-        Placed(pieces=13, need=13)
+        >>> store.put(4, Kernel((0, 0, 0), 0.01, 300, 2)).fit.kind
+        'fitted'
         >>> for done, left in store.work(5):
         ...     print(done, left)
         5 8
@@ -167,7 +168,7 @@ class Store:
 
         >>> store = Store(500, [0] * 9, [0, 1, 2])
         >>> store.put(0, Kernel((0, 0, 0), 1, 2, 1))
-        Placed(pieces=1, need=1)
+        Placed(pieces=1, need=1, fit=Fit(kind='kept', pivot=None, column=None))
         >>> store.density(RAW, (1, 0, 0))
         1.0
         >>> store.density(RAW, [(0, 0, 0), (1, 0, 0)]).tolist(), len(store.density(RAW, [(0, 0, 3)] * 10_000))
@@ -198,7 +199,7 @@ class Store:
 
         >>> store = Store(500, [0] * 9, [0, 1, 2])
         >>> store.put(0, Kernel((0, 0, 0), 1, 2, 1))
-        Placed(pieces=1, need=1)
+        Placed(pieces=1, need=1, fit=Fit(kind='kept', pivot=None, column=None))
         >>> store.track(RAW, [(0, 0, 0), (1, 0, 0), (0, 0, 3)]).tolist(), store.track(RAW, []).tolist()
         ([2.0, 1.0, 0.2], [])
         >>> from array import array
@@ -256,7 +257,7 @@ class Store:
 
         >>> store = Store(500, [0] * 9, [0, 1, 2])
         >>> store.put(7, Kernel((0, 0, 0), 0.01, 300, 1))
-        Placed(pieces=1, need=1)
+        Placed(pieces=1, need=1, fit=Fit(kind='kept', pivot=None, column=None))
         >>> store.list(rho0(1200))
         [Kernel(c=(0.0, 0.0, 0.0), sigma=0.01, w=1200.0, alpha=1.0)]
         """
@@ -271,8 +272,8 @@ class Store:
         needs all work done, and no mass that is NaN or exceeds 10^15 kg.
 
         >>> store = Store(6, [0, 0, 0, 6, 0, 0, 0, 6, 0, 0, 0, 6], [0, 2, 1, 0, 1, 3, 0, 3, 2, 1, 2, 3])
-        >>> store.put(7, Kernel((1, 1, 1), 0, 1000, 1)), store.put(12, Kernel((1, 1, 1), 0, -1, 1))
-        (Placed(pieces=1, need=4), Placed(pieces=1, need=4))
+        >>> store.put(7, Kernel((1, 1, 1), 0, 1000, 1)).need, store.put(12, Kernel((1, 1, 1), 0, -1, 1)).need
+        (4, 4)
         >>> store.advance(8)
         Steps(done=8, left=0)
         >>> print(store.page(), end="")
@@ -293,7 +294,7 @@ class Store:
 
         >>> store = Store(500, [0] * 9, [0, 1, 2])
         >>> store.put(7, Kernel((1, 2, 3), 0.01, 300, 1))
-        Placed(pieces=1, need=1)
+        Placed(pieces=1, need=1, fit=Fit(kind='kept', pivot=None, column=None))
         >>> store.held(7), store.held(8)
         (Held(kernel=Kernel(c=(1.0, 2.0, 3.0), sigma=0.01, w=300.0, alpha=1.0), layer=0, pieces=1, error=0.0), None)
         """

@@ -6,12 +6,12 @@ itself and its copies and can be found in a set; 0.0 and -0.0 are equal, as ever
 from array import array
 from dataclasses import dataclass, fields
 from enum import Enum
-from typing import Any, Dict, Iterator, List, NamedTuple, Sequence, Tuple, Union
+from typing import Any, Dict, Iterator, List, NamedTuple, Optional, Sequence, Tuple, Union
 
 from . import arrays
 from .library import (
-    MASS_KIND, NATIVE_LOADER, RAW_KIND, RHO0_KIND, SOURCE_LOADER, STRICT_LOADER, CauchyConvention, CauchyKernel,
-    CauchyMassReport, CauchyVector,
+    MASS_KIND, NATIVE_LOADER, RAW_KIND, RHO0_KIND, SOURCE_LOADER, STRICT_LOADER, CauchyConvention, CauchyFit,
+    CauchyKernel, CauchyMassReport, CauchyVector,
 )
 
 Vector = Tuple[float, float, float]
@@ -187,11 +187,39 @@ class Bill(Value):
     floats: int
 
 
+@dataclass(frozen=True, eq=False)
+class Fit(Value):
+    """How a kernel's fit ended. The kind is "kept", where the exponent is within 1e-9 of 1; "fitted", where `pivot` is
+    the smallest that the solver accepted, in absolute value, above 1e-18 or a NaN; "fallback", where `column`, from 0,
+    has the flat pivot at which the solver stopped; or "no exponent", where that is a NaN. What a kind does not have
+    is None.
+
+    >>> decompose(Kernel((0, 0, 0), 0.01, 2, 1), 500).fit
+    Fit(kind='kept', pivot=None, column=None)
+    >>> fit = decompose(Kernel((0, 0, 0), 0.01, 2, 2), 500).fit
+    >>> fit.kind, fit.pivot > 1e-18, fit.column
+    ('fitted', True, None)
+    """
+
+    kind: str
+    pivot: Optional[float] = None
+    column: Optional[int] = None
+
+
 class Placed(NamedTuple):
-    """What a put answers: the kernel's pieces, and the steps that they need."""
+    """What a put answers: the kernel's pieces, the steps that they need, and how their fit ended."""
 
     pieces: int
     need: int
+    fit: Fit
+
+
+class Solution(NamedTuple):
+    """The answer of equations, and the smallest pivot that was accepted, in absolute value: infinite where there is no
+    equation, and a NaN where one of them was."""
+
+    answer: List[float]
+    pivot: float
 
 
 class Steps(NamedTuple):
@@ -203,10 +231,12 @@ class Steps(NamedTuple):
 
 @dataclass(frozen=True, eq=False)
 class Pieces(Value):
-    """Pieces of kernels, and the greatest error of a fit as a fraction of its kernel's peak; a pair of both."""
+    """Pieces of kernels, and the greatest error of a fit as a fraction of its kernel's peak; a pair of both. Beside
+    them, of one kernel, how its fit ended; None of a list, which has many."""
 
     pieces: Tuple[Kernel, ...]
     error: float
+    fit: Optional[Fit] = None
 
     def __iter__(self) -> Iterator[Any]:
         return iter((self.pieces, self.error))
@@ -245,6 +275,12 @@ def answered_kernel(kernel: CauchyKernel) -> Kernel:
     """A kernel that the library answered."""
     x, y, z = kernel.c
     return Kernel((x, y, z), kernel.sigma, kernel.w, kernel.alpha)
+
+
+def answered_fit(fit: CauchyFit) -> Fit:
+    """How a fit ended, as the library answered it."""
+    ends = {0: Fit("kept"), 1: Fit("fitted", pivot=fit.pivot), 2: Fit("fallback", column=fit.column)}
+    return ends.get(fit.kind, Fit("no exponent"))
 
 
 def masses(report: CauchyMassReport) -> Dict[str, float]:

@@ -309,8 +309,8 @@ class Numpy(Cases):
             cauchy.densitize(table.T, (4, 5, 6))
 
     def test_equations(self):
-        self.assertEqual(cauchy.solve(2, np.array([[1.0, 1, 3], [1, 2, 5]])), [1.0, 2.0])
-        self.assertEqual(cauchy.solve(2, np.array([[1, 1], [1, 2], [3, 5]]).T), [1.0, 2.0])
+        self.assertEqual(cauchy.solve(2, np.array([[1.0, 1, 3], [1, 2, 5]])).answer, [1.0, 2.0])
+        self.assertEqual(cauchy.solve(2, np.array([[1, 1], [1, 2], [3, 5]]).T).answer, [1.0, 2.0])
 
 
 if __name__ == "__main__":

@@ -125,8 +125,8 @@ class Fuzz(unittest.TestCase):
         methods = {name for name in vars(Store) if not name.startswith("_") and callable(getattr(Store, name))}
         self.assertEqual(methods, {*METHODS, "from_bytes"})
         functions = {name for name in cauchy.__all__ if callable(getattr(cauchy, name))}
-        answers = {"Bill", "Held", "MassReport", "StoreReport", "Placed", "Steps", "Pieces", "Floats", "Items",
-                   "KernelList", "Loader", "UnknownRefusal", "FloatStateError", "SnapshotError", "Refused"}
+        answers = {"Bill", "Held", "MassReport", "StoreReport", "Placed", "Fit", "Solution", "Steps", "Pieces", "Floats",
+                   "Items", "KernelList", "Loader", "UnknownRefusal", "FloatStateError", "SnapshotError", "Refused"}
         refusals = {kind.__name__ for kind in cauchy.REFUSALS.values()}
         self.assertEqual(functions - answers - refusals, set(FUNCTIONS) - {"Store.from_bytes"})
 

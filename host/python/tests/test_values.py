@@ -114,6 +114,25 @@ class Values(unittest.TestCase):
         yield cauchy.decompose(Kernel((NAN, 0, 0), 0.01, 3, 2), NAN)
         yield from (store.report(RAW), store.held(3), store.put(0, Kernel((0, 0, 0), 1, 2, 1)), store.advance(1))
 
+    def test_how_a_fit_ended(self):
+        store = Store(500, *sphere(0))
+        steep = Kernel((0, 0, 0), 0.01, 3, 2)
+        fit = store.put(3, steep).fit
+        self.assertEqual((fit.kind, fit.column), ("fitted", None))
+        self.assertTrue(1e-18 < fit.pivot < 1)
+        self.assertEqual(cauchy.decompose(Kernel((9, 9, 9), 0.01, -1, 2), 500).fit, fit)
+        self.assertEqual(store.put(3, Kernel((0, 0, 0), 0.01, 3, 1)).fit, cauchy.Fit("kept"))
+        self.assertEqual(store.put(3, Kernel((0, 0, 0), 0.01, 3, NAN)), (0, 0, cauchy.Fit("no exponent")))
+        self.assertIsNone(cauchy.decompose_list([steep], 500).fit)
+
+    def test_how_equations_were_solved(self):
+        self.assertEqual(cauchy.solve(2, [4, 0, 8, 0, -0.5, 1]), ([2.0, -2.0], 0.5))
+        self.assertEqual(cauchy.solve(0, []), ([], float("inf")))
+        self.assertNotEqual(*[cauchy.solve(1, [NAN, 1]).pivot] * 2)
+        with self.assertRaises(cauchy.FlatPivot) as raised:
+            cauchy.solve(2, [1, 1, 2, 1, 1, 2])
+        self.assertEqual((raised.exception.column, pickle.loads(pickle.dumps(raised.exception)).column), (1, 1))
+
     def test_they_cannot_be_changed(self):
         for value in self.all_values():
             names = value._fields if isinstance(value, tuple) else [f.name for f in dataclasses.fields(value)]

@@ -2,7 +2,7 @@
 use crate::figures::{count, counted, rounded, short, whole};
 use crate::track::Track;
 use cauchy::{
-    Bill, Convention, Finished, Kernel, LAYERS, Layers, MassReport, PLACES, Refusal, Store, StoreReport,
+    Bill, Convention, Finished, Fit, Held, Kernel, LAYERS, Layers, MassReport, PLACES, Refusal, Store, StoreReport,
 };
 use std::fmt::Write;
 use std::path::Path;
@@ -41,23 +41,32 @@ pub fn mesh(store: &Store) -> Vec<String> {
     lines
 }
 
-/// The filled places in words.
+/// The filled places in words: each with its pieces, its exponent and how its fit ended.
 pub fn places(store: &Store) -> Vec<String> {
     let line = |place| {
         let held = store.held(place)?;
         let pieces = counted(u64::from(held.pieces), "piece");
         let exponent = short(held.kernel.alpha);
-        let fit = match held.error {
-            0.0 => String::new(),
-            error => format!(", fitted with an error of {} of its peak", rounded(error, 2)),
-        };
         let layer = match held.layer {
             0 => String::new(),
             layer => format!(", in layer {layer}"),
         };
-        Some(format!("place {place:<4}{pieces:<12}exponent {exponent}{fit}{layer}"))
+        Some(format!("place {place:<4}{pieces:<12}exponent {exponent}{}{layer}", fit(&held, store.radius())))
     };
     (0..PLACES).filter_map(line).collect()
+}
+
+/// How a place's fit ended. A store does not keep that, nor does a snapshot: the kernel is fitted once more, which
+/// gives the same, whatever its weight has become.
+fn fit(held: &Held, radius: f64) -> String {
+    let error = format!("with an error of {} of its peak", rounded(held.error, 2));
+    match held.kernel.pieces(radius).map(|pieces| pieces.fit) {
+        Ok(Fit::Kept) => ", kept".into(),
+        Ok(Fit::Fitted { pivot }) => format!(", fitted {error}, smallest pivot {}", rounded(pivot, 2)),
+        Ok(Fit::Fallback { column }) => format!(", by the fallback {error}: flat pivot in column {column}"),
+        Ok(Fit::NoExponent) => ": no exponent, so no piece".into(),
+        Err(refusal) => format!(": {refusal}"),
+    }
 }
 
 /// A bill in words; so many of the kernels are to be fitted.

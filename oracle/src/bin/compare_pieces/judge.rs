@@ -3,7 +3,8 @@ use oracle::cases::{self, Cells, Exponent};
 use oracle::inputs::{self, Rng};
 use oracle::original::native::{self, CauchyKernel, KernelSi};
 use oracle::pattern;
-use oracle::pieces::{self, FileKernel, Kernel, Pieces};
+use oracle::pieces::{self, FileKernel, Kernel};
+use oracle::recorder::{Fit, smallest, watched};
 use oracle::tally::{Plan, Tally};
 
 pub fn run() {
@@ -22,41 +23,58 @@ pub fn run() {
     total.end();
 }
 
-/// One call of solve, held to the text: 01's number, the answer's words, those past n and those of a refused call.
-fn solve_differs(n: usize, cells: &[f64], before: &[f64]) -> (bool, u32) {
+/// One call of solve, held to the text: 01's number, the smallest pivot or the column of the flat one as the recorder met them, the answer's
+/// words, those past n and those of a refused call. Also the number, and the column or, of a NaN pivot, n.
+fn solve_differs(n: usize, cells: &[f64], before: &[f64]) -> (bool, u32, Ending) {
     let mut answer = before.to_vec();
     let lent = cells.to_vec();
     let told = pieces::solve(n, &lent, &mut answer);
     let bad = n > 16 || cells.len() != n * (n + 1) || before.len() < n;
-    let solved = if bad { None } else { native::solve(&mut cells.chunks(n + 1).map(<[f64]>::to_vec).collect::<Vec<_>>()) };
+    let mut rows = cells.chunks(n.saturating_add(1)).map(<[f64]>::to_vec).collect::<Vec<_>>();
+    let (solved, pivots) = if bad { (None, vec![]) } else { watched(|| native::solve(&mut rows)) };
     let number = match (bad, &solved) {
         (true, _) => 10,
         (_, None) => 11,
         _ => 0,
     };
+    let (column, pivot) = match number {
+        0 => (0, smallest(&pivots)),
+        11 => (pivots.len() as u32 - 1, 0.0),
+        _ => (0, 0.0),
+    };
     let written = solved.unwrap_or_default();
-    let differs = told != number
+    let differs = (told.no, told.column, pattern(told.pivot)) != (number, column, pattern(pivot))
         || lent.iter().zip(cells).any(|(x, y)| x.to_bits() != y.to_bits())
         || written.iter().zip(&answer).any(|(x, y)| pattern(*x) != pattern(*y))
         || (number == 0 && written.len() != n)
         || answer.iter().zip(before).skip(written.len()).any(|(x, y)| x.to_bits() != y.to_bits());
-    (differs, number)
+    let ending = Ending { late: column > 0, nan: pivot.is_nan() };
+    (differs, number, ending)
+}
+
+/// What is counted of an elimination's end: a flat pivot past the first column, and a smallest pivot that is a NaN.
+struct Ending {
+    late: bool,
+    nan: bool,
 }
 
 fn systems(name: &str, cells: Cells, count: u64, mut r: Rng) -> Tally {
     let mut tally = Tally::new();
-    let (mut flat, mut nans) = (0, 0);
+    let (mut flat, mut late, mut nans, mut nan_pivots) = (0, 0, 0, 0);
     for _ in 0..count {
         let n = r.below(17) as usize;
         let cells = cells(&mut r, n);
         let excess = r.below(4) as usize;
         let before = cases::garbage(&mut r, n + excess);
-        let (differs, number) = solve_differs(n, &cells, &before);
+        let (differs, number, ending) = solve_differs(n, &cells, &before);
         tally.count(differs, || format!("n {n}, cells {}", bits(&cells)));
         flat += u64::from(number == 11);
+        late += u64::from(ending.late);
+        nan_pivots += u64::from(ending.nan);
         nans += u64::from(number == 0 && cells.iter().any(|x| !x.is_finite()));
     }
-    tally.line("solve", name, &format!("{flat} flat, {nans} solved with a NaN or an infinity among the cells"));
+    let solved = format!("{nans} solved with a NaN or an infinity among the cells, {nan_pivots} with a NaN pivot");
+    tally.line("solve", name, &format!("{flat} flat, {late} of them past the first column, {solved}"));
     tally
 }
 
@@ -85,7 +103,7 @@ fn bad_systems(count: u64, mut r: Rng) -> Tally {
         };
         let cells: Vec<f64> = (0..len).map(|_| r.within(-1.0, 1.0)).collect();
         let before = cases::garbage(&mut r, room);
-        let (differs, number) = solve_differs(n, &cells, &before);
+        let (differs, number, _) = solve_differs(n, &cells, &before);
         tally.count(differs, || format!("n {n}, {len} cells, room for {room}"));
         refused += u64::from(number == 10);
     }
@@ -96,11 +114,13 @@ fn bad_systems(count: u64, mut r: Rng) -> Tally {
 fn decompositions(name: &str, exponent: Exponent, count: u64, mut r: Rng) -> Tally {
     let mut tally = Tally::new();
     let (mut none, mut stay, mut some, mut all, mut short) = (0, 0, 0, 0, 0);
+    let mut ends = [0; 4];
     for _ in 0..count {
         let alpha = exponent(&mut r);
         let k = kernel(&mut r, alpha);
         let radius = cases::length(&mut r, 500.0);
-        let (list, error) = native::decompose(&[KernelSi { c: k.c, sigma: k.sigma, w: k.w, alpha }], radius);
+        let ((list, error), pivots) = watched(|| native::decompose(&[KernelSi { c: k.c, sigma: k.sigma, w: k.w, alpha }], radius));
+        let fit = Fit::of(alpha, &pivots);
         let need = 6 * list.len();
         let room = match r.below(8) {
             0 => need.saturating_sub(1),
@@ -109,7 +129,7 @@ fn decompositions(name: &str, exponent: Exponent, count: u64, mut r: Rng) -> Tal
             _ => need,
         };
         let before = cases::garbage(&mut r, room);
-        tally.count(decompose_differs(k, radius, &list, error, &before), || format!("{k:?}, radius {radius:?}, room for {room}"));
+        tally.count(decompose_differs(k, radius, &list, error, fit, &before), || format!("{k:?}, radius {radius:?}, room for {room}"));
         match list.len() {
             0 => none += 1,
             1 => stay += 1,
@@ -117,8 +137,11 @@ fn decompositions(name: &str, exponent: Exponent, count: u64, mut r: Rng) -> Tal
             _ => some += 1,
         }
         short += u64::from(room < need);
+        ends[fit.told().0 as usize] += 1;
     }
-    tally.line("pieces", name, &format!("{none} of no piece, {stay} of one, {some} of some, {all} of all terms; {short} refused as 9"));
+    let [kept, fitted, fallback, nameless] = ends;
+    let ends = format!("{kept} kept, {fitted} fitted, {fallback} by the fallback, {nameless} without an exponent");
+    tally.line("pieces", name, &format!("{none} of no piece, {stay} of one, {some} of some, {all} of all terms; {short} refused as 9; {ends}"));
     tally
 }
 
@@ -129,21 +152,22 @@ pub fn kernel(r: &mut Rng, alpha: f64) -> Kernel {
     Kernel { c, sigma, w, alpha }
 }
 
-fn decompose_differs(k: Kernel, radius: f64, list: &[KernelSi], error: f64, before: &[f64]) -> bool {
+fn decompose_differs(k: Kernel, radius: f64, list: &[KernelSi], error: f64, fit: Fit, before: &[f64]) -> bool {
     let mut out = before.to_vec();
     let told = pieces::decompose(k, radius, &mut out);
     let refused = before.len() < 6 * list.len();
-    pieces_differ(told, &out, if refused { None } else { Some((list, error)) }, before)
+    let ended = if refused { (0, 0, 0) } else { fit.told() };
+    told.fit.told() != ended || pieces_differ((told.no, told.pieces, told.error), &out, if refused { None } else { Some((list, error)) }, before)
 }
 
-/// What a call tells, what it writes, and what it leaves, held to the text's pieces and error, or to refusal 9, which tells nothing
+/// The number, pieces and error that a call tells, what it writes, and what it leaves, held to the text's pieces and error, or to refusal 9, which tells nothing
 /// but its number.
-pub fn pieces_differ(told: Pieces, out: &[f64], text: Option<(&[KernelSi], f64)>, before: &[f64]) -> bool {
+pub fn pieces_differ((no, pieces, told): (u32, u64, f64), out: &[f64], text: Option<(&[KernelSi], f64)>, before: &[f64]) -> bool {
     let (list, error) = text.unwrap_or((&[], 0.0));
     let written: Vec<f64> = list.iter().flat_map(|p| [p.c[0], p.c[1], p.c[2], p.sigma, p.w, p.alpha]).collect();
-    told.no != if text.is_none() { 9 } else { 0 }
-        || told.pieces != list.len() as u64
-        || pattern(told.error) != pattern(error)
+    no != if text.is_none() { 9 } else { 0 }
+        || pieces != list.len() as u64
+        || pattern(told) != pattern(error)
         || written.iter().zip(out).any(|(x, y)| pattern(*x) != pattern(*y))
         || out.iter().zip(before).skip(written.len()).any(|(x, y)| x.to_bits() != y.to_bits())
 }

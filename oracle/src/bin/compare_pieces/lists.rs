@@ -2,7 +2,7 @@ use crate::judge::{kernel, pieces_differ};
 use oracle::cases;
 use oracle::inputs::Rng;
 use oracle::original::native::{self, KernelSi};
-use oracle::pieces::{self, Kernel, Pieces};
+use oracle::pieces::{self, Kernel};
 use oracle::tally::Tally;
 
 /// Lists of up to 8 kernels with exponents of all families, some not of sixes, into runs of every kind of length.
@@ -50,5 +50,5 @@ fn list_differs(run: &[f64], radius: f64, text: Option<(&[KernelSi], f64)>, befo
     let mut out = before.to_vec();
     let told = pieces::decompose_list(run, radius, &mut out);
     let kernels = if text.is_none() { 0 } else { run.len() as u64 / 6 };
-    told.kernels != kernels || pieces_differ(Pieces { no: told.no, pieces: told.pieces, error: told.error }, &out, text, before)
+    told.kernels != kernels || pieces_differ((told.no, told.pieces, told.error), &out, text, before)
 }

@@ -9,6 +9,8 @@ use oracle::inputs::Rng;
 use oracle::machine::{self, ALL_LAYERS, Machine};
 use oracle::page;
 use oracle::pattern;
+use oracle::pieces;
+use oracle::recorder::Fit;
 use oracle::store;
 use oracle::tally::Tally;
 use oracle::text::ByArchive;
@@ -27,8 +29,8 @@ impl Runs {
         let edited = |no| if no == 0 { Answer::Edited } else { Answer::Refused(no) };
         match call {
             Call::Put(place, k, layer) => match store::put(f, w, place, k, layer) {
-                store::Placed { no: 0, pieces, need } => Answer::Placed(pieces, need),
-                store::Placed { no, pieces: 0, need: 0 } => Answer::Refused(no),
+                store::Placed { no: 0, pieces, need, fit } => Answer::Placed(pieces, need, ended(fit)),
+                store::Placed { no, pieces: 0, need: 0, fit } if fit.told() == (0, 0, 0) => Answer::Refused(no),
                 told => panic!("a refusal with values: {told:?}"),
             },
             Call::Clear(place) => edited(store::clear(f, w, place)),
@@ -154,6 +156,17 @@ impl Seen {
     }
 }
 
+/// How a fit ended, as the archive told it; the values that its kind does not use are 0.
+fn ended(fit: pieces::Fit) -> Fit {
+    match fit.told() {
+        (0, 0, 0) => Fit::Kept,
+        (1, 0, _) => Fit::Fitted(fit.pivot),
+        (2, column, 0) => Fit::Fallback(column),
+        (3, 0, 0) => Fit::NoExponent,
+        _ => panic!("no end of a fit: {fit:?}"),
+    }
+}
+
 pub fn same(a: Answer, b: Answer) -> bool {
     let floats = |x: &[f64], y: &[f64]| x.iter().zip(y).all(|(x, y)| pattern(*x) == pattern(*y));
     let reports = |x: &Report, y: &Report| {
@@ -161,7 +174,7 @@ pub fn same(a: Answer, b: Answer) -> bool {
     };
     match (a, b) {
         (Answer::Refused(x), Answer::Refused(y)) => x == y,
-        (Answer::Placed(a, b), Answer::Placed(x, y)) => (a, b) == (x, y),
+        (Answer::Placed(a, b, f), Answer::Placed(x, y, g)) => (a, b, f.told()) == (x, y, g.told()),
         (Answer::Edited, Answer::Edited) => true,
         (Answer::Steps(a, b), Answer::Steps(x, y)) => (a, b) == (x, y),
         (Answer::Freed(x), Answer::Freed(y)) => x == y,
@@ -312,7 +325,7 @@ fn history(r: &mut Rng, i: u64, calls: usize, tally: &mut Tally, seen: &mut Seen
         let (difference, told, want) = differs(&mut runs, &mut machine, call, &lent, Machine::fields);
         seen.add(call, want);
         match told {
-            Answer::Placed(_, need) => charged += u64::from(need),
+            Answer::Placed(_, need, _) => charged += u64::from(need),
             Answer::Steps(steps, _) => done += steps,
             Answer::Freed(freed) => touch_freed(r, &mut runs, freed),
             _ => {}

@@ -160,7 +160,7 @@ fn convention(by: Convention) -> String {
 fn answer(told: Answer) -> String {
     match told {
         Answer::Refused(no) => format!(" no {no}"),
-        Answer::Placed(pieces, need) => format!(" pieces {pieces} need {need}"),
+        Answer::Placed(pieces, need, fit) => format!(" pieces {pieces} need {need}{}", fit.text()),
         Answer::Edited => String::new(),
         Answer::Steps(done, left) => format!(" done {done} left {left}"),
         Answer::Freed(n) => format!(" freed {n}"),

@@ -1,6 +1,7 @@
 //! File kernels, and pieces written as kernels: of one kernel and of a list, into runs with room and without.
 use crate::tables::{INF, NAN, filled, hex, run, table};
 use oracle::original::native_steps::{CauchyKernel, KernelSi, carry, decompose};
+use oracle::recorder::{Fit, watched};
 use oracle::step;
 
 /// The centre of every kernel whose pieces are written.
@@ -8,14 +9,14 @@ const CENTRE: [f64; 3] = [1.0, -2.0, 3.0];
 /// The most floats of a list.
 const LIST: usize = 18;
 
-/// Lines `file row ..` with the kernel's six floats; lines `into row 6 room no pieces error ..` and `list row floats room no kernels
-/// pieces error ..` with all words of the run lent.
+/// Lines `file row ..` with the kernel's six floats; lines `into row 6 room no pieces error end ..` and `list row floats room no
+/// kernels pieces error ..` with all words of the run lent.
 pub fn answers() -> String {
     let files = files().into_iter().enumerate().map(|(i, (floats, given, _))| format!("file {i}{}\n", hex(&carried(floats, given))));
     let one = into().into_iter().enumerate().map(|(i, (k, room, _))| {
         let [sigma, w, alpha, radius] = k;
-        let (pieces, error) = decompose(&[KernelSi { c: CENTRE, sigma, w, alpha }], radius);
-        let told = format!("{}{}", pieces.len(), hex(&[error]));
+        let ((pieces, error), pivots) = watched(|| decompose(&[KernelSi { c: CENTRE, sigma, w, alpha }], radius));
+        let told = format!("{}{}{}", pieces.len(), hex(&[error]), Fit::of(alpha, &pivots).text());
         format!("into {i} 6 {room} {}\n", written(&pieces, room, true, &told))
     });
     let many = lists().into_iter().enumerate().map(|(i, (list, radius, room, _))| {

@@ -1,19 +1,20 @@
-//! Whole fits: a line for each with its arguments, how many pieces there are and the peak error, then a line for each piece.
+//! Whole fits: a line for each with its arguments, how many pieces there are, the peak error and how it ended, then a line for each piece.
 use crate::tables::{self, INF, NAN, filled};
 use oracle::original::native_steps::{KernelSi, decompose};
+use oracle::recorder::{Fit, watched};
 use oracle::{pattern, step};
 
-/// Lines `fit sigma alpha radius count error`, each before its lines `piece sigma coefficient`. With w = 1 a piece's weight is its
+/// Lines `fit sigma alpha radius count error end`, each before its lines `piece sigma coefficient`. With w = 1 a piece's weight is its
 /// coefficient.
 pub fn answers() -> String {
     fits().into_iter().map(|(sigma, alpha, radius, _)| fit(sigma, alpha, radius)).collect()
 }
 
 fn fit(sigma: f64, alpha: f64, radius: f64) -> String {
-    let (pieces, error) = decompose(&[KernelSi { c: [0.0; 3], sigma, w: 1.0, alpha }], radius);
+    let ((pieces, error), pivots) = watched(|| decompose(&[KernelSi { c: [0.0; 3], sigma, w: 1.0, alpha }], radius));
     let arguments = [sigma, alpha, radius].map(|x| format!("{:016x}", x.to_bits())).join(" ");
     let lines: String = pieces.iter().map(|p| format!("piece {:016x} {:016x}\n", pattern(p.sigma), pattern(p.w))).collect();
-    format!("fit {arguments} {} {:016x}\n{lines}", pieces.len(), pattern(error))
+    format!("fit {arguments} {} {:016x}{}\n{lines}", pieces.len(), pattern(error), Fit::of(alpha, &pivots).text())
 }
 
 /// The program's table, three words for each fit.

@@ -1,7 +1,8 @@
 //! Systems of equations: those at 01's limits, refused ones, and one of each size.
 use crate::tables::{INF, NAN, filled, run, table};
 use oracle::original::native_steps::solve;
-use oracle::step;
+use oracle::recorder::{smallest, watched};
+use oracle::{pattern, step};
 
 /// The most cells of a row of the table.
 const CELLS: usize = 12;
@@ -19,15 +20,15 @@ pub fn answers() -> String {
     lines.chain(grown).collect()
 }
 
-/// 01's number, and all words of the room.
+/// 01's number, with the smallest accepted pivot beside 0 and the column of the flat one beside 11, and all words of the room.
 fn solved(n: usize, cells: &[f64], room: usize) -> String {
     let bad = n > 16 || cells.len() != n * (n + 1) || room < n;
     let rows = || cells.chunks(n + 1).map(<[f64]>::to_vec).collect::<Vec<_>>();
-    let answer = if bad { None } else { solve(&mut rows()) };
+    let (answer, pivots) = if bad { (None, vec![]) } else { watched(|| solve(&mut rows())) };
     let no = match (bad, &answer) {
-        (true, _) => 10,
-        (_, None) => 11,
-        _ => 0,
+        (true, _) => "10".into(),
+        (_, None) => format!("11 {}", pivots.len() - 1),
+        _ => format!("0 {:016x}", pattern(smallest(&pivots))),
     };
     format!("{no}{}", run(&answer.unwrap_or_default(), room))
 }

@@ -25,7 +25,7 @@ fn system(timings: &mut Timings) {
     let mut matrix = rows.clone();
     let mut answer = [0.0; 16];
     let ours = timings.way(Way::turns(TURNS, 1, move || {
-        assert_eq!(solve(16, black_box(&cells), &mut answer), 0);
+        assert_eq!(solve(16, black_box(&cells), &mut answer).no, 0);
         answer[15]
     }));
     let platform = timings.way(Way::turns(TURNS, 1, move || {

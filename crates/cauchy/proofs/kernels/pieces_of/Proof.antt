@@ -9,7 +9,8 @@ pieces-of-spec =
     tie.close
     (tie.spec
     (λ c. search needs)
+    (λ c κs. search needs)
     (λ c. search needs)
     (λ c κs. search needs)
-    (λ c. rw (c .before .d .given .1) refl)
+    (λ c. rw (c .before .before .d .given .1, c .fit-of .ensures) refl)
     (λ c. rw (c .before .before .d2 .given .1, c .refusal-number .ensures) refl))

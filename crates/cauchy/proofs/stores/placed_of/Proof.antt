@@ -9,7 +9,8 @@ placed-of-spec =
     tie.close
     (tie.spec
     (λ c. search needs)
+    (λ c κs. search needs)
     (λ c. search needs)
     (λ c κs. search needs)
-    (λ c. rw (c .before .p .given .1) refl)
+    (λ c. rw (c .before .before .p .given .1, c .fit-of .ensures) refl)
     (λ c. rw (c .before .before .p2 .given .1, c .refusal-number .ensures) refl))
