@@ -129,7 +129,7 @@ fn fit(terms: usize, curve: Curve, sigma: f64) -> Pieces
     fit_samples(terms, curve, &us, &targets, sigma)
 }
 
-// The pieces of a kernel on a body of this radius.
+// The pieces of a kernel on a body of this radius: `adaptive_cauchy_decompose` of native density.rs, for one kernel.
 pub fn decompose(k: Kernel, radius: f64) -> Pieces
     ensures { λ r. ⌜ r ≡ decomposed k radius ⌝ }
 {
