@@ -11,7 +11,7 @@ use Rattle.mesh.specs.declared.triangles.Triangle.{Triangle}
 use Rattle.mesh.specs.Vectors.{dot}
 use Rattle.mesh.specs.Triangles.{normalOf}
 use Rattle.mesh.specs.declared.dunavant.Node.{Node}
-use Rattle.mesh.specs.Dunavant.{row, node, pointOf}
+use Rattle.mesh.specs.Dunavant.{node, pointOf}
 use Rattle.volume.specs.Volume.{origin, bodyVolume}
 
 -- what a point y adds to the three sums: ((w·0.25)·(y·y))·n_k
@@ -41,9 +41,3 @@ centred a v = cond (lt volumeLimit (abs v)) (record { x = a .x ⊘ v; y = a .y �
 
 unfoldable pub volumeCentroid : (ℕ → Triangle) → ℕ → V3
 volumeCentroid t n = centred (momentTo t n) (bodyVolume t n)
-
--- ---- for the functions' contracts
-
--- the sums after three points that have one corner's share a, the others b
-unfoldable pub threeMoments : Triangle → V3 → Float → Float → Float → V3 → V3
-threeMoments t n a b w acc = moment t n (row b b a w) (moment t n (row b a b w) (moment t n (row a b b w) acc))

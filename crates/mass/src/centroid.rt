@@ -2,17 +2,10 @@
 ghost use mathlib.Core.Path.{_≡_};
 ghost use lib.ListN.{length};
 ghost use Rattle.mesh.specs.Triangles.{triangleAt, faceCount, Sound};
-ghost use Rattle.mass.specs.Centroid.{moment, threeMoments, faceMoment, momentTo, centred, volumeCentroid};
+ghost use Rattle.mass.specs.Centroid.{moment, faceMoment, momentTo, centred, volumeCentroid};
 use base::floats::abs;
-use mesh::dunavant::INNER_ONE;
-use mesh::dunavant::INNER_TWO;
-use mesh::dunavant::INNER_WEIGHT;
-use mesh::dunavant::MIDDLE_WEIGHT;
 use mesh::dunavant::Node;
-use mesh::dunavant::OUTER_ONE;
-use mesh::dunavant::OUTER_TWO;
-use mesh::dunavant::OUTER_WEIGHT;
-use mesh::dunavant::THIRD;
+use mesh::dunavant::node_at;
 use mesh::dunavant::point_of;
 use mesh::triangles::Triangle;
 use mesh::triangles::normal_of;
@@ -35,35 +28,16 @@ fn moment(acc: V3, t: Triangle, n: V3, k: Node) -> V3
     }
 }
 
-// The sums after the three points that have one corner's share a, the others b.
-fn three_moments(acc: V3, t: Triangle, n: V3, a: f64, b: f64, w: f64) -> V3
-    ensures { λ r. ⌜ r ≡ threeMoments t n a b w acc ⌝ }
-{
-    let first = Node { a, b, c: b, w };
-    let second = Node {
-        a: b,
-        b: a,
-        c: b,
-        w,
-    };
-    let third = Node { a: b, b, c: a, w };
-    moment(moment(moment(acc, t, n, first), t, n, second), t, n, third)
-}
-
 // The sums after one more face.
 fn face_moment(acc: V3, t: Triangle) -> V3
     ensures { λ r. ⌜ r ≡ faceMoment t acc ⌝ }
 {
     let n = normal_of(t);
-    let middle = Node {
-        a: THIRD,
-        b: THIRD,
-        c: THIRD,
-        w: MIDDLE_WEIGHT,
-    };
-    let one = moment(acc, t, n, middle);
-    let four = three_moments(one, t, n, INNER_ONE, INNER_TWO, INNER_WEIGHT);
-    three_moments(four, t, n, OUTER_ONE, OUTER_TWO, OUTER_WEIGHT)
+    let mut acc = acc;
+    for i in 0..7usize {
+        acc = moment(acc, t, n, node_at(i));
+    }
+    acc
 }
 
 // The sums over all faces.

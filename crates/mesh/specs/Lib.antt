@@ -4,3 +4,4 @@ pub mod TriangleLaws
 pub mod Checks
 pub mod CheckLaws
 pub mod Dunavant
+pub mod DunavantRows

@@ -138,7 +138,8 @@ fn fit(terms: usize, curve: Curve, sigma: f64) -> Decomposition
     fit_samples(terms, curve, &us, &targets, sigma)
 }
 
-// The pieces of a kernel on a body of this radius, and how their fit ended.
+// The pieces of a kernel on a body of this radius, `adaptive_cauchy_decompose` of native density.rs for one kernel, and
+// how their fit ended.
 pub fn decompose(k: Kernel, radius: f64) -> Decomposition
     ensures { λ r. ⌜ (r .pieces ≡ decomposed k radius) × (r .fit ≡ fitOf k radius) ⌝ }
 {

@@ -16,7 +16,7 @@ use Rattle.mesh.specs.Vectors.{vsub, dot, norm}
 use Rattle.mesh.specs.Triangles.{triangleAt, faceCount}
 use Rattle.mesh.specs.Checks.{meshCheck}
 use Rattle.mesh.specs.declared.dunavant.Node.{Node}
-use Rattle.mesh.specs.Dunavant.{row, node, pointOf}
+use Rattle.mesh.specs.Dunavant.{node, pointOf}
 use Rattle.radial.specs.Radial.{radialGSeries}
 use Rattle.mesh.specs.Triangles.{normalOf}
 
@@ -77,10 +77,3 @@ enclosedVolume t n = abs (signedVolume t n)
 -- the volume of a mesh given to the call
 unfoldable pub enclosedAnswer : List Float → List ℕ → Answer
 enclosedAnswer xyz faces = answered (meshCheck (length xyz) faces) (enclosedVolume (triangleAt xyz faces) (faceCount faces) ∷ [])
-
--- ---- for the functions' contracts
-
--- the sum after three points that have one corner's share a, the others b
-unfoldable pub threeFluxes : Triangle → V3 → V3 → Float → Float → Float → Float → Float → Float
-threeFluxes t n c sigma a b w total =
-    total ⊕ flux t n c sigma (row a b b w) ⊕ flux t n c sigma (row b a b w) ⊕ flux t n c sigma (row b b a w)

@@ -15,6 +15,7 @@ use mesh::dunavant::OUTER_ONE;
 use mesh::dunavant::OUTER_TWO;
 use mesh::dunavant::OUTER_WEIGHT;
 use mesh::dunavant::THIRD;
+use mesh::dunavant::node_at;
 use mesh::dunavant::point_of;
 use mesh::triangles::Triangle;
 use mesh::vectors::V3;
@@ -93,34 +94,13 @@ fn added(sum: f64, k: Node, i: u32, j: u32) -> f64 {
     sum + k.w * (raised(at.x, i) * raised(at.y, j))
 }
 
-// The sum after the three points that have one corner's share a, the others b.
-fn added_three(sum: f64, a: f64, b: f64, w: f64, i: u32, j: u32) -> f64 {
-    let one = added(sum, Node { a, b, c: b, w }, i, j);
-    let two = added(
-        one,
-        Node {
-            a: b,
-            b: a,
-            c: b,
-            w,
-        },
-        i,
-        j,
-    );
-    added(two, Node { a: b, b, c: a, w }, i, j)
-}
-
 // The rule's moment: what it makes of the mean of x^i·y^j.
 fn moment(i: u32, j: u32) -> f64 {
-    let middle = Node {
-        a: THIRD,
-        b: THIRD,
-        c: THIRD,
-        w: MIDDLE_WEIGHT,
-    };
-    let one = added(0.0, middle, i, j);
-    let four = added_three(one, INNER_ONE, INNER_TWO, INNER_WEIGHT, i, j);
-    added_three(four, OUTER_ONE, OUTER_TWO, OUTER_WEIGHT, i, j)
+    let mut sum = 0.0;
+    for row in 0..7usize {
+        sum = added(sum, node_at(row), i, j);
+    }
+    sum
 }
 
 // Writes a moment beside the exact mean, 2·i!·j!/(i+j+2)!, and whether they differ by at most 1e-15.

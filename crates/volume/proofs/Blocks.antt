@@ -1,74 +1,77 @@
 -- A block's values stand where they were written, and its 28 shares are the four faces' fluxes. Assumes nothing.
 use mathlib.Core.Path.{_≡_, refl, _∙_, subst⁻¹}
-use mathlib.Core.List.{List, [], _∷_, map}
+use mathlib.Core.List.{List}
 use mathlib.Core.Logic.{inl, inr}
 use Prim.Native.Nat.{ℕ, zero, suc, _+_, _*_, _-_, _≤_, _<_}
-use native.Mathlib.Nat.{add-zero, add-assoc, eq-or-lt-of-le, ne-of-lt, not-suc-le-zero, le-of-suc-le-suc}
+use native.Mathlib.Nat.{zero-add, add-zero, eq-or-lt-of-le, not-suc-le-zero, le-of-suc-le-suc}
 use native.Mathlib.Numerals.{add-one, add-two, add-three}
 use native.Mathlib.Omega.{arith}
 use lib.Ieee.{Float, nan}
 use lib.ListN.{length, getD, set, length-set}
-use lib.Seq.{sets, length-sets, getD-set-same, getD-set-other}
+use lib.Seq.{getD-set-same, getD-set-other}
 use Rattle.base.specs.Floats.{_⊕_}
 use Rattle.base.specs.Loops.{times}
-use Rattle.base.specs.LoopLaws.{same-from}
+use Rattle.base.specs.LoopLaws.{same-from, times-suc}
 use Rattle.mesh.specs.declared.vectors.V3.{V3}
 use Rattle.mesh.specs.declared.triangles.Triangle.{Triangle}
 use Rattle.mesh.specs.Vectors.{norm}
 use Rattle.lanes.specs.Factors.{Each, factor}
 use Rattle.mesh.specs.declared.dunavant.Node.{Node}
-use Rattle.mesh.specs.Dunavant.{dunant7, node, middleWeight, innerWeight, outerWeight}
+use Rattle.mesh.specs.Dunavant.{node}
 use Rattle.volume.specs.Volume.{flux, fluxStep, faceSum, volumeFrom}
 use Rattle.volume.specs.Laws.{volume-more}
-use Rattle.volume.specs.Block.{squareOf, heightOf, squaresOf, heightsOf, Points, shareOf, shareStep, threeShares, sevenShares, allShares}
+use Rattle.volume.specs.Block.{squareOf, heightOf, setAt, sevenSet, squaresOf, heightsOf, Points, shareStep, sevenShares, allShares}
 
--- ---- elements stored one after another
+-- ---- a face's elements, stored one after another
 
-module _ {A : Type 0} where
+module _ (v : Node → Float) (at : ℕ) (xs : List Float) where
+  -- the list once n of them are stored
+  abbrev stored : ℕ → List Float
+  stored n = times (setAt v at) n 0 xs
+
+  one-more : (n : ℕ) → stored (suc n) ≡ set (stored n) (at + n) (v (node n))
+  one-more n = rw zero-add at (times-suc (setAt v at) n 0 xs)
+
+  stored-length : (n : ℕ) → length (stored n) ≡ length xs
+  unfolding times
+  stored-length zero = refl
+  stored-length (suc n) = rw (one-more n, length-set) (stored-length n)
+
   -- an element before them stays
-  sets-before : (vs l : List A) (i j : ℕ) (d : A) → j < i → getD (sets l i vs) j d ≡ getD l j d
-  sets-before [] l i j d h = refl
-  sets-before (v ∷ vs) l i j d h = sets-before vs (set l i v) (suc i) j d (omega arith) ∙ getD-set-other l i j v d (ne-of-lt h)
+  stored-before : (n j : ℕ) → j < at → getD (stored n) j nan ≡ getD xs j nan
+  unfolding times
+  stored-before zero j h = refl
+  stored-before (suc n) j h =
+      rw (one-more n)
+      (getD-set-other (stored n) (at + n) j (v (node n)) nan (λ e. omega (arith, e)) ∙ stored-before n j h)
 
   -- an element among them is the one stored
-  sets-among : (vs l : List A) (i k : ℕ) (d : A) → i + length vs ≤ length l → k < length vs → getD (sets l i vs) (i + k) d ≡ getD vs k d
-  sets-among [] l i k d h m = absurd (not-suc-le-zero m)
-  sets-among (v ∷ vs) l i zero d h m =
-      rw (add-zero) (sets-before vs (set l i v) (suc i) i d (omega arith) ∙ getD-set-same l i v d (omega arith))
-  sets-among (v ∷ vs) l i (suc k) d h m =
-      let e : i + suc k ≡ suc i + k = omega arith in
-      rw e (sets-among vs (set l i v) (suc i) k d (rw length-set (omega arith)) (le-of-suc-le-suc m))
-
--- ---- a face's elements, by its nodes
-
-map-at : {A B : Type 0} (f : A → B) (l : List A) (k : ℕ) (d : A) (e : B) → k < length l → getD (map f l) k e ≡ f (getD l k d)
-map-at f [] k d e h = absurd (not-suc-le-zero h)
-map-at f (x ∷ l) zero d e h = refl
-map-at f (x ∷ l) (suc k) d e h = map-at f l k d e (le-of-suc-le-suc h)
+  stored-among : (n k : ℕ) → at + n ≤ length xs → k < n → getD (stored n) (at + k) nan ≡ v (node k)
+  stored-among zero k h m = absurd (not-suc-le-zero m)
+  stored-among (suc n) k h m = rw (one-more n) (elim (eq-or-lt-of-le (le-of-suc-le-suc m)) [
+    | inl e ↦ rw e (getD-set-same (stored n) (at + n) (v (node n)) nan (rw (stored-length n) (omega arith)))
+    | inr l ↦
+        getD-set-other (stored n) (at + n) (at + k) (v (node n)) nan (λ e. omega (arith, e, l))
+        ∙ stored-among n k (omega arith) l
+  ])
 
 module _ {v : ℕ → Node → Float} where
   pub no-points : {xs : List Float} → length xs ≡ 28 → Points v 0 xs
   no-points e = record { long = e; at = λ j k h m. absurd (omega arith) }
 
-  pub more-points : {n : ℕ} {xs ys : List Float} → Points v n xs → n < 4 → ys ≡ sets xs (7 * n) (map (v n) dunant7) → Points v (n + 1) ys
-  more-points {n} {xs} p h e = subst⁻¹ (Points v (n + 1)) e (record { long = length-sets xs (7 * n) new ∙ p .long; at = λ j k l m. here j k (omega arith) m })
+  pub more-points : {n : ℕ} {xs ys : List Float} → Points v n xs → n < 4 → ys ≡ sevenSet (v n) (7 * n) xs → Points v (n + 1) ys
+  unfolding sevenSet
+  more-points {n} {xs} p h e =
+      subst⁻¹ (Points v (n + 1)) e
+      (record { long = stored-length (v n) (7 * n) xs 7 ∙ p .long; at = λ j k l m. here j k (omega arith) m })
     where
-      new : List Float
-      new = map (v n) dunant7
-
-      here : (j k : ℕ) → j ≤ n → k < 7 → getD (sets xs (7 * n) new) (7 * j + k) nan ≡ v j (node k)
+      here : (j k : ℕ) → j ≤ n → k < 7 → getD (stored (v n) (7 * n) xs 7) (7 * j + k) nan ≡ v j (node k)
       here j k l m = elim (eq-or-lt-of-le l) [
-        | inl e ↦ rw e (sets-among new xs (7 * n) k nan (omega (arith, p .long)) m ∙ map-at (v n) dunant7 k (node 0) nan m)
-        | inr g ↦ sets-before new xs (7 * n) (7 * j + k) nan (omega arith) ∙ p .at j k g m
+        | inl e ↦ rw e (stored-among (v n) (7 * n) xs 7 k (omega (arith, p .long)) m)
+        | inr g ↦ stored-before (v n) (7 * n) xs 7 (7 * j + k) (omega arith) ∙ p .at j k g m
       ]
 
 -- ---- the shares
-
-module _ (g heights : List Float) where
-  pub seven-shares : (at : ℕ) (sum : Float)
-      → threeShares g heights outerWeight (at + 4) (threeShares g heights innerWeight (at + 1) (sum ⊕ shareOf middleWeight g heights at)) ≡ sevenShares g heights at sum
-  unfolding threeShares sevenShares times
-  seven-shares at sum = simp (add-assoc, add-zero)
 
 -- a face's shares are what `faceSum` adds
 module _ (t : ℕ → Triangle) (c : V3) (sigma : Float) (f : ℕ) {x g heights : List Float}

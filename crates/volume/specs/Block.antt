@@ -1,8 +1,8 @@
 -- 01, "Volume, mass, weights", four faces at once: what stands for their 28 points, face after face, and their sum. For the functions' contracts. Definitions only.
 use Prim.Native.Nat.{ℕ, _+_, _*_, _<_}
 use mathlib.Core.Path.{_≡_}
-use mathlib.Core.List.{List, [], _∷_}
-use lib.ListN.{getD, length}
+use mathlib.Core.List.{List}
+use lib.ListN.{getD, length, set}
 use lib.Ieee.{Float, nan}
 use Rattle.base.specs.Floats.{_⊕_, _⊗_}
 use Rattle.base.specs.Constants.{half}
@@ -12,7 +12,7 @@ use Rattle.mesh.specs.declared.triangles.Triangle.{Triangle}
 use Rattle.mesh.specs.Vectors.{vsub, dot}
 use Rattle.mesh.specs.Triangles.{normalOf}
 use Rattle.mesh.specs.declared.dunavant.Node.{Node}
-use Rattle.mesh.specs.Dunavant.{row, node, pointOf}
+use Rattle.mesh.specs.Dunavant.{node, pointOf}
 
 -- of a point y: |y - c|²
 unfoldable pub squareOf : Triangle → V3 → Node → Float
@@ -22,9 +22,12 @@ squareOf t c k = let d = vsub (pointOf t k) c in dot d d
 unfoldable pub heightOf : Triangle → V3 → V3 → Node → Float
 heightOf t n c k = dot (vsub (pointOf t k) c) n
 
--- the rows that have one corner's share a, the others b
-abbrev pub threeRows : Float → Float → Float → List Node
-threeRows a b w = row a b b w ∷ row b a b w ∷ row b b a w ∷ []
+-- a list with v of a face's seven points in place of its elements from `at` on
+abbrev pub setAt : (Node → Float) → ℕ → ℕ → List Float → List Float
+setAt v at k xs = set xs (at + k) (v (node k))
+
+unfoldable pub sevenSet : (Node → Float) → ℕ → List Float → List Float
+sevenSet v at xs = times (setAt v at) 7 0 xs
 
 -- both of face j of a block, which is face f + j of the mesh
 abbrev pub squaresOf : (ℕ → Triangle) → V3 → ℕ → ℕ → Node → Float
@@ -52,7 +55,3 @@ sevenShares g heights at sum = times (shareStep g heights at) 7 0 sum
 -- the sum after all 28
 unfoldable pub allShares : List Float → List Float → Float → Float
 allShares g heights sum = times (λ j s. sevenShares g heights (7 * j) s) 4 0 sum
-
--- the sum after three points of one weight
-unfoldable pub threeShares : List Float → List Float → Float → ℕ → Float → Float
-threeShares g heights w at sum = sum ⊕ shareOf w g heights at ⊕ shareOf w g heights (at + 1) ⊕ shareOf w g heights (at + 2)

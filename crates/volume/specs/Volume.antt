@@ -10,7 +10,7 @@ use Rattle.mesh.specs.declared.triangles.Triangle.{Triangle}
 use Rattle.mesh.specs.Vectors.{vsub, dot, norm}
 use Rattle.mesh.specs.Triangles.{normalOf}
 use Rattle.mesh.specs.declared.dunavant.Node.{Node}
-use Rattle.mesh.specs.Dunavant.{row, node, pointOf}
+use Rattle.mesh.specs.Dunavant.{node, pointOf}
 use Rattle.radial.specs.Radial.{radialG}
 
 -- what a point y adds: w·g(sigma·|y - c|)·((y - c)·n)·0.5
@@ -45,11 +45,6 @@ abbrev pub bodyVolume : (ℕ → Triangle) → ℕ → Float
 bodyVolume t n = kernelVolume t n origin +0
 
 -- ---- for the functions' contracts
-
--- the sum after three points that have one corner's share a, the others b
-unfoldable pub threeFluxes : Triangle → V3 → V3 → Float → Float → Float → Float → Float → Float
-threeFluxes t n c sigma a b w sum =
-    sum ⊕ flux t n c sigma (row a b b w) ⊕ flux t n c sigma (row b a b w) ⊕ flux t n c sigma (row b b a w)
 
 -- the sum after the faces from `from` up to `to`
 unfoldable pub volumeFrom : (ℕ → Triangle) → V3 → Float → ℕ → ℕ → Float → Float

@@ -4,19 +4,12 @@ ghost use Prim.Native.Nat.{_*_, _≤_};
 ghost use lib.ListN.{length};
 ghost use Rattle.base.specs.ZeroLaws.{minusZero};
 ghost use Rattle.mesh.specs.Triangles.{triangleAt, faceCount, Sound};
-ghost use Rattle.volume.specs.Volume.{flux, threeFluxes, faceSum, volumeFrom, kernelVolume, bodyVolume};
+ghost use Rattle.volume.specs.Volume.{flux, faceSum, volumeFrom, kernelVolume, bodyVolume};
 use crate::block::volume_blocks;
 use base::floats::abs;
 use base::floats::is_negative;
-use mesh::dunavant::INNER_ONE;
-use mesh::dunavant::INNER_TWO;
-use mesh::dunavant::INNER_WEIGHT;
-use mesh::dunavant::MIDDLE_WEIGHT;
 use mesh::dunavant::Node;
-use mesh::dunavant::OUTER_ONE;
-use mesh::dunavant::OUTER_TWO;
-use mesh::dunavant::OUTER_WEIGHT;
-use mesh::dunavant::THIRD;
+use mesh::dunavant::node_at;
 use mesh::dunavant::point_of;
 use mesh::triangles::Triangle;
 use mesh::triangles::normal_of;
@@ -42,37 +35,16 @@ fn flux(t: Triangle, n: V3, c: V3, sigma: f64, k: Node) -> f64
     k.w * radial_g(sigma * norm(d)) * dot(d, n) * 0.5
 }
 
-// The sum after the three points that have one corner's share a, the others b.
-fn three_fluxes(sum: f64, t: Triangle, n: V3, c: V3, sigma: f64, a: f64, b: f64, w: f64) -> f64
-    ensures { λ r. ⌜ r ≡ threeFluxes t n c sigma a b w sum ⌝ }
-{
-    let first = Node { a, b, c: b, w };
-    let second = Node {
-        a: b,
-        b: a,
-        c: b,
-        w,
-    };
-    let third = Node { a: b, b, c: a, w };
-    let one = sum + flux(t, n, c, sigma, first);
-    let two = one + flux(t, n, c, sigma, second);
-    two + flux(t, n, c, sigma, third)
-}
-
 // The sum after one more face: seven additions.
 pub fn face_sum(sum: f64, t: Triangle, c: V3, sigma: f64) -> f64
     ensures { λ r. ⌜ r ≡ faceSum t c sigma sum ⌝ }
 {
     let n = normal_of(t);
-    let middle = Node {
-        a: THIRD,
-        b: THIRD,
-        c: THIRD,
-        w: MIDDLE_WEIGHT,
-    };
-    let one = sum + flux(t, n, c, sigma, middle);
-    let four = three_fluxes(one, t, n, c, sigma, INNER_ONE, INNER_TWO, INNER_WEIGHT);
-    three_fluxes(four, t, n, c, sigma, OUTER_ONE, OUTER_TWO, OUTER_WEIGHT)
+    let mut sum = sum;
+    for i in 0..7usize {
+        sum += flux(t, n, c, sigma, node_at(i));
+    }
+    sum
 }
 
 // The sum after the faces from `from` up to `to`, face by face.

@@ -19,7 +19,7 @@ loop-again : tie.Need-loop-again Inv-loop μ-loop
 loop-again c =
     let t = c .before .before .before .triangle-at .ensures in
     let i = c .before .before .before .before .before .loop .inv in
-    (search needs, more-points (i .1) (search needs) (rw (← t) (c .face-points .ensures .0)), more-points (i .2) (search needs) (rw (← t) (c .face-points .ensures .1)))
+    (search needs, more-points (i .1) (search needs) (rw t at (c .face-points .ensures .0)), more-points (i .2) (search needs) (rw t at (c .face-points .ensures .1)))
 
 returns : tie.Need-returns Inv-loop μ-loop
 returns c =

@@ -1,12 +1,13 @@
--- `volume::block::volume_blocks` meets its contract: after i turns the sum is that of i blocks. Assumes nothing.
+-- `volume::block::volume_blocks` meets its contract: after i turns the sum is that of i blocks, and a turn is 28 points,
+-- their factors, 28 additions. Assumes nothing.
 use borrow.Author.Needs.{needs}
 use Prim.Native.Nat.{_+_, _*_, _-_, _≤_}
-use mathlib.Core.Path.{_≡_, sym}
+use mathlib.Core.Path.{_≡_, sym, _∙_}
 use native.Mathlib.Omega.{arith}
 use lib.ListN.{length}
 use Rattle.mesh.specs.Triangles.{triangleAt}
 use Rattle.volume.specs.Volume.{volumeFrom}
-use Rattle.volume.proofs.Blocks.{no-block, one-block}
+use Rattle.volume.proofs.Blocks.{four-faces, no-block, one-block}
 use Rattle.volume.proofs.block.volume_blocks.Statement.{statement}
 use Rattle.volume.proofs.block.volume_blocks.Tie as tie
 
@@ -22,11 +23,26 @@ loop-holds c =
     let a = c .before .before .args in
     (search needs, sym (no-block (triangleAt (a .xyz .now) (a .faces .now)) (a .c) (a .sigma) (a .from) (a .sum)), search needs, search needs)
 
+points-requires : tie.Need-points-requires Inv-loop μ-loop
+points-requires c κs =
+    let l = c .before .before .before in
+    (l .before .before .before .pre .0, (search needs, l .loop .inv .2, l .loop .inv .3))
+
 loop-again : tie.Need-loop-again Inv-loop μ-loop
 loop-again c =
-    let l = c .before .before .before .before .before .before .before .before .before .before in
+    let f = c .before .before .before in
+    let p = f .before .before .before .before .before .before .before .before in
+    let l = p .before .before .before .before in
     let a = l .before .before .before .args in
-    (search needs, one-block (triangleAt (a .xyz .now) (a .faces .now)) (a .c) (a .sigma) (a .from) (l .loop .i) (a .sum) (l .loop .inv .1) (c .block .ensures .0), c .block .ensures .1 .0, c .block .ensures .1 .1)
+    let t = triangleAt (a .xyz .now) (a .faces .now) in
+    let e = p .points .ensures in
+    let k = a .from + 4 * l .loop .i in (
+      search needs,
+      one-block t (a .c) (a .sigma) (a .from) (l .loop .i) (a .sum) (l .loop .inv .1)
+          (c .all-shares .ensures ∙ four-faces t (a .c) (a .sigma) k (e .0) (f .factors .ensures) (e .1) _),
+      e .0 .long,
+      e .1 .long,
+    )
 
 returns : tie.Need-returns Inv-loop μ-loop
 returns c =
@@ -43,7 +59,9 @@ volume-blocks-spec =
     loop-holds
     (λ c. search needs)
     (λ c. search needs)
-    (λ c κs. let l = c .before .before .before .before .before .before .before .before .before in (l .before .before .before .pre .0, (search needs, l .loop .inv .2, l .loop .inv .3)))
+    points-requires
+    (λ c κs. search needs)
+    (λ c κs. search needs)
     (λ c. search needs)
     (λ c. search needs)
     loop-again
