@@ -6,7 +6,7 @@ ghost use Prim.Native.Nat.{_≤_};
 ghost use lib.ListN.{length};
 ghost use Rattle.closed.specs.Order.{Within};
 use crate::arrange::order;
-use crate::gather::put_face;
+use crate::gather::put_at;
 use crate::ranges::push;
 
 // The numbers of every 103rd face, put into words; answers how many there are.
@@ -15,13 +15,10 @@ fn sample(corners: &[u32], words: &mut [u64]) -> usize
     ensures { λ r. ⌜ (r ≤ 61440) × (length (now (words .exit)) ≡ 61440) × Within 0 2199023255552 (now (words .exit)) r ⌝ }
 {
     let mut n: usize = 0;
-    let mut i: usize = 0;
-    while i + 2 < corners.len() {
-        let x = corners[i];
-        let y = corners[i + 1];
-        let z = corners[i + 2];
-        n = put_face(words, n, x, y, z, 0, 2_199_023_255_552);
-        i += 309;
+    let mut face: usize = 0;
+    while 3 * face + 2 < corners.len() {
+        n = put_at(corners, face, words, n, 0, 1_099_511_627_776);
+        face += 103;
     }
     n
 }

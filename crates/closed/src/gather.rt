@@ -37,13 +37,32 @@ fn put(words: &mut [u64], n: usize, x: u64, low: u64, end: u64) -> usize
 }
 
 // The numbers of a face, put one after the other.
-pub fn put_face(words: &mut [u64], n: usize, x: u32, y: u32, z: u32, low: u64, end: u64) -> usize
+fn put_face(words: &mut [u64], n: usize, x: u32, y: u32, z: u32, low: u64, end: u64) -> usize
     requires { ⌜ n + 3 ≤ length (now words) ⌝ }
     ensures { λ r. ⌜ Faced low end x y z (now (words .entry)) n (now (words .exit)) r ⌝ }
 {
     let a = put(words, n, code(x, y), low, end);
     let b = put(words, a, code(y, z), low, end);
     put(words, b, code(z, x), low, end)
+}
+
+// The numbers 2k or 2k + 1 of a face, with k one of low .. end - 1, put after n words; answers how many words count.
+pub fn put_at(
+    corners: &[u32],
+    face: usize,
+    words: &mut [u64],
+    n: usize,
+    low: u64,
+    end: u64,
+) -> usize
+    requires { ⌜ (3 * face + 3 ≤ length (now corners)) × (length (now corners) ≤ 6291456) × (n + 3 ≤ length (now words)) × (low ≤ 1099511627776) × (end ≤ 1099511627776) ⌝ }
+    ensures { λ r. ⌜ Faced (2 * low) (2 * end) (getD (now (corners .entry)) (3 * face) 0) (getD (now (corners .entry)) (3 * face + 1) 0) (getD (now (corners .entry)) (3 * face + 2) 0) (now (words .entry)) n (now (words .exit)) r ⌝ }
+{
+    let i = 3 * face;
+    let x = corners[i];
+    let y = corners[i + 1];
+    let z = corners[i + 2];
+    put_face(words, n, x, y, z, 2 * low, 2 * end)
 }
 
 // How many of the first n words, which are in order, are below `end`.
@@ -91,20 +110,8 @@ fn make_room(
     halve(low, batch, words, ends)
 }
 
-// The numbers of a face that are those of the range low .. end - 1, put after n words.
-fn put_at(corners: &[u32], face: usize, words: &mut [u64], n: usize, low: u64, end: u64) -> usize
-    requires { ⌜ (3 * face + 3 ≤ length (now corners)) × (length (now corners) ≤ 6291456) × (n + 3 ≤ length (now words)) × (low ≤ 1099511627776) × (end ≤ 1099511627776) ⌝ }
-    ensures { λ r. ⌜ Faced (2 * low) (2 * end) (getD (now (corners .entry)) (3 * face) 0) (getD (now (corners .entry)) (3 * face + 1) 0) (getD (now (corners .entry)) (3 * face + 2) 0) (now (words .entry)) n (now (words .exit)) r ⌝ }
-{
-    let i = 3 * face;
-    let x = corners[i];
-    let y = corners[i + 1];
-    let z = corners[i + 2];
-    put_face(words, n, x, y, z, 2 * low, 2 * end)
-}
-
-// The numbers of up to 256 faces, added to a batch. Only faces that have a corner near the batch's range are looked
-// into, and they are listed first.
+// The numbers of up to 256 faces, added to a batch. Faces of which no corner is near the batch's range are passed over:
+// the others are listed first.
 fn take_stretch(
     corners: &[u32],
     from: usize,

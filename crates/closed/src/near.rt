@@ -1,6 +1,6 @@
-// Of a stretch of faces, those that have a corner near a range of numbers. Blocks of 8 faces are looked at first, then
-// the faces of the blocks that are left. Each is put on its list, and counts where it is near: so the processor has no
-// branch to guess, which in a mesh without order it would guess wrong once a block.
+// Of a stretch of faces, those that have a corner near a range of numbers: first the blocks of 8 faces that have one,
+// then the faces of these blocks. Each is put on its list and counts where it is near, so that no branch depends on it:
+// in a mesh without order the processor would guess such a branch wrong time and again.
 // Internal: a function with a `requires` is called by proved code alone.
 ghost use mathlib.Core.Path.{_≡_};
 ghost use mathlib.Core.Bool.{false, cond};
@@ -8,7 +8,8 @@ ghost use Prim.Native.Nat.{ℕ, _+_, _*_, _≤_, _<_};
 ghost use lib.ListN.{length};
 ghost use Rattle.closed.specs.Held.{NoneWithin, Listed};
 
-// Whether one of the n corners from i on is one of first .. last: the difference from the first wraps for a corner below.
+// Whether one of the n corners from i on is one of first .. last. The difference from the first wraps for a lesser
+// corner, so that one comparison is enough.
 fn any_within(corners: &[u32], i: usize, n: usize, first: u32, last: u32) -> bool
     requires { ⌜ i + n ≤ length (now corners) ⌝ }
     ensures { λ r. ⌜ (r ≡ false → NoneWithin (now (corners .entry)) first last i (i + n)) ⌝ }
@@ -32,7 +33,8 @@ fn more(m: usize, one: bool) -> usize
     if one { m + 1 } else { m }
 }
 
-// The first faces of the near ones among so many blocks of 8 faces, listed; answers how many there are.
+// Of so many blocks of 8 faces, those that have a corner among first .. last, listed by their first faces; answers how
+// many these are.
 fn near_blocks(
     corners: &[u32],
     from: usize,
@@ -56,7 +58,7 @@ fn near_blocks(
     m
 }
 
-// The near ones among so many faces, added to a list of m; answers how many it then has.
+// Of so many faces, those that have a corner among first .. last, added to a list of m; answers how many it then has.
 fn near_faces(
     corners: &[u32],
     from: usize,
@@ -81,7 +83,7 @@ fn near_faces(
     n
 }
 
-// The faces that have a corner among first .. last, of so many from face `from` on, listed; answers how many there are.
+// Of up to 256 faces, those that have a corner among first .. last, listed; answers how many these are.
 pub fn list_near(
     corners: &[u32],
     from: usize,

@@ -10,15 +10,15 @@ use Rattle.closed.proofs.divide.sample.Statement.{statement}
 use Rattle.closed.proofs.divide.sample.Tie as tie
 
 abbrev Inv-loop : tie.InvT-loop
-Inv-loop corners words₀ n₀ i₀ words n i = (103 * n ≤ i) × (i ≤ length corners + 309) × (length words ≡ 61440) × Within 0 2199023255552 words n
+Inv-loop corners words₀ n₀ face₀ words n face = (103 * n ≤ 3 * face) × (3 * face ≤ length corners + 309) × (length words ≡ 61440) × Within 0 2199023255552 words n
 
 abbrev μ-loop : tie.MeasureT-loop
-μ-loop corners words₀ n₀ i₀ words n i = length corners + 309 - i
+μ-loop corners words₀ n₀ face₀ words n face = length corners + 309 - 3 * face
 
 loop-again : tie.Need-loop-again Inv-loop μ-loop
 loop-again c =
-    let l = c .before .before .before .before .before .before .before .before .loop in
-    let f = c .before .before .put-face .ensures in
+    let l = c .before .before .before .before .before .loop in
+    let f = c .before .before .put-at .ensures in
     (omega (arith, f .more), omega arith, f .long ∙ l .inv .2, f .within (l .inv .3))
 
 pub sample-spec : {M : Type 1} → statement M
@@ -28,13 +28,6 @@ sample-spec =
     Inv-loop
     μ-loop
     (λ c. (omega arith, omega arith, search needs, all-none (omega arith)))
-    (λ c. search needs)
-    (λ c. search needs)
-    (λ c. search needs)
-    (λ c. search needs)
-    (λ c. search needs)
-    (λ c. search needs)
-    (λ c. search needs)
     (λ c. search needs)
     (λ c. search needs)
     (λ c κs. search needs)
