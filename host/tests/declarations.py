@@ -1,7 +1,8 @@
 """Holds the declarations of the C interface to each other: include/cauchy.h, src/sys.rs with the types that the crate
 shows, and the exported functions of crates/cauchy. Compared are, for every function, the names, types and order of
 its arguments and its answer; for every struct, the names, types and order of its fields; the numbers of the
-refusals, and their words in Rust and C. The first difference is told. Then each of EDITS is made to the texts in
+refusals, and their words in Rust and C; the sizes and offsets of a store. (Python is held to the header and to the
+crate by python/tests/test_header.py.) The first difference is told. Then each of EDITS is made to the texts in
 memory and must be told too. Only the standard library is needed."""
 import re
 import sys
@@ -14,6 +15,8 @@ TYPES = {"f64": "double", "u32": "uint32_t", "u64": "uint64_t", "usize": "size_t
 RATTLE_TYPES = {"V3": "Vector"}
 # Arguments that have another name in Rattle, in every function or in one.
 RATTLE_NAMES = {"k": "kernel", "default": "default_alpha", "cauchy_store_page.out": "page"}
+# A refusal that has another name in Rattle.
+RATTLE_REFUSALS = {"Unclosed": "NotClosed"}
 
 
 class Difference(Exception):
@@ -126,6 +129,38 @@ def same_refusals(ours, of_host, rust, words_in_c):
         need(words == said_in_c[name], f"{name}: refusal.rs says '{words}', cauchy_host.c '{said_in_c[name]}'")
 
 
+def same_numbers(ours, rattle):
+    """The refusals' numbers of cauchy.h and of the library. The program's own is none of the C functions'."""
+    names = {}
+    for name, number in re.findall(r"Refusal::(\w+) => (\d+),", rattle):
+        name = RATTLE_REFUSALS.get(name, name)
+        names["CAUCHY_" + re.sub(r"(?<=[a-z])(?=[A-Z])", "_", name).upper()] = int(number)
+    del names["CAUCHY_BAD_LINE"]
+    same_names("refusal", set(ours) - {"CAUCHY_ACCEPTED"}, "crates/base", names)
+    for name, number in names.items():
+        need(ours[name] == number, f"{name}: cauchy.h has {ours[name]}, crates/base {number}")
+
+
+# What the library calls a size of the store, and what Rust's crate does.
+SIZES = {
+    "PLACES": "PLACES", "KERNEL": "KERNELS_AT", "KERNEL_SIZE": "KERNEL_FLOATS", "COORDS": "FLOATS_BEFORE_MESH",
+    "STATE": "STATES_AT", "WIDTH": "STATE_WORDS", "CORNERS": "WORDS_BEFORE_MESH",
+}
+
+
+def same_sizes(text, sizes, rattle, rust):
+    """A store's sizes and offsets: the library's, the header's and Rust's."""
+    constants = re.compile(r"const (\w+): \w+ = (\d+);")
+    library, crate = ({name: int(number) for name, number in constants.findall(one)} for one in (rattle, rust))
+    before = dict(re.findall(r"#define CAUCHY_STORE_(\w+)\(\w\) \(\(size_t\)(\d+) ", text))
+    in_header = {"PLACES": sizes["CAUCHY_PLACES"], "PIECES": sizes["CAUCHY_MAX_PIECES"]}
+    in_header.update(COORDS=int(before["FLOATS"]), CORNERS=int(before["WORDS"]))
+    in_rust = {name: crate[theirs] for name, theirs in SIZES.items()}
+    for there, found in (("cauchy.h", in_header), ("store.rs", in_rust)):
+        for name, number in found.items():
+            need(library.get(name) == number, f"{name}: the library has {library.get(name)}, {there} {number}")
+
+
 def may_refuse(answer, structs):
     return answer == "uint32_t" or (answer in structs and structs[answer][0] == ("no", "uint32_t"))
 
@@ -133,9 +168,10 @@ def may_refuse(answer, structs):
 def texts(root):
     """All texts that declare something, by their names."""
     host = ["include/cauchy.h", "include/cauchy_host.h", "c/cauchy_host.c"]
-    host += [f"src/{name}.rs" for name in ("sys", "kernel", "report", "refusal")]
+    host += [f"src/{name}.rs" for name in ("sys", "kernel", "report", "refusal", "store")]
     paths = [root / "host" / name for name in host] + sorted((root / "crates/cauchy/src").glob("*.rt"))
     others = ("kernel/src/kernel.rt", "mesh/src/vectors.rt", "density/src/report.rt")
+    others += ("base/src/refusal.rt", "layout/src/offsets.rt")
     paths += [root / "crates" / name for name in others]
     return {path.relative_to(root).as_posix(): path.read_text(encoding="utf-8") for path in paths}
 
@@ -151,6 +187,10 @@ def compare(has):
     same_structs(structs, "crates/cauchy", rust_structs(rattle))
     (refusals,) = [names for names in enums if "CAUCHY_ACCEPTED" in names]
     same_refusals(refusals, host_enums[0], has["host/src/refusal.rs"], has["host/c/cauchy_host.c"])
+    same_numbers(refusals, has["crates/base/src/refusal.rt"])
+    (sizes,) = [names for names in enums if "CAUCHY_PLACES" in names]
+    offsets, crate = has["crates/layout/src/offsets.rt"], has["host/src/store.rs"]
+    same_sizes(has["host/include/cauchy.h"], sizes, offsets, crate)
     for name, (_, answer) in functions.items():
         marked = name in must_use
         need(marked == may_refuse(answer, structs), f"{name}: CAUCHY_MUST_USE goes with an answer that may refuse")
@@ -185,6 +225,10 @@ EDITS = [
     ("host/include/cauchy.h", "CAUCHY_VACANT = 7", "CAUCHY_VACANT = 13", "CAUCHY_VACANT"),
     ("host/include/cauchy.h", "CAUCHY_MUST_USE\nCauchyTrack", "CauchyTrack", "cauchy_store_track: CAUCHY_MUST_USE"),
     ("host/c/cauchy_host.c", "vacant: the place", "vacant: a place", "CAUCHY_VACANT"),
+    ("crates/base/src/refusal.rt", "Refusal::NoPlace => 6", "Refusal::NoPlace => 7", "CAUCHY_NO_PLACE"),
+    ("crates/layout/src/offsets.rt", "COORDS: usize = 1761", "COORDS: usize = 1762", "COORDS"),
+    ("host/include/cauchy.h", "((size_t)1761", "((size_t)1760", "COORDS"),
+    ("host/src/store.rs", "KERNEL_FLOATS: usize = 7", "KERNEL_FLOATS: usize = 6", "KERNEL_SIZE"),
     ("crates/cauchy/src/stores.rt", "pub verts: u32,\n    pub faces: u32,",
      "pub faces: u32,\n    pub verts: u32,", "CauchyOpened, field 2"),
     ("crates/cauchy/src/volumes.rt", "c: V3, sigma: f64", "sigma: f64, c: V3", "cauchy_kernel_volume, argument 5"),

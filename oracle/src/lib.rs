@@ -33,9 +33,19 @@ pub mod text;
 pub mod volumes;
 
 /// What a comparison with the original's text says where its files are not there.
-#[cfg(not(original))]
 pub const SKIPPED: &str =
     concat!("comparison with the original's text skipped: ", env!("CAUCHY_RUST_SRC_USED"), " is not there (CAUCHY_RUST_SRC names it)");
+
+/// Does what needs the original's text; where its files are not there, says that it is skipped.
+#[macro_export]
+macro_rules! by_original {
+    ($work:expr) => {
+        #[cfg(original)]
+        $work;
+        #[cfg(not(original))]
+        println!("{}", $crate::SKIPPED);
+    };
+}
 
 // What the archive exports. Plain numbers in, plain numbers out, any bits allowed: safe to call.
 unsafe extern "C" {

@@ -71,28 +71,34 @@ struct Fed {
     said: bool,
 }
 
-// The first `n` bytes of a chunk, each answer written where its line ends. After an answer that was not written none is. What is held is
-// what some bytes left of the store of zeros, and stays so.
+// The first `n` bytes of a chunk, each answer written where its line ends. After an answer that was not written none is.
+// What is held is what some bytes left of the store of zeros, and stays so.
 fn feed_chunk(
     st: State,
     chunk: &[u8; 4096],
     n: usize,
     line: &mut [u8; 256],
-    f: &mut [f64; 3261],
-    w: &mut [u32; 3098],
+    floats: &mut [f64; 3261],
+    words: &mut [u32; 3098],
     coords: &mut [f64; 1500],
     corners: &mut [u32; 3000],
     out: &mut [u8; 512],
 ) -> Fed
     requires { ⌜ Small (st .opening) ⌝ ∗ ⌜ n ≤ 4096 ⌝ }
-    requires { ⌜ Reached (held (session (st .opening) (now f) (now w) (now coords) (now corners)) (now line) (st .count)) ⌝ }
+    requires { ⌜ Reached
+        (held (session (st .opening) (now floats) (now words) (now coords) (now corners)) (now line) (st .count)) ⌝ }
     ensures { λ r. ⌜ Small (r .state .opening) ⌝ }
-    ensures { λ r. ⌜ (r .said ≡ true → held (session (r .state .opening) (now (f .exit)) (now (w .exit)) (now (coords .exit)) (now (corners .exit))) (now (line .exit)) (r .state .count) ≡ heldAfter (now (chunk .entry)) n (held (session (st .opening) (now (f .entry)) (now (w .entry)) (now (coords .entry)) (now (corners .entry))) (now (line .entry)) (st .count))) ⌝ }
+    ensures { λ r. ⌜ (r .said ≡ true → held
+        (session (r .state .opening) (now (floats .exit)) (now (words .exit)) (now (coords .exit)) (now (corners .exit)))
+        (now (line .exit)) (r .state .count)
+        ≡ heldAfter (now (chunk .entry)) n (held
+        (session (st .opening) (now (floats .entry)) (now (words .entry)) (now (coords .entry)) (now (corners .entry)))
+        (now (line .entry)) (st .count))) ⌝ }
 {
     let mut state = st;
     let mut i = 0;
     while i < n {
-        state = program::feed(state, chunk[i], line, f, w, coords, corners, out);
+        state = program::feed(state, chunk[i], line, floats, words, coords, corners, out);
         if !say(out, state.wrote) {
             return Fed { state, said: false };
         }
@@ -105,29 +111,31 @@ fn feed_chunk(
 fn finish(
     st: State,
     line: &[u8; 256],
-    f: &mut [f64; 3261],
-    w: &mut [u32; 3098],
+    floats: &mut [f64; 3261],
+    words: &mut [u32; 3098],
     coords: &mut [f64; 1500],
     corners: &mut [u32; 3000],
     out: &mut [u8; 512],
 )
     requires { ⌜ Small (st .opening) ⌝ }
-    requires { ⌜ Reached (held (session (st .opening) (now f) (now w) (now coords) (now corners)) (now line) (st .count)) ⌝ }
+    requires { ⌜ Reached
+        (held (session (st .opening) (now floats) (now words) (now coords) (now corners)) (now line) (st .count)) ⌝ }
 {
-    let last = program::end(st, line, f, w, coords, corners, out);
+    let last = program::end(st, line, floats, words, coords, corners, out);
     say(out, last.wrote);
 }
 
-// Reads the input to its end and answers its lines, from the store of zeros on. After an answer that was not written nothing is read.
+// Reads the input to its end and answers its lines, from the store of zeros on. After an answer that was not written
+// nothing is read.
 fn serve(
     line: &mut [u8; 256],
-    f: &mut [f64; 3261],
-    w: &mut [u32; 3098],
+    floats: &mut [f64; 3261],
+    words: &mut [u32; 3098],
     coords: &mut [f64; 1500],
     corners: &mut [u32; 3000],
     out: &mut [u8; 512],
 )
-    requires { ⌜ held (session idle (now f) (now w) (now coords) (now corners)) (now line) 0 ≡ heldAtFirst ⌝ }
+    requires { ⌜ held (session idle (now floats) (now words) (now coords) (now corners)) (now line) 0 ≡ heldAtFirst ⌝ }
 {
     let mut chunk = io::buffer();
     let mut st = program::start();
@@ -139,26 +147,26 @@ fn serve(
             break;
         }
         let n = io::count(got, &chunk);
-        let fed = feed_chunk(st, &chunk, n, line, f, w, coords, corners, out);
+        let fed = feed_chunk(st, &chunk, n, line, floats, words, coords, corners, out);
         if !fed.said {
             return;
         }
         st = fed.state;
     }
-    finish(st, line, f, w, coords, corners, out);
+    finish(st, line, floats, words, coords, corners, out);
 }
 
 fn main() {
     let mut line = [0u8; 256];
-    let mut f = [0.0f64; 3261];
-    let mut w = [0u32; 3098];
+    let mut floats = [0.0f64; 3261];
+    let mut words = [0u32; 3098];
     let mut coords = [0.0f64; 1500];
     let mut corners = [0u32; 3000];
     let mut out = [0u8; 512];
     serve(
         &mut line,
-        &mut f,
-        &mut w,
+        &mut floats,
+        &mut words,
         &mut coords,
         &mut corners,
         &mut out,

@@ -1,4 +1,4 @@
--- 01, "Remainder", program `bench`: a line that is a call, what it leaves of the store and what it prints. Definitions only.
+-- 01, "Remainder", program `bench`: a call, what it leaves of the store and what it prints. Definitions only.
 use Prim.Native.Nat.{ℕ}
 use mathlib.Core.List.{List, [], _∷_}
 use lib.Ieee.{Float}
@@ -12,8 +12,8 @@ use Rattle.store.specs.Calls.{clearStep, reweighStep}
 use Rattle.store.specs.Puts.{putStep}
 use Rattle.advance.specs.Steps.{advanceStep}
 use Rattle.readings.specs.Readings.{readStep, density, report}
-use Rattle.forms.specs.declared.line.Line.{Line}
-use Rattle.forms.specs.declared.line.Line.the-variants.{Bad, Open, Vert, Face, Put, Clear, Reweigh, Advance, Density, Report}
+use Rattle.forms.specs.declared.line.Call.{Call}
+use Rattle.forms.specs.declared.line.Call.the-variants.{Put, Clear, Reweigh, Advance, Density, Report}
 use Rattle.calls.specs.Texts.{noText, putText, densityText, advanceText, clearText, reweighText, reportText}
 
 -- a call on the store: its runs afterwards, and the text
@@ -35,12 +35,9 @@ badText = noText (number BadLine)
 abbrev pub kernelOf : Float → Float → Float → Float → Float → Float → Kernel
 kernelOf x y z sigma w alpha = record { c = x ∷ y ∷ z ∷ []; sigma = sigma; w = w; alpha = alpha }
 
-unfoldable pub callOf : List Float → List ℕ → Line → Called
-callOf fs ws Bad = looked fs ws badText
-callOf fs ws (Open radius verts faces) = looked fs ws badText
-callOf fs ws (Vert x y z) = looked fs ws badText
-callOf fs ws (Face a b c) = looked fs ws badText
-callOf fs ws (Put place x y z sigma w alpha) = called (putText place) (putStep width fs ws place (kernelOf x y z sigma w alpha))
+unfoldable pub callOf : List Float → List ℕ → Call → Called
+callOf fs ws (Put place x y z sigma w alpha) =
+    called (putText place) (putStep width fs ws place (kernelOf x y z sigma w alpha))
 callOf fs ws (Clear place) = called (clearText place) (clearStep width fs ws place)
 callOf fs ws (Reweigh place w) = called (reweighText place) (reweighStep width fs ws place w)
 callOf fs ws (Advance n) = called advanceText (advanceStep width fs ws n)

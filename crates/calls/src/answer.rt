@@ -39,7 +39,7 @@ use store::put::put;
 use text::write::write_bytes;
 
 // The newline after a text that ends at `at`.
-fn end_line(out: &mut [u8; 512], at: usize) -> usize
+fn newline(out: &mut [u8; 512], at: usize) -> usize
     requires { ⌜ at ≤ 255 ⌝ }
     ensures { λ r. ⌜ r ≤ 256 ⌝ }
     ensures { λ r. ⌜ Wrote (now (out .entry)) at (10 ∷ []) r (now (out .exit)) ⌝ }
@@ -53,7 +53,7 @@ pub fn answer_no(out: &mut [u8; 512], refusal: Refusal) -> usize
     ensures { λ r. ⌜ Wrote (now (out .entry)) 0 (noText (number refusal)) r (now (out .exit)) ⌝ }
 {
     let at = write_no(out, 0, refusal_number(refusal));
-    end_line(out, at)
+    newline(out, at)
 }
 
 // Opens the store.
@@ -73,7 +73,7 @@ pub fn answer_open(
     match open(floats, words, radius, xyz, corners) {
         Opened::Mesh(verts, faces) => {
             let at = write_open(out, 0, verts, faces);
-            end_line(out, at)
+            newline(out, at)
         }
         Opened::Refused(r) => answer_no(out, r),
     }
@@ -95,7 +95,7 @@ pub fn answer_put(
     match put(floats, words, place, k) {
         Placed::Needs(pieces, need, _) => {
             let at = write_put(out, 0, place, pieces, need);
-            end_line(out, at)
+            newline(out, at)
         }
         Placed::Refused(r) => answer_no(out, r),
     }
@@ -111,7 +111,7 @@ pub fn answer_clear(floats: &mut [f64], words: &mut [u32], place: u32, out: &mut
     match clear(floats, words, place) {
         Edited::Done => {
             let at = write_clear(out, 0, place);
-            end_line(out, at)
+            newline(out, at)
         }
         Edited::Refused(r) => answer_no(out, r),
     }
@@ -133,7 +133,7 @@ pub fn answer_reweigh(
     match reweigh(floats, words, place, weight) {
         Edited::Done => {
             let at = write_reweigh(out, 0, place);
-            end_line(out, at)
+            newline(out, at)
         }
         Edited::Refused(r) => answer_no(out, r),
     }
@@ -154,7 +154,7 @@ pub fn answer_advance(
     match advance(floats, words, budget) {
         Advanced::Steps { done, left } => {
             let at = write_advance(out, 0, done, left);
-            end_line(out, at)
+            newline(out, at)
         }
         Advanced::Refused(r) => answer_no(out, r),
     }
@@ -174,7 +174,7 @@ pub fn answer_density(
     match density(floats, words, v, point) {
         Measured::Value(x) => {
             let at = write_density(out, 0, x);
-            end_line(out, at)
+            newline(out, at)
         }
         Measured::Refused(r) => answer_no(out, r),
     }
@@ -193,7 +193,7 @@ pub fn answer_report(floats: &[f64], words: &[u32], v: Convention, out: &mut [u8
             error,
         } => {
             let at = write_report(out, 0, mass, filled, pieces, error);
-            end_line(out, at)
+            newline(out, at)
         }
         Reported::Refused(r) => answer_no(out, r),
     }

@@ -1,4 +1,4 @@
-// A line that is a call on the store; any other is answered (no 13). No function here has a `requires`.
+// A call on the store, by its kind. No function here has a `requires`.
 ghost use mathlib.Core.Path.{_≡_};
 ghost use Prim.Native.Nat.{_≤_};
 ghost use Rattle.text.specs.Print.{Wrote};
@@ -6,29 +6,27 @@ ghost use Rattle.calls.specs.Calls.{callOf};
 use crate::answer::answer_advance;
 use crate::answer::answer_clear;
 use crate::answer::answer_density;
-use crate::answer::answer_no;
 use crate::answer::answer_put;
 use crate::answer::answer_report;
 use crate::answer::answer_reweigh;
-use base::refusal::Refusal;
-use forms::line::Line;
+use forms::line::Call;
 use kernel::kernel::Kernel;
 
-// Makes the call that a line says, and writes its answer.
-pub fn call(l: Line, floats: &mut [f64], words: &mut [u32], out: &mut [u8; 512]) -> usize
+// Makes a call, and writes its answer.
+pub fn call(c: Call, floats: &mut [f64], words: &mut [u32], out: &mut [u8; 512]) -> usize
     ensures { λ r. ⌜ r ≤ 256 ⌝ }
-    ensures { λ _. ⌜ now (floats .exit) ≡ callOf (now (floats .entry)) (now (words .entry)) l .floats ⌝ }
-    ensures { λ _. ⌜ now (words .exit) ≡ callOf (now (floats .entry)) (now (words .entry)) l .words ⌝ }
-    ensures { λ r. ⌜ Wrote (now (out .entry)) 0 (callOf (now (floats .entry)) (now (words .entry)) l .text) r (now (out .exit)) ⌝ }
+    ensures { λ _. ⌜ now (floats .exit) ≡ callOf (now (floats .entry)) (now (words .entry)) c .floats ⌝ }
+    ensures { λ _. ⌜ now (words .exit) ≡ callOf (now (floats .entry)) (now (words .entry)) c .words ⌝ }
+    ensures { λ r. ⌜ Wrote (now (out .entry)) 0 (callOf (now (floats .entry)) (now (words .entry)) c .text) r (now (out .exit)) ⌝ }
 {
-    match l {
-        Line::Put {
+    match c {
+        Call::Put {
             place,
             x,
             y,
             z,
             sigma,
-            w: weight,
+            w,
             alpha,
         } => answer_put(
             floats,
@@ -37,16 +35,15 @@ pub fn call(l: Line, floats: &mut [f64], words: &mut [u32], out: &mut [u8; 512])
             Kernel {
                 c: [x, y, z],
                 sigma,
-                w: weight,
+                w,
                 alpha,
             },
             out,
         ),
-        Line::Clear(place) => answer_clear(floats, words, place, out),
-        Line::Reweigh(place, weight) => answer_reweigh(floats, words, place, weight, out),
-        Line::Advance(budget) => answer_advance(floats, words, budget, out),
-        Line::Density(v, x, y, z) => answer_density(floats, words, v, [x, y, z], out),
-        Line::Report(v) => answer_report(floats, words, v, out),
-        _ => answer_no(out, Refusal::BadLine),
+        Call::Clear(place) => answer_clear(floats, words, place, out),
+        Call::Reweigh(place, weight) => answer_reweigh(floats, words, place, weight, out),
+        Call::Advance(budget) => answer_advance(floats, words, budget, out),
+        Call::Density(v, x, y, z) => answer_density(floats, words, v, [x, y, z], out),
+        Call::Report(v) => answer_report(floats, words, v, out),
     }
 }

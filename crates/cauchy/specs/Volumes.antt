@@ -32,5 +32,18 @@ massFrom a =
       volume = getD (a .floats) 6 +0;
     }
 
+-- the report beside a refusal
+abbrev pub noReport : MassReport
+noReport =
+    record {
+      «raw_mass» = +0;
+      «rho0_scale» = +0;
+      «rho0_mass» = +0;
+      «applied_scale» = +0;
+      «applied_mass» = +0;
+      «target_mass» = +0;
+      volume = +0;
+    }
+
 abbrev pub reportFrom : Answer → CauchyReport
 reportFrom a = record { no = a .refusal; report = massFrom a }

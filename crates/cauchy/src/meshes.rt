@@ -9,7 +9,7 @@ use base::refusal::refusal_number;
 use closed::closed::check_closed;
 
 // The number of the refusal, 0 where the check passes.
-fn number_of(checked: Checked) -> u32
+fn check_number(checked: Checked) -> u32
     ensures { λ r. ⌜ r ≡ answered checked [] .refusal ⌝ }
 {
     match checked {
@@ -23,5 +23,5 @@ fn number_of(checked: Checked) -> u32
 pub extern "C" fn cauchy_closed(xyz: &[f64], faces: &[u32]) -> u32
     ensures { λ r. ⌜ r ≡ answered (closedCheck (length (now (xyz .entry))) (now (faces .entry))) [] .refusal ⌝ }
 {
-    number_of(check_closed(xyz, faces))
+    check_number(check_closed(xyz, faces))
 }

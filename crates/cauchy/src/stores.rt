@@ -30,6 +30,7 @@ ghost use Rattle.cauchy.specs.StoreCrossing.{crossed, across, openedFrom
 use crate::kernels::CauchyFit;
 use crate::kernels::fit_of;
 use crate::volumes::CauchyValue;
+use crate::volumes::no_report;
 use crate::volumes::value_of;
 use advance::advance::Advanced;
 use advance::advance::advance;
@@ -319,21 +320,16 @@ fn report_of(d: Reported) -> CauchyStoreReport
             pieces,
             error,
         },
-        Reported::Refused(r) => CauchyStoreReport {
-            no: refusal_number(r),
-            report: MassReport {
-                raw_mass: 0.0,
-                rho0_scale: 0.0,
-                rho0_mass: 0.0,
-                applied_scale: 0.0,
-                applied_mass: 0.0,
-                target_mass: 0.0,
-                volume: 0.0,
-            },
-            kernels: 0,
-            pieces: 0,
-            error: 0.0,
-        },
+        Reported::Refused(r) => {
+            let report = no_report();
+            CauchyStoreReport {
+                no: refusal_number(r),
+                report,
+                kernels: 0,
+                pieces: 0,
+                error: 0.0,
+            }
+        }
     }
 }
 

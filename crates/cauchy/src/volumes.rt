@@ -6,7 +6,7 @@ ghost use Rattle.base.specs.Answers.{measuredAs};
 ghost use Rattle.mass.specs.Calls.{locatedAs, pointValues, kernelVolumeCall, bodyVolumeCall, volumeCentroidCall, fieldMassCall};
 ghost use Rattle.density.specs.Densitize.{densitized};
 ghost use Rattle.mass.specs.Homogeneous.{reportedAs, homogeneousCall};
-ghost use Rattle.cauchy.specs.Volumes.{valueFrom, pointFrom, reportFrom};
+ghost use Rattle.cauchy.specs.Volumes.{valueFrom, pointFrom, noReport, reportFrom};
 use base::refusal::Measured;
 use base::refusal::refusal_number;
 use density::densitize::densitize;
@@ -69,7 +69,7 @@ pub extern "C" fn cauchy_body_volume(xyz: &[f64], faces: &[u32]) -> CauchyValue
     value_of(body_volume(xyz, faces))
 }
 
-fn point_from(l: Located) -> CauchyPoint
+fn point_of(l: Located) -> CauchyPoint
     ensures { λ r. ⌜ r ≡ pointFrom (locatedAs l) ⌝ }
 {
     match l {
@@ -90,7 +90,7 @@ fn point_from(l: Located) -> CauchyPoint
 pub extern "C" fn cauchy_volume_centroid(xyz: &[f64], faces: &[u32]) -> CauchyPoint
     ensures { λ r. ⌜ r ≡ pointFrom (volumeCentroidCall (now (xyz .entry)) (now (faces .entry))) ⌝ }
 {
-    point_from(volume_centroid(xyz, faces))
+    point_of(volume_centroid(xyz, faces))
 }
 
 // The mass of a list of kernels inside the mesh.
@@ -109,23 +109,33 @@ pub extern "C" fn cauchy_densitize(kernels: &[f64], point: V3) -> CauchyValue
     value_of(densitize(kernels, [point.x, point.y, point.z]))
 }
 
-fn report_from(d: Reported) -> CauchyReport
+// The report of a call that is refused.
+pub fn no_report() -> MassReport
+    ensures { λ r. ⌜ r ≡ noReport ⌝ }
+{
+    MassReport {
+        raw_mass: 0.0,
+        rho0_scale: 0.0,
+        rho0_mass: 0.0,
+        applied_scale: 0.0,
+        applied_mass: 0.0,
+        target_mass: 0.0,
+        volume: 0.0,
+    }
+}
+
+fn report_of(d: Reported) -> CauchyReport
     ensures { λ r. ⌜ r ≡ reportFrom (reportedAs d) ⌝ }
 {
     match d {
         Reported::Report(report) => CauchyReport { no: 0, report },
-        Reported::Refused(r) => CauchyReport {
-            no: refusal_number(r),
-            report: MassReport {
-                raw_mass: 0.0,
-                rho0_scale: 0.0,
-                rho0_mass: 0.0,
-                applied_scale: 0.0,
-                applied_mass: 0.0,
-                target_mass: 0.0,
-                volume: 0.0,
-            },
-        },
+        Reported::Refused(r) => {
+            let report = no_report();
+            CauchyReport {
+                no: refusal_number(r),
+                report,
+            }
+        }
     }
 }
 
@@ -134,5 +144,5 @@ fn report_from(d: Reported) -> CauchyReport
 pub extern "C" fn cauchy_homogeneous(bulk: f64, xyz: &[f64], faces: &[u32]) -> CauchyReport
     ensures { λ r. ⌜ r ≡ reportFrom (homogeneousCall bulk (now (xyz .entry)) (now (faces .entry))) ⌝ }
 {
-    report_from(homogeneous(bulk, xyz, faces))
+    report_of(homogeneous(bulk, xyz, faces))
 }

@@ -7,7 +7,8 @@ use Rattle.text.specs.Form.{Form, end, real, either, Vals, map, choose, read, p
 use Rattle.density.specs.declared.convention.Convention.{Convention}
 use Rattle.density.specs.declared.convention.Convention.the-variants.{Raw, Rho0, Mass}
 use Rattle.forms.specs.declared.line.Line.{Line}
-use Rattle.forms.specs.declared.line.Line.the-variants.{Bad, Open, Vert, Face, Put, Clear, Reweigh, Advance, Density, Report}
+use Rattle.forms.specs.declared.line.Line.the-variants.{Bad, Open, Vert, Face, OnStore}
+use Rattle.forms.specs.declared.line.Call.the-variants.{Put, Clear, Reweigh, Advance, Density, Report}
 
 -- ---- "Conventions: (raw), (rho0 h), (mass h h)"
 
@@ -57,41 +58,46 @@ abbrev pub toFace : Vals faceForm → Line
 toFace v = Face (v .0) (v .1 .0) (v .1 .1 .0)
 
 abbrev pub putForm : Form
-putForm = say "(put " (u32 (say " (c " (three (say ") (sigma " (real (say ") (w " (real (say ") (alpha " (real (say "))" end))))))))))
+putForm =
+    say "(put " (u32 (say " (c " (three
+    (say ") (sigma " (real (say ") (w " (real (say ") (alpha " (real (say "))" end))))))))))
 
 abbrev pub toPut : Vals putForm → Line
-toPut v = Put (v .0) (v .1 .0) (v .1 .1 .0) (v .1 .1 .1 .0) (v .1 .1 .1 .1 .0) (v .1 .1 .1 .1 .1 .0) (v .1 .1 .1 .1 .1 .1 .0)
+toPut v =
+    let c = v .1 in
+    let after = c .1 .1 .1 in
+    OnStore (Put (v .0) (c .0) (c .1 .0) (c .1 .1 .0) (after .0) (after .1 .0) (after .1 .1 .0))
 
 -- "(clear P), (reweigh P h), (report CONV)"
 abbrev pub clearForm : Form
 clearForm = say "(clear " (u32 (say ")" end))
 
 abbrev pub toClear : Vals clearForm → Line
-toClear v = Clear (v .0)
+toClear v = OnStore (Clear (v .0))
 
 abbrev pub reweighForm : Form
 reweighForm = say "(reweigh " (u32 (say " " (real (say ")" end))))
 
 abbrev pub toReweigh : Vals reweighForm → Line
-toReweigh v = Reweigh (v .0) (v .1 .0)
+toReweigh v = OnStore (Reweigh (v .0) (v .1 .0))
 
 abbrev pub advanceForm : Form
 advanceForm = say "(advance " (u64 (say ")" end))
 
 abbrev pub toAdvance : Vals advanceForm → Line
-toAdvance v = Advance (v .0)
+toAdvance v = OnStore (Advance (v .0))
 
 abbrev pub densityForm : Form
 densityForm = say "(density " (convention (say " " (three (say ")" end))))
 
 abbrev pub toDensity : Vals densityForm → Line
-toDensity v = Density (toConvention (v .0, tt)) (v .1 .0) (v .1 .1 .0) (v .1 .1 .1 .0)
+toDensity v = OnStore (Density (toConvention (v .0, tt)) (v .1 .0) (v .1 .1 .0) (v .1 .1 .1 .0))
 
 abbrev pub reportForm : Form
 reportForm = say "(report " (convention (say ")" end))
 
 abbrev pub toReport : Vals reportForm → Line
-toReport v = Report (toConvention (v .0, tt))
+toReport v = OnStore (Report (toConvention (v .0, tt)))
 
 -- ---- any line: of these forms and those after it
 
@@ -161,12 +167,7 @@ Good Bad = ⊥
 Good (Open r v f) = Unit {0}
 Good (Vert x y z) = Unit {0}
 Good (Face a b c) = Unit {0}
-Good (Put p x y z s w a) = Unit {0}
-Good (Clear p) = Unit {0}
-Good (Reweigh p w) = Unit {0}
-Good (Advance n) = Unit {0}
-Good (Density c x y z) = Unit {0}
-Good (Report c) = Unit {0}
+Good (OnStore c) = Unit {0}
 
 abbrev pub this : {A B : Type 0} → A → (A ⊎ B) × Unit {0}
 this v = (inl v, tt)
@@ -184,12 +185,13 @@ ofLine Bad g = absurd g
 ofLine (Open r v f) g = this (r & v & f & tt)
 ofLine (Vert x y z) g = next (this (x & y & z & tt))
 ofLine (Face a b c) g = next (next (this (a & b & c & tt)))
-ofLine (Put p x y z s w a) g = next (next (next (this (p & x & y & z & s & w & a & tt))))
-ofLine (Clear p) g = next (next (next (next (this (p & tt)))))
-ofLine (Reweigh p w) g = next (next (next (next (next (this (p & w & tt))))))
-ofLine (Advance n) g = next (next (next (next (next (next (this (n & tt)))))))
-ofLine (Density c x y z) g = next (next (next (next (next (next (next (this (ofConvention c & x & y & z & tt))))))))
-ofLine (Report c) g = next (next (next (next (next (next (next (next (ofConvention c & tt))))))))
+ofLine (OnStore (Put p x y z s w a)) g = next (next (next (this (p & x & y & z & s & w & a & tt))))
+ofLine (OnStore (Clear p)) g = next (next (next (next (this (p & tt)))))
+ofLine (OnStore (Reweigh p w)) g = next (next (next (next (next (this (p & w & tt))))))
+ofLine (OnStore (Advance n)) g = next (next (next (next (next (next (this (n & tt)))))))
+ofLine (OnStore (Density c x y z)) g =
+    next (next (next (next (next (next (next (this (ofConvention c & x & y & z & tt))))))))
+ofLine (OnStore (Report c)) g = next (next (next (next (next (next (next (next (ofConvention c & tt))))))))
 
 abbrev pub printLine : (l : Line) → Good l → List ℕ
 printLine l g = print lineForm (ofLine l g)

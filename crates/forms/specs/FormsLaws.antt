@@ -9,7 +9,8 @@ use Rattle.text.specs.FormLaws.{back-whole, spells, spelled}
 use Rattle.density.specs.declared.convention.Convention.{Convention}
 use Rattle.density.specs.declared.convention.Convention.the-variants.{Raw, Rho0, Mass}
 use Rattle.forms.specs.declared.line.Line.{Line}
-use Rattle.forms.specs.declared.line.Line.the-variants.{Bad, Open, Vert, Face, Put, Clear, Reweigh, Advance, Density, Report}
+use Rattle.forms.specs.declared.line.Line.the-variants.{Bad, Open, Vert, Face, OnStore}
+use Rattle.forms.specs.declared.line.Call.the-variants.{Put, Clear, Reweigh, Advance, Density, Report}
 use Rattle.forms.specs.Forms.{rawForm, rho0Form, massForm, toConvention, lineForm, toLine, ifEnded, parseLine, Good, this, next, ofConvention, ofLine, printLine}
 
 -- ---- a line's values are those of the line
@@ -24,12 +25,12 @@ to-of Bad g = absurd g
 to-of (Open r v f) g = refl
 to-of (Vert x y z) g = refl
 to-of (Face a b c) g = refl
-to-of (Put p x y z s w a) g = refl
-to-of (Clear p) g = refl
-to-of (Reweigh p w) g = refl
-to-of (Advance n) g = refl
-to-of (Density c x y z) g = (λ i. Density (to-of-convention c i) x y z)
-to-of (Report c) g = (λ i. Report (to-of-convention c i))
+to-of (OnStore (Put p x y z s w a)) g = refl
+to-of (OnStore (Clear p)) g = refl
+to-of (OnStore (Reweigh p w)) g = refl
+to-of (OnStore (Advance n)) g = refl
+to-of (OnStore (Density c x y z)) g = (λ i. OnStore (Density (to-of-convention c i) x y z))
+to-of (OnStore (Report c)) g = (λ i. OnStore (Report (to-of-convention c i)))
 
 of-to-convention : (v : Vals rawForm ⊎ Vals (either rho0Form massForm end)) → ofConvention (toConvention (v, tt)) ≡ v
 of-to-convention (inl v) = refl

@@ -1,3 +1,4 @@
 pub mod Forms
 pub mod FormsLaws
+pub mod Words
 pub mod Answers

@@ -1,16 +1,8 @@
 // What a line says. Its floats stand in it one by one, since a case of an enum holds no array.
 use density::convention::Convention;
 
-// A line by its form; a line of no form is Bad.
-pub enum Line {
-    Bad,
-    Open {
-        radius: f64,
-        verts: u32,
-        faces: u32,
-    },
-    Vert(f64, f64, f64),
-    Face(u32, u32, u32),
+// A call on the program's store.
+pub enum Call {
     Put {
         place: u32,
         x: f64,
@@ -25,4 +17,13 @@ pub enum Line {
     Advance(u64),
     Density(Convention, f64, f64, f64),
     Report(Convention),
+}
+
+// A line by its form: one of an opening, or a call on the store. A line of no form is Bad.
+pub enum Line {
+    Bad,
+    Open { radius: f64, verts: u32, faces: u32 },
+    Vert(f64, f64, f64),
+    Face(u32, u32, u32),
+    OnStore(Call),
 }

@@ -1,11 +1,15 @@
-// Each form of the program's lines as a token at a position, and the meaning of a whole line. No function here has a `requires`.
+// Each form of the program's lines as a token at a position, and the meaning of a whole line, which is read by the form that its first
+// word names. No function here has a `requires`.
 ghost use mathlib.Core.Path.{_≡_};
 ghost use Rattle.text.specs.Text.{rest, got};
 ghost use Rattle.text.specs.Form.{end, map, or, three, _&_};
 ghost use Rattle.text.specs.Form.{read as form};
+ghost use Rattle.text.specs.FormLaws.{begins};
 ghost use Rattle.forms.specs.Forms.{rawForm, rho0Form, massForm, convention, toRaw, toRho0, toMass, toConvention};
 ghost use Rattle.forms.specs.Forms.{openForm, vertForm, faceForm, putForm, clearForm, reweighForm, advanceForm, densityForm, reportForm};
-ghost use Rattle.forms.specs.Forms.{toOpen, toVert, toFace, toPut, toClear, toReweigh, toAdvance, toDensity, toReport, lineForm, toLine, parseLine};
+ghost use Rattle.forms.specs.Forms.{toOpen, toVert, toFace, toPut, toClear, toReweigh, toAdvance, toDensity, toReport, ifEnded, parseLine};
+ghost use Rattle.forms.specs.Words.{byWord};
+use crate::line::Call;
 use crate::line::Line;
 use density::convention::Convention;
 use text::read::read_bytes;
@@ -149,16 +153,17 @@ pub fn read_put(s: &[u8], at: usize) -> ReadLine
     let g = read_float(s, read_bytes(s, c.at, b") (sigma "));
     let w = read_float(s, read_bytes(s, g.at, b") (w "));
     let a = read_float(s, read_bytes(s, w.at, b") (alpha "));
+    let call = Call::Put {
+        place: p.val,
+        x: c.x,
+        y: c.y,
+        z: c.z,
+        sigma: g.val,
+        w: w.val,
+        alpha: a.val,
+    };
     ReadLine {
-        line: Line::Put {
-            place: p.val,
-            x: c.x,
-            y: c.y,
-            z: c.z,
-            sigma: g.val,
-            w: w.val,
-            alpha: a.val,
-        },
+        line: Line::OnStore(call),
         at: read_bytes(s, a.at, b"))"),
     }
 }
@@ -168,8 +173,9 @@ pub fn read_clear(s: &[u8], at: usize) -> ReadLine
     ensures { λ r. ⌜ got (now (s .entry)) (r .line) (r .at) ≡ map toClear (form clearForm (rest (now (s .entry)) at)) ⌝ }
 {
     let p = read_u32(s, read_bytes(s, at, b"(clear "));
+    let call = Call::Clear(p.val);
     ReadLine {
-        line: Line::Clear(p.val),
+        line: Line::OnStore(call),
         at: read_bytes(s, p.at, b")"),
     }
 }
@@ -180,8 +186,9 @@ pub fn read_reweigh(s: &[u8], at: usize) -> ReadLine
 {
     let p = read_u32(s, read_bytes(s, at, b"(reweigh "));
     let w = read_float(s, read_bytes(s, p.at, b" "));
+    let call = Call::Reweigh(p.val, w.val);
     ReadLine {
-        line: Line::Reweigh(p.val, w.val),
+        line: Line::OnStore(call),
         at: read_bytes(s, w.at, b")"),
     }
 }
@@ -191,8 +198,9 @@ pub fn read_advance(s: &[u8], at: usize) -> ReadLine
     ensures { λ r. ⌜ got (now (s .entry)) (r .line) (r .at) ≡ map toAdvance (form advanceForm (rest (now (s .entry)) at)) ⌝ }
 {
     let n = read_u64(s, read_bytes(s, at, b"(advance "));
+    let call = Call::Advance(n.val);
     ReadLine {
-        line: Line::Advance(n.val),
+        line: Line::OnStore(call),
         at: read_bytes(s, n.at, b")"),
     }
 }
@@ -204,8 +212,9 @@ pub fn read_density(s: &[u8], at: usize) -> ReadLine
     let c = read_convention(s, read_bytes(s, at, b"(density "));
     let rule = c.rule;
     let p = read_three(s, read_bytes(s, c.at, b" "));
+    let call = Call::Density(rule, p.x, p.y, p.z);
     ReadLine {
-        line: Line::Density(rule, p.x, p.y, p.z),
+        line: Line::OnStore(call),
         at: read_bytes(s, p.at, b")"),
     }
 }
@@ -216,38 +225,56 @@ pub fn read_report(s: &[u8], at: usize) -> ReadLine
 {
     let c = read_convention(s, read_bytes(s, at, b"(report "));
     let rule = c.rule;
+    let call = Call::Report(rule);
     ReadLine {
-        line: Line::Report(rule),
+        line: Line::OnStore(call),
         at: read_bytes(s, c.at, b")"),
     }
 }
 
-// The first of two lines where it stands, else the second.
-fn first_line(s: &[u8], a: ReadLine, b: ReadLine) -> ReadLine
-    ensures { λ r. ⌜ got (now (s .entry)) (r .line) (r .at) ≡ or (got (now (s .entry)) (a .line) (a .at)) (got (now (s .entry)) (b .line) (b .at)) ⌝ }
+// Whether a line begins with these bytes.
+fn begins(s: &[u8], word: &[u8]) -> bool
+    ensures { λ r. ⌜ r ≡ begins (now (word .entry)) (now (s .entry)) ⌝ }
 {
-    if a.at <= s.len() { a } else { b }
+    read_bytes(s, 0, word) <= s.len()
 }
 
-// A line of any form.
-fn read_line(s: &[u8], at: usize) -> ReadLine
-    ensures { λ r. ⌜ got (now (s .entry)) (r .line) (r .at) ≡ map toLine (form lineForm (rest (now (s .entry)) at)) ⌝ }
+// A line read by the form that its first word names; one that begins with no form's word is not of the last form either.
+fn read_line(s: &[u8]) -> ReadLine
+    ensures { λ r. ⌜ ifEnded (rest (now (s .entry)) (r .at)) (r .line) ≡ byWord (now (s .entry)) ⌝ }
 {
-    let h = first_line(s, read_density(s, at), read_report(s, at));
-    let g = first_line(s, read_advance(s, at), h);
-    let f = first_line(s, read_reweigh(s, at), g);
-    let e = first_line(s, read_clear(s, at), f);
-    let d = first_line(s, read_put(s, at), e);
-    let c = first_line(s, read_face(s, at), d);
-    let b = first_line(s, read_vert(s, at), c);
-    first_line(s, read_open(s, at), b)
+    if begins(s, b"(open (radius ") {
+        return read_open(s, 0);
+    }
+    if begins(s, b"(vert ") {
+        return read_vert(s, 0);
+    }
+    if begins(s, b"(face ") {
+        return read_face(s, 0);
+    }
+    if begins(s, b"(put ") {
+        return read_put(s, 0);
+    }
+    if begins(s, b"(clear ") {
+        return read_clear(s, 0);
+    }
+    if begins(s, b"(reweigh ") {
+        return read_reweigh(s, 0);
+    }
+    if begins(s, b"(advance ") {
+        return read_advance(s, 0);
+    }
+    if begins(s, b"(density ") {
+        return read_density(s, 0);
+    }
+    read_report(s, 0)
 }
 
 // What a whole line means.
 pub fn parse_line(s: &[u8]) -> Line
     ensures { λ r. ⌜ r ≡ parseLine (now (s .entry)) ⌝ }
 {
-    let r = read_line(s, 0);
+    let r = read_line(s);
     let line = r.line;
     if r.at == s.len() { line } else { Line::Bad }
 }

@@ -7,7 +7,7 @@ use lib.Dec.{lit≤}
 use lib.ListN.{length}
 use Rattle.text.specs.LengthLaws.{longest, at-most}
 use Rattle.forms.specs.declared.line.Line.{Line}
-use Rattle.forms.specs.declared.line.Line.the-variants.{Bad, Open, Vert, Face, Put, Clear, Reweigh, Advance, Density, Report}
+use Rattle.forms.specs.declared.line.Line.the-variants.{Bad, Open, Vert, Face, OnStore}
 use Rattle.forms.specs.Forms.{lineForm, parseLine, Good, ofLine}
 use Rattle.forms.specs.FormsLaws.{parse-spells}
 use Rattle.program.specs.Bytes.{lineRoom}
@@ -17,14 +17,10 @@ not-good Bad h = refl
 not-good (Open r v f) h = absurd (h tt)
 not-good (Vert x y z) h = absurd (h tt)
 not-good (Face a b c) h = absurd (h tt)
-not-good (Put p x y z s w a) h = absurd (h tt)
-not-good (Clear p) h = absurd (h tt)
-not-good (Reweigh p w) h = absurd (h tt)
-not-good (Advance n) h = absurd (h tt)
-not-good (Density c x y z) h = absurd (h tt)
-not-good (Report c) h = absurd (h tt)
+not-good (OnStore c) h = absurd (h tt)
 
 pub long-bad : (l : List ℕ) → lineRoom < length l → parseLine l ≡ Bad
 long-bad l h =
     not-good (parseLine l)
-    (λ g. let m : longest lineForm ≤ lineRoom = lit≤ tt in omega (arith, at-most lineForm (ofLine (parseLine l) g) l [] (parse-spells l g)))
+    (λ g. let m : longest lineForm ≤ lineRoom = lit≤ tt in
+    omega (arith, at-most lineForm (ofLine (parseLine l) g) l [] (parse-spells l g)))

@@ -1,10 +1,12 @@
 -- 01, "Remainder", program `bench`: what the code does with a byte of its input. Definitions only; Bench.antt says what comes of them.
 use Prim.Native.Nat.{ℕ, _+_}
+use mathlib.Core.Path.{_≡_}
 use mathlib.Core.Bool.{cond}
 use mathlib.Core.List.{List, [], _∷_, _++_}
 use lib.Dec.{leb, ltb, eqb}
 use lib.ListN.{take, set, getD}
 use Rattle.base.specs.Loops.{times}
+use Rattle.text.specs.Print.{Wrote}
 use Rattle.forms.specs.declared.line.Line.{Line}
 use Rattle.forms.specs.declared.line.Line.the-variants.{Bad}
 use Rattle.forms.specs.Forms.{parseLine}
@@ -14,7 +16,8 @@ use Rattle.session.specs.Session.{Session, respond}
 abbrev pub lineRoom : ℕ
 lineRoom = 256
 
--- what is held between two bytes: the session, the run of a line's bytes, and how many there are so far, lineRoom + 1 where they are too many
+-- what is held between two bytes: the session, the run of a line's bytes, and how many there are so far, lineRoom + 1
+-- where they are too many
 pub record Held : Type 0 where
   pub session : Session
   pub line : List ℕ
@@ -27,6 +30,13 @@ held s line n = record { session = s; line = line; count = n }
 pub record Fed : Type 0 where
   pub next : Held
   pub text : List ℕ
+
+-- what a function does that holds a session s and n bytes of a line: it is f's, so that s′ and n′ bytes are held afterwards, and f's text
+-- is written from the start of out, up to k
+abbrev pub Feeds : (Held → Fed) → Session → List ℕ → ℕ → Session → List ℕ → ℕ → List ℕ → ℕ → List ℕ → Type 0
+Feeds f s line n s′ line′ n′ out k out′ =
+    let r = f (held s line n) in
+    (held s′ line′ n′ ≡ r .next) × Wrote out 0 (r .text) k out′
 
 -- the line that is held
 unfoldable pub lineIn : List ℕ → ℕ → Line

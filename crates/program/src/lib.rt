@@ -3,9 +3,8 @@
 ghost use mathlib.Core.Path.{_≡_};
 ghost use Prim.Native.Nat.{_≤_};
 ghost use lib.ListN.{length};
-ghost use Rattle.text.specs.Print.{Wrote};
 ghost use Rattle.session.specs.Session.{Small, session, idle};
-ghost use Rattle.program.specs.Bytes.{lineIn, held, endLine, lineWith, countWith, feedByte, feedEnd};
+ghost use Rattle.program.specs.Bytes.{Held, Feeds, lineIn, endLine, lineWith, countWith, feedByte, feedEnd};
 use forms::line::Line;
 use forms::read::parse_line;
 use session::opening::Opening;
@@ -53,8 +52,12 @@ fn end_line(
 ) -> State
     requires { ⌜ Small (st .opening) ⌝ }
     ensures { λ r. ⌜ Small (r .opening) × (r .wrote ≤ 256) ⌝ }
-    ensures { λ r. ⌜ held (session (r .opening) (now (floats .exit)) (now (words .exit)) (now (coords .exit)) (now (corners .exit))) (now (line .entry)) (r .count) ≡ endLine (held (session (st .opening) (now (floats .entry)) (now (words .entry)) (now (coords .entry)) (now (corners .entry))) (now (line .entry)) (st .count)) .next ⌝ }
-    ensures { λ r. ⌜ Wrote (now (out .entry)) 0 (endLine (held (session (st .opening) (now (floats .entry)) (now (words .entry)) (now (coords .entry)) (now (corners .entry))) (now (line .entry)) (st .count)) .text) (r .wrote) (now (out .exit)) ⌝ }
+    ensures { λ r. ⌜ Feeds endLine
+        (session (st .opening) (now (floats .entry)) (now (words .entry)) (now (coords .entry)) (now (corners .entry)))
+        (now (line .entry)) (st .count)
+        (session (r .opening) (now (floats .exit)) (now (words .exit)) (now (coords .exit)) (now (corners .exit)))
+        (now (line .entry)) (r .count)
+        (now (out .entry)) (r .wrote) (now (out .exit)) ⌝ }
 {
     let l = line_in(line, st.count);
     let o = st.opening;
@@ -102,8 +105,12 @@ pub fn feed(
 ) -> State
     requires { ⌜ Small (st .opening) ⌝ }
     ensures { λ r. ⌜ Small (r .opening) × (r .wrote ≤ 256) ⌝ }
-    ensures { λ r. ⌜ held (session (r .opening) (now (floats .exit)) (now (words .exit)) (now (coords .exit)) (now (corners .exit))) (now (line .exit)) (r .count) ≡ feedByte (held (session (st .opening) (now (floats .entry)) (now (words .entry)) (now (coords .entry)) (now (corners .entry))) (now (line .entry)) (st .count)) b .next ⌝ }
-    ensures { λ r. ⌜ Wrote (now (out .entry)) 0 (feedByte (held (session (st .opening) (now (floats .entry)) (now (words .entry)) (now (coords .entry)) (now (corners .entry))) (now (line .entry)) (st .count)) b .text) (r .wrote) (now (out .exit)) ⌝ }
+    ensures { λ r. ⌜ Feeds (λ (h : Held). feedByte h b)
+        (session (st .opening) (now (floats .entry)) (now (words .entry)) (now (coords .entry)) (now (corners .entry)))
+        (now (line .entry)) (st .count)
+        (session (r .opening) (now (floats .exit)) (now (words .exit)) (now (coords .exit)) (now (corners .exit)))
+        (now (line .exit)) (r .count)
+        (now (out .entry)) (r .wrote) (now (out .exit)) ⌝ }
 {
     if b == 10 {
         return end_line(st, line, floats, words, coords, corners, out);
@@ -123,8 +130,12 @@ pub fn end(
 ) -> State
     requires { ⌜ Small (st .opening) ⌝ }
     ensures { λ r. ⌜ Small (r .opening) × (r .wrote ≤ 256) ⌝ }
-    ensures { λ r. ⌜ held (session (r .opening) (now (floats .exit)) (now (words .exit)) (now (coords .exit)) (now (corners .exit))) (now (line .entry)) (r .count) ≡ feedEnd (held (session (st .opening) (now (floats .entry)) (now (words .entry)) (now (coords .entry)) (now (corners .entry))) (now (line .entry)) (st .count)) .next ⌝ }
-    ensures { λ r. ⌜ Wrote (now (out .entry)) 0 (feedEnd (held (session (st .opening) (now (floats .entry)) (now (words .entry)) (now (coords .entry)) (now (corners .entry))) (now (line .entry)) (st .count)) .text) (r .wrote) (now (out .exit)) ⌝ }
+    ensures { λ r. ⌜ Feeds feedEnd
+        (session (st .opening) (now (floats .entry)) (now (words .entry)) (now (coords .entry)) (now (corners .entry)))
+        (now (line .entry)) (st .count)
+        (session (r .opening) (now (floats .exit)) (now (words .exit)) (now (coords .exit)) (now (corners .exit)))
+        (now (line .entry)) (r .count)
+        (now (out .entry)) (r .wrote) (now (out .exit)) ⌝ }
 {
     if st.count == 0 {
         let opening = st.opening;

@@ -3,19 +3,17 @@ use Prim.Native.Nat.{ℕ}
 use mathlib.Core.Path.{_≡_, refl, sym, subst, _∙_}
 use mathlib.Core.Bool.{true, false}
 use mathlib.Core.List.{List, []}
-use lib.Ieee.{Float}
+use native.Mathlib.Omega.{arith}
 use Rattle.text.specs.Print.{Wrote}
-use Rattle.forms.specs.declared.line.Line.{Line}
 use Rattle.calls.specs.Texts.{openText}
 use Rattle.session.specs.declared.opening.Opening.{Opening}
-use Rattle.session.specs.declared.take.Act.{Act}
-use Rattle.session.specs.declared.take.Next.{Next}
-use Rattle.session.specs.Session.{Session, Said, Small, due, session, said, opens, settled}
-use Rattle.session.specs.Next.{doneBy, done}
+use Rattle.session.specs.Session.{Session, Said, Small, due, idle, session, said, opens, settled}
 
 -- what is held and written, where another thing is said that is the same
-pub saying : {s : Session} {x y : Said} {o o′ : List ℕ} {r : ℕ} → x ≡ y → s ≡ y .next → Wrote o 0 (y .text) r o′ → (s ≡ x .next) × Wrote o 0 (x .text) r o′
-saying {o} {o′ = o′} {r} e a w = (a ∙ (λ i. sym e i .next), subst (λ (t : List ℕ). Wrote o 0 t r o′) (λ i. sym e i .text) w)
+pub saying : {s : Session} {x y : Said} {o o′ : List ℕ} {r : ℕ} →
+    x ≡ y → s ≡ y .next → Wrote o 0 (y .text) r o′ → (s ≡ x .next) × Wrote o 0 (x .text) r o′
+saying {o} {o′ = o′} {r} e a w =
+    (a ∙ (λ i. sym e i .next), subst (λ (t : List ℕ). Wrote o 0 t r o′) (λ i. sym e i .text) w)
 
 -- ---- an opening so far
 pub settled-due : (s : Session) → due (s .opening) ≡ true → settled s ≡ said s []
@@ -27,10 +25,8 @@ pub settled-done : (s : Session) → due (s .opening) ≡ false →
 unfolding settled
 settled-done s h = rw (h) refl
 
--- what is left to do, by the case
-pub done-as : (n : Next) (l : Line) (fs : List Float) (ws : List ℕ) (xs : List Float) (ks : List ℕ) {a : Act} → n .act ≡ a →
-    done n l fs ws xs ks ≡ doneBy a (session (n .opening) fs ws xs ks) l
-done-as n l fs ws xs ks e = λ i. doneBy (e i) (session (n .opening) fs ws xs ks) l
-
 pub small-as : {o p : Opening} → p ≡ o → Small o → Small p
 small-as u s = subst (λ (q : Opening). Small q) (sym u) s
+
+pub small-idle : Small idle
+small-idle = (omega arith, omega arith)

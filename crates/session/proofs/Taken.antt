@@ -12,16 +12,17 @@ use borrow.Author.Tests.{ltb-true}
 use types.Run.{OneOf, miss}
 use denote.Enum.Declared.{tagOf}
 use Rattle.forms.proofs.line.Line.{the-type}
+use Rattle.forms.specs.declared.line.Call.{Call}
 use Rattle.forms.specs.declared.line.Line.{Line}
-use Rattle.forms.specs.declared.line.Line.the-variants.{Bad, Open, Vert, Face, Put, Clear, Reweigh, Advance, Density, Report}
+use Rattle.forms.specs.declared.line.Line.the-variants.{Bad, Open, Vert, Face, OnStore}
 use Rattle.session.specs.declared.opening.Opening.{Opening}
 use Rattle.calls.specs.Calls.{badText}
-use Rattle.session.specs.Session.{Session, Small, vertBound, faceBound, vertsDue, due, begun, vertRead, faceRead, session, said, givenUp, calls, settled, inOpening, outside, respond}
-use Rattle.session.specs.declared.take.Next.{Next}
-use Rattle.session.specs.Next.{stopped, done}
+use Rattle.session.specs.Session.{Session, Small, vertBound, faceBound, vertsDue, due, begun, vertRead, faceRead}
+use Rattle.session.specs.Session.{session, said, givenUp, onStore, settled, inOpening, outside, respond}
 
 -- three stores in a row
-pub stored3 : {A : Type 0} (l : List A) (k : ℕ) (a b c : A) → set (set (set l k a) (k + 1) b) (k + 2) c ≡ sets l k (a ∷ b ∷ c ∷ [])
+pub stored3 : {A : Type 0} (l : List A) (k : ℕ) (a b c : A) →
+    set (set (set l k a) (k + 1) b) (k + 2) c ≡ sets l k (a ∷ b ∷ c ∷ [])
 stored3 l k a b c =
     let e : k + 1 ≡ suc k = omega arith in
     let u : k + 2 ≡ suc (suc k) = omega arith in
@@ -38,7 +39,8 @@ face-room o (s, (h, d)) =
 
 -- ---- a line of it
 pub vert-kept : (s : Session) (x y z : Float) {p : Opening} {xs : List Float} →
-    vertsDue (s .opening) ≡ true → p ≡ vertRead (s .opening) → xs ≡ sets (s .coords) (3 * s .opening .«verts_read») (x ∷ y ∷ z ∷ []) →
+    vertsDue (s .opening) ≡ true → p ≡ vertRead (s .opening) →
+    xs ≡ sets (s .coords) (3 * s .opening .«verts_read») (x ∷ y ∷ z ∷ []) →
     inOpening s (Vert x y z) ≡ settled (session p (s .floats) (s .words) xs (s .corners))
 unfolding inOpening
 vert-kept s x y z h e u = rw (h, e, u) refl
@@ -48,7 +50,8 @@ unfolding inOpening
 vert-late s x y z h = rw (h) refl
 
 pub face-kept : (s : Session) (a b c : ℕ) {p : Opening} {ks : List ℕ} →
-    vertsDue (s .opening) ≡ false → p ≡ faceRead (s .opening) → ks ≡ sets (s .corners) (3 * s .opening .«faces_read») (a ∷ b ∷ c ∷ []) →
+    vertsDue (s .opening) ≡ false → p ≡ faceRead (s .opening) →
+    ks ≡ sets (s .corners) (3 * s .opening .«faces_read») (a ∷ b ∷ c ∷ []) →
     inOpening s (Face a b c) ≡ settled (session p (s .floats) (s .words) (s .coords) ks)
 unfolding inOpening
 face-kept s a b c h e u = rw (h, e, u) refl
@@ -57,20 +60,15 @@ pub face-early : (s : Session) (a b c : ℕ) → vertsDue (s .opening) ≡ true 
 unfolding inOpening
 face-early s a b c h = rw (h) refl
 
--- a line that gives it up
-pub gives-up : (s : Session) (l : Line) {n : Next} → inOpening s l ≡ givenUp s → n ≡ stopped → inOpening s l ≡ done n l (s .floats) (s .words) (s .coords) (s .corners)
-gives-up s l e u = e ∙ (λ i. done (sym u i) l (s .floats) (s .words) (s .coords) (s .corners))
-
-pub small-stopped : {n : Next} → n ≡ stopped → Small (n .opening)
-small-stopped u = subst (λ (m : Next). Small (m .opening)) (sym u) (omega arith, omega arith)
-
 -- ---- any other line
-pub opening-begun : (s : Session) (radius : Float) (verts faces : ℕ) {o : Opening} → leb verts vertBound && leb faces faceBound ≡ true → o ≡ begun radius verts faces →
+pub opening-begun : (s : Session) (radius : Float) (verts faces : ℕ) {o : Opening} →
+    leb verts vertBound && leb faces faceBound ≡ true → o ≡ begun radius verts faces →
     outside s (Open radius verts faces) ≡ settled (session o (s .floats) (s .words) (s .coords) (s .corners))
 unfolding outside
 opening-begun s radius verts faces h e = rw (h, e) refl
 
-pub opening-over : (s : Session) (radius : Float) (verts faces : ℕ) → leb verts vertBound && leb faces faceBound ≡ false → outside s (Open radius verts faces) ≡ said s badText
+pub opening-over : (s : Session) (radius : Float) (verts faces : ℕ) →
+    leb verts vertBound && leb faces faceBound ≡ false → outside s (Open radius verts faces) ≡ said s badText
 unfolding outside
 opening-over s radius verts faces h = rw (h) refl
 
@@ -86,7 +84,7 @@ responds-else s l h = rw (h) refl
 
 -- neither a vert nor a face line
 abbrev noMesh : List ℕ
-noMesh = 0 ∷ 1 ∷ 4 ∷ 5 ∷ 6 ∷ 7 ∷ 8 ∷ 9 ∷ []
+noMesh = 0 ∷ 1 ∷ 4 ∷ []
 
 pub no-mesh : (s : Session) (l : Line) → OneOf noMesh (tagOf the-type l) → inOpening s l ≡ givenUp s
 unfolding inOpening
@@ -94,26 +92,20 @@ no-mesh s Bad h = refl
 no-mesh s (Open radius verts faces) h = refl
 no-mesh s (Vert x y z) h = absurd (miss noMesh 2 tt h)
 no-mesh s (Face a b c) h = absurd (miss noMesh 3 tt h)
-no-mesh s (Put place x y z sigma w alpha) h = refl
-no-mesh s (Clear place) h = refl
-no-mesh s (Reweigh place w) h = refl
-no-mesh s (Advance n) h = refl
-no-mesh s (Density v x y z) h = refl
-no-mesh s (Report v) h = refl
+no-mesh s (OnStore c) h = refl
 
--- not an open line
-abbrev noOpen : List ℕ
-noOpen = 0 ∷ 2 ∷ 3 ∷ 4 ∷ 5 ∷ 6 ∷ 7 ∷ 8 ∷ 9 ∷ []
+-- neither an open line nor a call
+abbrev noCall : List ℕ
+noCall = 0 ∷ 2 ∷ 3 ∷ []
 
-pub no-open : (s : Session) (l : Line) → OneOf noOpen (tagOf the-type l) → outside s l ≡ calls s l
+pub no-call : (s : Session) (l : Line) → OneOf noCall (tagOf the-type l) → outside s l ≡ said s badText
 unfolding outside
-no-open s Bad h = refl
-no-open s (Open radius verts faces) h = absurd (miss noOpen 1 tt h)
-no-open s (Vert x y z) h = refl
-no-open s (Face a b c) h = refl
-no-open s (Put place x y z sigma w alpha) h = refl
-no-open s (Clear place) h = refl
-no-open s (Reweigh place w) h = refl
-no-open s (Advance n) h = refl
-no-open s (Density v x y z) h = refl
-no-open s (Report v) h = refl
+no-call s Bad h = refl
+no-call s (Open radius verts faces) h = absurd (miss noCall 1 tt h)
+no-call s (Vert x y z) h = refl
+no-call s (Face a b c) h = refl
+no-call s (OnStore c) h = absurd (miss noCall 4 tt h)
+
+pub a-call : (s : Session) (c : Call) → outside s (OnStore c) ≡ onStore s c
+unfolding outside
+a-call s c = refl

@@ -1,5 +1,6 @@
 -- 01, "Remainder", program `bench`: what it prints for a line, and what it holds afterwards. Definitions only.
 use Prim.Native.Nat.{ℕ, _+_, _*_, _≤_}
+use mathlib.Core.Path.{_≡_}
 use mathlib.Core.Bool.{Bool, cond, _&&_, _||_}
 use mathlib.Core.List.{List, [], _∷_}
 use lib.Dec.{leb, ltb}
@@ -10,8 +11,10 @@ use Rattle.base.specs.Floats.{+0}
 use Rattle.layout.specs.Layout.{width}
 use Rattle.layout.specs.After.{After}
 use Rattle.store.specs.Calls.{openStep}
+use Rattle.text.specs.Print.{Wrote}
+use Rattle.forms.specs.declared.line.Call.{Call}
 use Rattle.forms.specs.declared.line.Line.{Line}
-use Rattle.forms.specs.declared.line.Line.the-variants.{Bad, Open, Vert, Face, Put, Clear, Reweigh, Advance, Density, Report}
+use Rattle.forms.specs.declared.line.Line.the-variants.{Bad, Open, Vert, Face, OnStore}
 use Rattle.calls.specs.Texts.{openText}
 use Rattle.calls.specs.Calls.{badText, callOf}
 use Rattle.session.specs.declared.opening.Opening.{Opening}
@@ -40,10 +43,14 @@ abbrev pub idle : Opening
 idle = begun +0 0 0
 
 abbrev pub vertRead : Opening → Opening
-vertRead o = record { radius = o .radius; verts = o .verts; faces = o .faces; «verts_read» = o .«verts_read» + 1; «faces_read» = o .«faces_read» }
+vertRead o =
+    let n = o .«verts_read» + 1 in
+    record { radius = o .radius; verts = o .verts; faces = o .faces; «verts_read» = n; «faces_read» = o .«faces_read» }
 
 abbrev pub faceRead : Opening → Opening
-faceRead o = record { radius = o .radius; verts = o .verts; faces = o .faces; «verts_read» = o .«verts_read»; «faces_read» = o .«faces_read» + 1 }
+faceRead o =
+    let n = o .«faces_read» + 1 in
+    record { radius = o .radius; verts = o .verts; faces = o .faces; «verts_read» = o .«verts_read»; «faces_read» = n }
 
 -- its counts are the program's
 abbrev pub Small : Opening → Type 0
@@ -68,13 +75,19 @@ pub record Said : Type 0 where
 abbrev pub said : Session → List ℕ → Said
 said s text = record { next = s; text = text }
 
+-- what a function does that holds s: it is f's, so that s′ is held afterwards, and f's text is written from the start of out, up to n
+abbrev pub Does : (Session → Said) → Session → Session → List ℕ → ℕ → List ℕ → Type 0
+Does f s s′ out n out′ = (s′ ≡ f s .next) × Wrote out 0 (f s .text) n out′
+
 -- "gives up that opening, the store staying as before"
 abbrev pub givenUp : Session → Said
 givenUp s = said (session idle (s .floats) (s .words) (s .coords) (s .corners)) badText
 
 -- the opening so far: once no line of it is due, the store is opened with its mesh
 abbrev pub opens : Session → Opening → After
-opens s o = openStep width (s .floats) (s .words) (o .radius) (take (3 * o .verts) (s .coords)) (take (3 * o .faces) (s .corners))
+opens s o =
+    openStep width (s .floats) (s .words) (o .radius)
+    (take (3 * o .verts) (s .coords)) (take (3 * o .faces) (s .corners))
 
 unfoldable pub settled : Session → Said
 settled s =
@@ -99,34 +112,24 @@ inOpening s Bad = givenUp s
 inOpening s (Open radius verts faces) = givenUp s
 inOpening s (Vert x y z) = cond (vertsDue (s .opening)) (settled (withVert s x y z)) (givenUp s)
 inOpening s (Face a b c) = cond (vertsDue (s .opening)) (givenUp s) (settled (withFace s a b c))
-inOpening s (Put place x y z sigma w alpha) = givenUp s
-inOpening s (Clear place) = givenUp s
-inOpening s (Reweigh place w) = givenUp s
-inOpening s (Advance n) = givenUp s
-inOpening s (Density v x y z) = givenUp s
-inOpening s (Report v) = givenUp s
+inOpening s (OnStore c) = givenUp s
 
 -- a call, the rest staying
-abbrev pub calls : Session → Line → Said
-calls s l =
-    let r = callOf (s .floats) (s .words) l in
+abbrev pub onStore : Session → Call → Said
+onStore s c =
+    let r = callOf (s .floats) (s .words) c in
     said (session (s .opening) (r .floats) (r .words) (s .coords) (s .corners)) (r .text)
 
 -- any other line; "a count above the program's .. prints (no 13)"
 unfoldable pub outside : Session → Line → Said
-outside s Bad = calls s Bad
+outside s Bad = said s badText
 outside s (Open radius verts faces) =
     cond (leb verts vertBound && leb faces faceBound)
     (settled (session (begun radius verts faces) (s .floats) (s .words) (s .coords) (s .corners)))
     (said s badText)
-outside s (Vert x y z) = calls s (Vert x y z)
-outside s (Face a b c) = calls s (Face a b c)
-outside s (Put place x y z sigma w alpha) = calls s (Put place x y z sigma w alpha)
-outside s (Clear place) = calls s (Clear place)
-outside s (Reweigh place w) = calls s (Reweigh place w)
-outside s (Advance n) = calls s (Advance n)
-outside s (Density v x y z) = calls s (Density v x y z)
-outside s (Report v) = calls s (Report v)
+outside s (Vert x y z) = said s badText
+outside s (Face a b c) = said s badText
+outside s (OnStore c) = onStore s c
 
 -- what the program does with a line
 unfoldable pub respond : Session → Line → Said

@@ -209,6 +209,41 @@ spells-at (either a b f) (left l) r c e =
 pub spells : (f : Form) (l r : List ℕ) → T (clear f) → read f (left l) .text ≡ left r → Spells f (read f (left l) .val) l r
 spells f l r c e = spells-at f (left l) r c e
 
+-- ---- the first word of a text
+
+-- whether a token stands
+abbrev pub stands : Text → Bool
+stands lost = false
+stands (left l) = true
+
+-- whether a text begins with these bytes
+abbrev pub begins : List ℕ → List ℕ → Bool
+begins p l = stands (strip p l)
+
+-- the form begins with the word p
+abbrev pub Leads : List ℕ → Form → Type 0
+Leads p end = ⊥
+Leads p (word q f) = p ≡ q
+Leads p (number most f) = ⊥
+Leads p (real f) = ⊥
+Leads p (either a b f) = ⊥
+
+-- such a form finds nothing where the word does not stand
+pub no-word : (p : List ℕ) (f : Form) (l : List ℕ) → Leads p f → strip p l ≡ lost → read f (left l) .text ≡ lost
+no-word p end l h e = absurd h
+no-word p (word q f) l h e = (λ i. read f (strip (sym h i) l) .text) ∙ (λ i. read f (e i) .text) ∙ read-lost f
+no-word p (number most f) l h e = absurd h
+no-word p (real f) l h e = absurd h
+no-word p (either a b f) l h e = absurd h
+
+-- and one that begins with another word nothing where it does
+pub other-word : (p : List ℕ) (f : Form) (l m : List ℕ) → T (other p f) → T (clear f) → strip p l ≡ left m → read f (left l) .text ≡ lost
+other-word p f l m o c e = go (read f (left l) .text) refl
+  where
+    go : (t : Text) → read f (left l) .text ≡ t → t ≡ lost
+    go lost d = refl
+    go (left r) d = not-lost (sym (other-lost p f (read f (left l) .val) l r o (spells f l r c d)) ∙ e)
+
 -- ---- a choice
 
 -- the first form's thing or else the second's

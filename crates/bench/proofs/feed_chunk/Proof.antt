@@ -10,12 +10,12 @@ use Rattle.bench.proofs.feed_chunk.Statement.{statement}
 use Rattle.bench.proofs.feed_chunk.Tie as tie
 
 abbrev Inv-loop : tie.InvT-loop
-Inv-loop chunk n line₀ f₀ w₀ coords₀ corners₀ out₀ state₀ i₀ line f w coords corners out state i =
+Inv-loop chunk n line₀ floats₀ words₀ coords₀ corners₀ out₀ state₀ i₀ line floats words coords corners out state i =
     Small (state .opening)
-    × Left (feedAt chunk) n i (held (session (state .opening) f w coords corners) line (state .count)) (heldAfter chunk n (held (session (state₀ .opening) f₀ w₀ coords₀ corners₀) line₀ (state₀ .count)))
+    × Left (feedAt chunk) n i (held (session (state .opening) floats words coords corners) line (state .count)) (heldAfter chunk n (held (session (state₀ .opening) floats₀ words₀ coords₀ corners₀) line₀ (state₀ .count)))
 
 abbrev μ-loop : tie.MeasureT-loop
-μ-loop chunk n line₀ f₀ w₀ coords₀ corners₀ out₀ state₀ i₀ line f w coords corners out state i = n - i
+μ-loop chunk n line₀ floats₀ words₀ coords₀ corners₀ out₀ state₀ i₀ line floats words coords corners out state i = n - i
 
 -- after an answer that was not written nothing is promised of what is held
 returns : tie.Need-returns Inv-loop μ-loop

@@ -13,11 +13,11 @@ use Rattle.bench.proofs.serve.Statement.{statement}
 use Rattle.bench.proofs.serve.Tie as tie
 
 abbrev Inv-loop : tie.InvT-loop
-Inv-loop line₀ f₀ w₀ coords₀ corners₀ out₀ chunk₀ st₀ turns₀ line f w coords corners out chunk st turns =
-    (length chunk ≡ 4096) × Small (st .opening) × Reached (held (session (st .opening) f w coords corners) line (st .count))
+Inv-loop line₀ floats₀ words₀ coords₀ corners₀ out₀ chunk₀ st₀ turns₀ line floats words coords corners out chunk st turns =
+    (length chunk ≡ 4096) × Small (st .opening) × Reached (held (session (st .opening) floats words coords corners) line (st .count))
 
 abbrev μ-loop : tie.MeasureT-loop
-μ-loop line₀ f₀ w₀ coords₀ corners₀ out₀ chunk₀ st₀ turns₀ line f w coords corners out chunk st turns = turns
+μ-loop line₀ floats₀ words₀ coords₀ corners₀ out₀ chunk₀ st₀ turns₀ line floats words coords corners out chunk st turns = turns
 
 loop-holds : tie.Need-loop-holds Inv-loop μ-loop
 loop-holds c = (

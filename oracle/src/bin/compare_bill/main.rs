@@ -15,10 +15,7 @@ fn main() {
     let plan = Plan::read("compare_bill");
     let mut total = Tally::new();
     total.add(words(plan.count(100_000, 2_000_000), plan.rng(0)));
-    #[cfg(original)]
-    total.add(stores::lists(plan.count(100_000, 2_000_000), plan.rng(1)));
-    #[cfg(not(original))]
-    println!("{}", oracle::SKIPPED);
+    oracle::by_original!(total.add(stores::lists(plan.count(100_000, 2_000_000), plan.rng(1))));
     total.end();
 }
 

@@ -14,17 +14,16 @@ mod lists;
 #[cfg(original)]
 mod seen;
 
-#[cfg(original)]
 fn main() {
+    oracle::by_original!(work());
+}
+
+#[cfg(original)]
+fn work() {
     let plan = oracle::tally::Plan::read("compare_convert");
     let mut total = oracle::tally::Tally::new();
     total.add(lists::random(plan.count(100_000, 2_000_000), plan.rng(0)));
     total.add(bytes::each(plan.rng(1)));
     total.add(by_hand::cases(plan.rng(2)));
     total.end();
-}
-
-#[cfg(not(original))]
-fn main() {
-    println!("{}", oracle::SKIPPED);
 }

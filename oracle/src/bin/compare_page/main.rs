@@ -17,8 +17,12 @@ mod seen;
 #[cfg(original)]
 mod targets;
 
-#[cfg(original)]
 fn main() {
+    oracle::by_original!(work());
+}
+
+#[cfg(original)]
+fn work() {
     let plan = oracle::tally::Plan::read("compare_page");
     let (mut total, mut seen) = (oracle::tally::Tally::new(), seen::Seen::default());
     let count = plan.count(10_000, 200_000);
@@ -27,9 +31,4 @@ fn main() {
     total.add(seen.all_met(2 * count));
     total.add(by_hand::pages(plan.rng(2)));
     total.end();
-}
-
-#[cfg(not(original))]
-fn main() {
-    println!("{}", oracle::SKIPPED);
 }

@@ -9,8 +9,5 @@ mod judge;
 mod lists;
 
 fn main() {
-    #[cfg(original)]
-    judge::run();
-    #[cfg(not(original))]
-    println!("{}", oracle::SKIPPED);
+    oracle::by_original!(judge::run());
 }

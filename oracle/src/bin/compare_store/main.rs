@@ -17,8 +17,12 @@ mod squeezes;
 #[cfg(original)]
 mod tracks;
 
-#[cfg(original)]
 fn main() {
+    oracle::by_original!(work());
+}
+
+#[cfg(original)]
+fn work() {
     let plan = oracle::tally::Plan::read("compare_store");
     let mut total = oracle::tally::Tally::new();
     total.add(judge::histories(plan.count(60, 10_000), plan.rng(0)));
@@ -31,9 +35,4 @@ fn main() {
     total.add(damage::short(plan.count(40, 1_000), plan.rng(5)));
     total.add(damage::every_word(plan.count(2, 60), plan.rng(6)));
     total.end();
-}
-
-#[cfg(not(original))]
-fn main() {
-    println!("{}", oracle::SKIPPED);
 }

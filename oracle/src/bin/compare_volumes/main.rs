@@ -7,8 +7,5 @@
 mod judge;
 
 fn main() {
-    #[cfg(original)]
-    judge::run();
-    #[cfg(not(original))]
-    println!("{}", oracle::SKIPPED);
+    oracle::by_original!(judge::run());
 }

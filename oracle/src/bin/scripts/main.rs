@@ -14,8 +14,12 @@ mod draw;
 #[cfg(original)]
 mod run;
 
-#[cfg(original)]
 fn main() {
+    oracle::by_original!(work());
+}
+
+#[cfg(original)]
+fn work() {
     use std::io::{Read, Write};
     let words: Vec<String> = std::env::args().skip(1).collect();
     let words: Vec<&str> = words.iter().map(String::as_str).collect();
@@ -43,9 +47,4 @@ fn main() {
 fn usage() -> ! {
     eprintln!("usage: scripts SEED | --answers | --cases [BENCH] | --held INPUT ANSWERS | --stdin | --compare BENCH N SEED | --long N");
     std::process::exit(2);
-}
-
-#[cfg(not(original))]
-fn main() {
-    println!("{}", oracle::SKIPPED);
 }

@@ -29,8 +29,12 @@ mod tracks;
 #[cfg(original)]
 mod volumes;
 
-#[cfg(original)]
 fn main() {
+    oracle::by_original!(work());
+}
+
+#[cfg(original)]
+fn work() {
     println!("{}{}", oracle::platform(), processor());
     println!("processor time, {}\n", table::how());
     let mut timings = table::Timings::default();
@@ -55,9 +59,4 @@ fn main() {
 fn processor() -> String {
     let told = std::fs::read_to_string("/proc/cpuinfo").unwrap_or_default();
     told.lines().find_map(|l| l.strip_prefix("model name")).map_or(String::new(), |l| format!(", {}", l.trim_matches([' ', '\t', ':'])))
-}
-
-#[cfg(not(original))]
-fn main() {
-    println!("{}", oracle::SKIPPED);
 }

@@ -12,7 +12,7 @@ returns c =
     let c10 = c4 .before .before .before .before .before .before in
     let c15 = c10 .before .before .before .before .before in
     let place = c15 .args .place in
-    (c .end-line .ensures .0, answering (clearText place) (clear-done place (c4 .enum-told .given .1)) (c10 .clear .ensures) (then (c .before .before .write-clear .ensures .1) (c .end-line .ensures .1)))
+    (c .newline .ensures .0, answering (clearText place) (clear-done place (c4 .enum-told .given .1)) (c10 .clear .ensures) (then (c .before .before .write-clear .ensures .1) (c .newline .ensures .1)))
 
 returns-2 : tie.Need-returns-2
 returns-2 c =

@@ -12,7 +12,7 @@ returns c =
     let c11 = c5 .before .before .before .before .before .before in
     let c16 = c11 .before .before .before .before .before in
     let place = c16 .args .place in
-    (c .end-line .ensures .0, answering (putText place) (put-done place (c5 .pieces .given .1)) (c11 .put .ensures) (then (c .before .before .write-put .ensures .1) (c .end-line .ensures .1)))
+    (c .newline .ensures .0, answering (putText place) (put-done place (c5 .pieces .given .1)) (c11 .put .ensures) (then (c .before .before .write-put .ensures .1) (c .newline .ensures .1)))
 
 returns-2 : tie.Need-returns-2
 returns-2 c =

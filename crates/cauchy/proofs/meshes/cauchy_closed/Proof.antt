@@ -13,4 +13,4 @@ cauchy-closed-spec =
     (tie.spec
     (λ c κs. search needs)
     (λ c κs. search needs)
-    (λ c. c .number-of .ensures ∙ ap (λ (k : Checked). answered k [] .refusal) (c .before .check-closed .ensures)))
+    (λ c. c .check-number .ensures ∙ ap (λ (k : Checked). answered k [] .refusal) (c .before .check-closed .ensures)))

@@ -11,5 +11,6 @@ report-of-spec =
     (λ c. search needs)
     (λ c. search needs)
     (λ c κs. search needs)
+    (λ c κs. search needs)
     (λ c. rw (c .before .d .given .1) refl)
-    (λ c. rw (c .before .before .d2 .given .1, c .refusal-number .ensures) refl))
+    (λ c. rw (c .before .before .before .d2 .given .1, c .before .no-report .ensures, c .refusal-number .ensures) refl))

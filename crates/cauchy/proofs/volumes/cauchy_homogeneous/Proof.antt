@@ -6,7 +6,7 @@ use Rattle.cauchy.proofs.volumes.cauchy_homogeneous.Statement.{statemen
 use Rattle.cauchy.proofs.volumes.cauchy_homogeneous.Tie as tie
 
 returns : tie.Need-returns
-returns c = rw (c .report-from .ensures) (ap reportFrom (c .before .homogeneous .ensures))
+returns c = rw (c .report-of .ensures) (ap reportFrom (c .before .homogeneous .ensures))
 
 pub cauchy-homogeneous-spec : {M : Type 1} → statement M
 cauchy-homogeneous-spec =

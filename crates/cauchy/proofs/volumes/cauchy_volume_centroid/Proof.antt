@@ -6,7 +6,7 @@ use Rattle.cauchy.proofs.volumes.cauchy_volume_centroid.Statement.{stat
 use Rattle.cauchy.proofs.volumes.cauchy_volume_centroid.Tie as tie
 
 returns : tie.Need-returns
-returns c = rw (c .point-from .ensures) (ap pointFrom (c .before .volume-centroid .ensures))
+returns c = rw (c .point-of .ensures) (ap pointFrom (c .before .volume-centroid .ensures))
 
 pub cauchy-volume-centroid-spec : {M : Type 1} → statement M
 cauchy-volume-centroid-spec =

@@ -1,61 +1,189 @@
--- The nine forms, the first that stands there. Assumes nothing.
+-- Of the nine readers the one that the first word names. Assumes nothing.
 use mathlib.Core.Path.{sym, _∙_}
 use borrow.Author.Needs.{needs}
-use Rattle.text.specs.Text.{rest}
-use Rattle.text.specs.Form.{or}
-use Rattle.text.specs.FormLaws.{choose-is}
-use Rattle.forms.specs.Forms.{reportForm, toReport, densityForm, toDensity, densityOn, toDensityOn, advanceForm, toAdvance, advanceOn, toAdvanceOn, reweighForm, toReweigh, reweighOn, toReweighOn, clearForm, toClear, clearOn, toClearOn, putForm, toPut, putOn, toPutOn, faceForm, toFace, faceOn, toFaceOn, vertForm, toVert, vertOn, toVertOn, openForm, toOpen}
+use Rattle.forms.specs.Forms.{openForm, toOpen, vertForm, toVert, faceForm, toFace, putForm, toPut, clearForm, toClear}
+use Rattle.forms.specs.Forms.{reweighForm, toReweigh, advanceForm, toAdvance, densityForm, toDensity, reportForm, toReport}
+use Rattle.forms.proofs.Steps.{whole-as}
 use Rattle.forms.proofs.read.read_line.Statement.{statement}
 use Rattle.forms.proofs.read.read_line.Tie as tie
 
 returns : tie.Need-returns
 returns c =
     let c1 = c .before in
-    let c2 = c1 .before in
-    let c3 = c2 .before in
-    let c4 = c3 .before in
-    let c5 = c4 .before in
-    let c6 = c5 .before in
-    let c7 = c6 .before in
-    let c8 = c7 .before in
-    let c9 = c8 .before in
-    let c10 = c9 .before in
-    let c11 = c10 .before in
-    let c12 = c11 .before in
-    let c13 = c12 .before in
-    let c14 = c13 .before in
-    let c15 = c14 .before in
-    let c16 = c15 .before in
-    let c18 = c16 .before .before in
-    let t = rest (c18 .args .s .now) (c18 .args .at) in
-    let density = c14 .first-line .ensures ∙ (λ i. or (c16 .read-density .ensures i) (c15 .read-report .ensures i)) ∙ sym (choose-is densityForm reportForm toDensity toReport t) in
-    let advance = c12 .first-line2 .ensures ∙ (λ i. or (c13 .read-advance .ensures i) (density i)) ∙ sym (choose-is advanceForm densityOn toAdvance toDensityOn t) in
-    let reweigh = c10 .first-line3 .ensures ∙ (λ i. or (c11 .read-reweigh .ensures i) (advance i)) ∙ sym (choose-is reweighForm advanceOn toReweigh toAdvanceOn t) in
-    let clear = c8 .first-line4 .ensures ∙ (λ i. or (c9 .read-clear .ensures i) (reweigh i)) ∙ sym (choose-is clearForm reweighOn toClear toReweighOn t) in
-    let put = c6 .first-line5 .ensures ∙ (λ i. or (c7 .read-put .ensures i) (clear i)) ∙ sym (choose-is putForm clearOn toPut toClearOn t) in
-    let face = c4 .first-line6 .ensures ∙ (λ i. or (c5 .read-face .ensures i) (put i)) ∙ sym (choose-is faceForm putOn toFace toPutOn t) in
-    let vert = c2 .first-line7 .ensures ∙ (λ i. or (c3 .read-vert .ensures i) (face i)) ∙ sym (choose-is vertForm faceOn toVert toFaceOn t) in
-    c .first-line8 .ensures ∙ (λ i. or (c1 .read-open .ensures i) (vert i)) ∙ sym (choose-is openForm vertOn toOpen toVertOn t)
+    let e1 = sym (c1 .before .begins .ensures) ∙ c1 .if1 .taken in
+    let s = c1 .before .before .before .before .args .s .now in
+    let r = c .read-open in
+    rw (e1) (whole-as openForm toOpen s (r .result .line) (r .result .at) (r .ensures))
+
+returns-2 : tie.Need-returns-2
+returns-2 c =
+    let c2 = c .before in
+    let c1 = c2 .before .before .before in
+    let e1 = sym (c1 .before .begins .ensures) ∙ c1 .if1 .left in
+    let e2 = sym (c2 .before .begins2 .ensures) ∙ c2 .if2 .taken in
+    let s = c1 .before .before .before .before .args .s .now in
+    let r = c .read-vert in
+    rw (e1, e2) (whole-as vertForm toVert s (r .result .line) (r .result .at) (r .ensures))
+
+returns-3 : tie.Need-returns-3
+returns-3 c =
+    let c3 = c .before in
+    let c2 = c3 .before .before .before in
+    let c1 = c2 .before .before .before in
+    let e1 = sym (c1 .before .begins .ensures) ∙ c1 .if1 .left in
+    let e2 = sym (c2 .before .begins2 .ensures) ∙ c2 .if2 .left in
+    let e3 = sym (c3 .before .begins3 .ensures) ∙ c3 .if3 .taken in
+    let s = c1 .before .before .before .before .args .s .now in
+    let r = c .read-face in
+    rw (e1, e2, e3) (whole-as faceForm toFace s (r .result .line) (r .result .at) (r .ensures))
+
+returns-4 : tie.Need-returns-4
+returns-4 c =
+    let c4 = c .before in
+    let c3 = c4 .before .before .before in
+    let c2 = c3 .before .before .before in
+    let c1 = c2 .before .before .before in
+    let e1 = sym (c1 .before .begins .ensures) ∙ c1 .if1 .left in
+    let e2 = sym (c2 .before .begins2 .ensures) ∙ c2 .if2 .left in
+    let e3 = sym (c3 .before .begins3 .ensures) ∙ c3 .if3 .left in
+    let e4 = sym (c4 .before .begins4 .ensures) ∙ c4 .if4 .taken in
+    let s = c1 .before .before .before .before .args .s .now in
+    let r = c .read-put in
+    rw (e1, e2, e3, e4) (whole-as putForm toPut s (r .result .line) (r .result .at) (r .ensures))
+
+returns-5 : tie.Need-returns-5
+returns-5 c =
+    let c5 = c .before in
+    let c4 = c5 .before .before .before in
+    let c3 = c4 .before .before .before in
+    let c2 = c3 .before .before .before in
+    let c1 = c2 .before .before .before in
+    let e1 = sym (c1 .before .begins .ensures) ∙ c1 .if1 .left in
+    let e2 = sym (c2 .before .begins2 .ensures) ∙ c2 .if2 .left in
+    let e3 = sym (c3 .before .begins3 .ensures) ∙ c3 .if3 .left in
+    let e4 = sym (c4 .before .begins4 .ensures) ∙ c4 .if4 .left in
+    let e5 = sym (c5 .before .begins5 .ensures) ∙ c5 .if5 .taken in
+    let s = c1 .before .before .before .before .args .s .now in
+    let r = c .read-clear in
+    rw (e1, e2, e3, e4, e5) (whole-as clearForm toClear s (r .result .line) (r .result .at) (r .ensures))
+
+returns-6 : tie.Need-returns-6
+returns-6 c =
+    let c6 = c .before in
+    let c5 = c6 .before .before .before in
+    let c4 = c5 .before .before .before in
+    let c3 = c4 .before .before .before in
+    let c2 = c3 .before .before .before in
+    let c1 = c2 .before .before .before in
+    let e1 = sym (c1 .before .begins .ensures) ∙ c1 .if1 .left in
+    let e2 = sym (c2 .before .begins2 .ensures) ∙ c2 .if2 .left in
+    let e3 = sym (c3 .before .begins3 .ensures) ∙ c3 .if3 .left in
+    let e4 = sym (c4 .before .begins4 .ensures) ∙ c4 .if4 .left in
+    let e5 = sym (c5 .before .begins5 .ensures) ∙ c5 .if5 .left in
+    let e6 = sym (c6 .before .begins6 .ensures) ∙ c6 .if6 .taken in
+    let s = c1 .before .before .before .before .args .s .now in
+    let r = c .read-reweigh in
+    rw (e1, e2, e3, e4, e5, e6) (whole-as reweighForm toReweigh s (r .result .line) (r .result .at) (r .ensures))
+
+returns-7 : tie.Need-returns-7
+returns-7 c =
+    let c7 = c .before in
+    let c6 = c7 .before .before .before in
+    let c5 = c6 .before .before .before in
+    let c4 = c5 .before .before .before in
+    let c3 = c4 .before .before .before in
+    let c2 = c3 .before .before .before in
+    let c1 = c2 .before .before .before in
+    let e1 = sym (c1 .before .begins .ensures) ∙ c1 .if1 .left in
+    let e2 = sym (c2 .before .begins2 .ensures) ∙ c2 .if2 .left in
+    let e3 = sym (c3 .before .begins3 .ensures) ∙ c3 .if3 .left in
+    let e4 = sym (c4 .before .begins4 .ensures) ∙ c4 .if4 .left in
+    let e5 = sym (c5 .before .begins5 .ensures) ∙ c5 .if5 .left in
+    let e6 = sym (c6 .before .begins6 .ensures) ∙ c6 .if6 .left in
+    let e7 = sym (c7 .before .begins7 .ensures) ∙ c7 .if7 .taken in
+    let s = c1 .before .before .before .before .args .s .now in
+    let r = c .read-advance in
+    rw (e1, e2, e3, e4, e5, e6, e7) (whole-as advanceForm toAdvance s (r .result .line) (r .result .at) (r .ensures))
+
+returns-8 : tie.Need-returns-8
+returns-8 c =
+    let c8 = c .before in
+    let c7 = c8 .before .before .before in
+    let c6 = c7 .before .before .before in
+    let c5 = c6 .before .before .before in
+    let c4 = c5 .before .before .before in
+    let c3 = c4 .before .before .before in
+    let c2 = c3 .before .before .before in
+    let c1 = c2 .before .before .before in
+    let e1 = sym (c1 .before .begins .ensures) ∙ c1 .if1 .left in
+    let e2 = sym (c2 .before .begins2 .ensures) ∙ c2 .if2 .left in
+    let e3 = sym (c3 .before .begins3 .ensures) ∙ c3 .if3 .left in
+    let e4 = sym (c4 .before .begins4 .ensures) ∙ c4 .if4 .left in
+    let e5 = sym (c5 .before .begins5 .ensures) ∙ c5 .if5 .left in
+    let e6 = sym (c6 .before .begins6 .ensures) ∙ c6 .if6 .left in
+    let e7 = sym (c7 .before .begins7 .ensures) ∙ c7 .if7 .left in
+    let e8 = sym (c8 .before .begins8 .ensures) ∙ c8 .if8 .taken in
+    let s = c1 .before .before .before .before .args .s .now in
+    let r = c .read-density in
+    rw (e1, e2, e3, e4, e5, e6, e7, e8) (whole-as densityForm toDensity s (r .result .line) (r .result .at) (r .ensures))
+
+returns-9 : tie.Need-returns-9
+returns-9 c =
+    let c8 = c .before in
+    let c7 = c8 .before .before .before in
+    let c6 = c7 .before .before .before in
+    let c5 = c6 .before .before .before in
+    let c4 = c5 .before .before .before in
+    let c3 = c4 .before .before .before in
+    let c2 = c3 .before .before .before in
+    let c1 = c2 .before .before .before in
+    let e1 = sym (c1 .before .begins .ensures) ∙ c1 .if1 .left in
+    let e2 = sym (c2 .before .begins2 .ensures) ∙ c2 .if2 .left in
+    let e3 = sym (c3 .before .begins3 .ensures) ∙ c3 .if3 .left in
+    let e4 = sym (c4 .before .begins4 .ensures) ∙ c4 .if4 .left in
+    let e5 = sym (c5 .before .begins5 .ensures) ∙ c5 .if5 .left in
+    let e6 = sym (c6 .before .begins6 .ensures) ∙ c6 .if6 .left in
+    let e7 = sym (c7 .before .begins7 .ensures) ∙ c7 .if7 .left in
+    let e8 = sym (c8 .before .begins8 .ensures) ∙ c8 .if8 .left in
+    let s = c1 .before .before .before .before .args .s .now in
+    let r = c .read-report in
+    rw (e1, e2, e3, e4, e5, e6, e7, e8) (whole-as reportForm toReport s (r .result .line) (r .result .at) (r .ensures))
 
 pub read-line-spec : {M : Type 1} → statement M
 read-line-spec =
     tie.close
     (tie.spec
+    (λ c. search needs)
     (λ c κs. search needs)
     (λ c κs. search needs)
+    returns
+    (λ c. search needs)
     (λ c κs. search needs)
     (λ c κs. search needs)
+    returns-2
+    (λ c. search needs)
     (λ c κs. search needs)
     (λ c κs. search needs)
+    returns-3
+    (λ c. search needs)
     (λ c κs. search needs)
     (λ c κs. search needs)
+    returns-4
+    (λ c. search needs)
     (λ c κs. search needs)
     (λ c κs. search needs)
+    returns-5
+    (λ c. search needs)
     (λ c κs. search needs)
     (λ c κs. search needs)
+    returns-6
+    (λ c. search needs)
     (λ c κs. search needs)
     (λ c κs. search needs)
+    returns-7
+    (λ c. search needs)
     (λ c κs. search needs)
     (λ c κs. search needs)
+    returns-8
     (λ c κs. search needs)
-    returns)
+    returns-9)

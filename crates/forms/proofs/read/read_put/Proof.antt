@@ -4,7 +4,8 @@ use Prim.Native.Nat.{_-_, _^_}
 use borrow.Author.Needs.{needs}
 use Rattle.text.specs.Text.{bytes, literal, float, decimal}
 use Rattle.text.specs.Form.{end, read, three}
-use Rattle.forms.specs.declared.line.Line.the-variants.{Put}
+use Rattle.forms.specs.declared.line.Call.the-variants.{Put}
+use Rattle.forms.specs.declared.line.Line.the-variants.{OnStore}
 use Rattle.forms.proofs.read.read_put.Statement.{statement}
 use Rattle.forms.proofs.read.read_put.Tie as tie
 
@@ -31,7 +32,7 @@ returns c =
     let a· = c3 .read-bytes5 .ensures ∙ (λ i. literal (bytes ") (alpha ") (w i .text)) in
     let a = c2 .read-float3 .ensures ∙ (λ i. float (a· i)) in
     let e = c .read-bytes6 .ensures ∙ (λ i. literal (bytes "))") (a i .text)) in
-    (λ i. record { val = Put (p i .val) (m i .val .0) (m i .val .1 .0) (m i .val .1 .1 .0) (g i .val) (w i .val) (a i .val); text = e i })
+    (λ i. record { val = OnStore (Put (p i .val) (m i .val .0) (m i .val .1 .0) (m i .val .1 .1 .0) (g i .val) (w i .val) (a i .val)); text = e i })
 
 pub read-put-spec : {M : Type 1} → statement M
 read-put-spec =

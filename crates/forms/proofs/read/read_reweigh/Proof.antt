@@ -3,7 +3,8 @@ use mathlib.Core.Path.{_∙_}
 use Prim.Native.Nat.{_-_, _^_}
 use borrow.Author.Needs.{needs}
 use Rattle.text.specs.Text.{bytes, literal, float, decimal}
-use Rattle.forms.specs.declared.line.Line.the-variants.{Reweigh}
+use Rattle.forms.specs.declared.line.Call.the-variants.{Reweigh}
+use Rattle.forms.specs.declared.line.Line.the-variants.{OnStore}
 use Rattle.forms.proofs.read.read_reweigh.Statement.{statement}
 use Rattle.forms.proofs.read.read_reweigh.Tie as tie
 
@@ -18,7 +19,7 @@ returns c =
     let w· = c3 .read-bytes2 .ensures ∙ (λ i. literal (bytes " ") (p i .text)) in
     let w = c2 .read-float .ensures ∙ (λ i. float (w· i)) in
     let e = c .read-bytes3 .ensures ∙ (λ i. literal (bytes ")") (w i .text)) in
-    (λ i. record { val = Reweigh (p i .val) (w i .val); text = e i })
+    (λ i. record { val = OnStore (Reweigh (p i .val) (w i .val)); text = e i })
 
 pub read-reweigh-spec : {M : Type 1} → statement M
 read-reweigh-spec =

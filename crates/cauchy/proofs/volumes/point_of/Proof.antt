@@ -1,11 +1,11 @@
--- `cauchy::volumes::point_from` meets its contract, case by case. Assumes nothing.
+-- `cauchy::volumes::point_of` meets its contract, case by case. Assumes nothing.
 use borrow.Author.Needs.{needs}
 use mathlib.Core.Path.{refl}
-use Rattle.cauchy.proofs.volumes.point_from.Statement.{statement}
-use Rattle.cauchy.proofs.volumes.point_from.Tie as tie
+use Rattle.cauchy.proofs.volumes.point_of.Statement.{statement}
+use Rattle.cauchy.proofs.volumes.point_of.Tie as tie
 
-pub point-from-spec : {M : Type 1} → statement M
-point-from-spec =
+pub point-of-spec : {M : Type 1} → statement M
+point-of-spec =
     tie.close
     (tie.spec
     (λ c. search needs)
