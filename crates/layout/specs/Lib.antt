@@ -6,4 +6,5 @@ pub mod Left
 pub mod LeftLaws
 pub mod Runs
 pub mod RunLaws
+pub mod LayerLaws
 pub mod After

@@ -5,8 +5,8 @@ use Prim.Native.Nat.{ℕ, _+_, _-_, _≤_, _<_}
 use native.Mathlib.Nat.{zero-add}
 use native.Mathlib.Numerals.{add-one}
 use native.Mathlib.Omega.{arith}
-use lib.ListN.{length, take, drop, getD, set, replicate, length-append, length-take, length-drop, length-replicate, getD-replicate, length-set, take-append-drop}
-use lib.Seq.{sets, sets-eq, drop-drop, take-suc, length-take-le, take-append-seam, drop-append-seam, take-all}
+use lib.ListN.{length, take, drop, getD, set, replicate, length-append, length-take, length-drop, length-replicate, getD-replicate, length-set, take-append-drop, List·getD-append}
+use lib.Seq.{sets, sets-eq, drop-drop, drop-at, take-add, take-take, take-suc, length-take-le, take-append-seam, drop-append-seam, drop-append-add, take-append-add, take-all, getD-take, getD-drop, getD-append-add}
 use Rattle.layout.specs.Runs.{write}
 
 module _ {ℓ} {A : Type ℓ} where
@@ -51,6 +51,61 @@ module _ {A : Type 0} where
   pub write-none : (l : List A) (i : ℕ) → write l i [] ≡ l
   unfolding write
   write-none l i = take-append-drop i l
+
+  -- the words before what is written, the written ones, and the rest
+  pub write-before : (l : List A) (i : ℕ) (vs : List A) (j : ℕ) (d : A) → i ≤ length l → j < i → getD (write l i vs) j d ≡ getD l j d
+  unfolding write
+  write-before l i vs j d h b =
+      let n = length-take-le i l h in
+      List·getD-append (take i l) (vs ++ drop (length vs) (drop i l)) d j (omega arith) ∙ getD-take i l j d b
+
+  pub write-at : (l : List A) (i : ℕ) (vs : List A) (j : ℕ) (d : A) → i ≤ length l → j < length vs → getD (write l i vs) (i + j) d ≡ getD vs j d
+  unfolding write
+  write-at l i vs j d h b =
+      let n = length-take-le i l h in
+      ap (λ (k : ℕ). getD (take i l ++ (vs ++ drop (length vs) (drop i l))) (k + j) d) (sym n)
+      ∙ (getD-append-add (take i l) (vs ++ drop (length vs) (drop i l)) j d ∙ List·getD-append vs (drop (length vs) (drop i l)) d j b)
+
+  pub write-rest : (l : List A) (i : ℕ) (vs : List A) (n : ℕ) → i ≤ length l → i + length vs ≤ n → drop n (write l i vs) ≡ drop n l
+  unfolding write
+  write-rest l i vs n h b =
+      let k = length-take-le i l h in
+      let r = n - (i + length vs) in
+      let e : n ≡ i + (length vs + r) = omega arith in
+      let x = vs ++ drop (length vs) (drop i l) in
+      rw e
+      (ap (λ (m : ℕ). drop (m + (length vs + r)) (take i l ++ x)) (sym k)
+      ∙ (drop-append-add (take i l) x (length vs + r)
+      ∙ (drop-append-add vs (drop (length vs) (drop i l)) r
+      ∙ (drop-drop r (length vs) (drop i l) ∙ drop-drop (length vs + r) i l))))
+
+  pub write-past : (l : List A) (i : ℕ) (vs : List A) (j : ℕ) (d : A) → i ≤ length l → i + length vs ≤ j → getD (write l i vs) j d ≡ getD l j d
+  write-past l i vs j d h b =
+      let e : j ≡ j + 0 = omega arith in
+      rw e (sym (getD-drop j (write l i vs) 0 d) ∙ (ap (λ (r : List A). getD r 0 d) (write-rest l i vs j h b) ∙ getD-drop j l 0 d))
+
+  -- a write in the first n words: what is written, and r words more
+  write-in : (l : List A) (i : ℕ) (vs : List A) (r : ℕ) → i + (length vs + r) ≤ length l → write (take (i + (length vs + r)) l) i vs ≡ take (i + (length vs + r)) (write l i vs)
+  unfolding write
+  write-in l i vs r b =
+      let m = length vs in
+      let k = length-take-le i l (omega arith) in
+      let t : drop m (drop i (take (i + (m + r)) l)) ≡ take r (drop m (drop i l))
+      = ap (λ (t : List A). drop m (drop i t)) (take-add i (m + r) l)
+      ∙ (ap (drop m) (drop-at (take i l) (take (m + r) (drop i l)) i k)
+      ∙ (ap (drop m) (take-add m r (drop i l))
+      ∙ drop-at (take m (drop i l)) (take r (drop m (drop i l))) m (length-take-le m (drop i l) (rw length-drop (omega arith))))) in
+      let u : take (i + (m + r)) (take i l ++ (vs ++ drop m (drop i l))) ≡ take i l ++ (vs ++ take r (drop m (drop i l)))
+      = ap (λ (j : ℕ). take (j + (m + r)) (take i l ++ (vs ++ drop m (drop i l)))) (sym k)
+      ∙ (take-append-add (take i l) (vs ++ drop m (drop i l)) (m + r)
+      ∙ ap (λ (t : List A). take i l ++ t) (take-append-add vs (drop m (drop i l)) r)) in
+      ap (λ (t : List A). t ++ (vs ++ drop m (drop i (take (i + (m + r)) l)))) (take-take i (i + (m + r)) l (omega arith))
+      ∙ (ap (λ (t : List A). take i l ++ (vs ++ t)) t ∙ sym u)
+
+  pub write-take : (l : List A) (n i : ℕ) (vs : List A) → i + length vs ≤ n → n ≤ length l → write (take n l) i vs ≡ take n (write l i vs)
+  write-take l n i vs h b =
+      let e : i + (length vs + (n - (i + length vs))) ≡ n = omega arith in
+      rw e at (write-in l i vs (n - (i + length vs)) (omega arith))
 
   -- a head, zeros and a copy, one behind the other
   pub laid : (l h : List A) (n : ℕ) (z : A) (xs : List A) (a : ℕ) → length h + n ≡ a → a + length xs ≤ length l

@@ -6,6 +6,8 @@ pub mod Counts
 pub mod Lists
 pub mod Checks
 pub mod ReadLaws
+pub mod SeenLaws
+pub mod Layered
 pub mod ReportAnswer
 pub mod ListAnswer
 pub mod TrackAnswer

@@ -10,7 +10,7 @@ use lib.ListN.{length, getD, drop}
 use lib.Seq.{getD-take, take-append-seam, drop-append-seam}
 use lib.Ieee.{Float, nan}
 use borrow.Author.Tests.{eq-eqb, le-leb}
-use Rattle.base.specs.Answers.{accepted, counted, Outcome, outcome, guardedRun}
+use Rattle.base.specs.Answers.{andThen, accepted, counted, Outcome, outcome, guardedRun}
 use Rattle.base.specs.Refusals.{number}
 use Rattle.base.specs.RefusalLaws.{never-zero}
 use Rattle.base.specs.declared.refusal.Refusal.{Refusal}
@@ -21,6 +21,7 @@ use Rattle.density.specs.declared.convention.Convention.{Convention}
 use Rattle.layout.specs.Layout.{placeLimit, facesOf}
 use Rattle.layout.specs.Soundness.{storeCheck}
 use Rattle.layout.specs.Left.{leftOf}
+use Rattle.layout.specs.Layers.{layersCheck, inLayers}
 use Rattle.layout.specs.Runs.{write}
 use Rattle.readings.specs.Along.{pointAt, along}
 use Rattle.readings.specs.AlongLaws.{stretch-length, stretch-at}
@@ -43,9 +44,16 @@ pub no-points : (room : ℕ) → trackCheck 0 room ≡ Passed
 unfolding trackCheck
 no-points room = rw (le-leb 0 room (omega arith)) refl
 
-module _ (q : ℕ) (fs : List Float) (ws : List ℕ) (v : Convention) (points out : List Float) where
+module _ (q : ℕ) (fs : List Float) (ws : List ℕ) (layers : ℕ) (v : Convention) (points out : List Float) where
+  abbrev S : List ℕ
+  S = inLayers q layers ws
+
+  -- 4, 5 or 16
+  abbrev C : Checked
+  C = andThen (storeCheck q fs ws) (layersCheck layers)
+
   abbrev F : List Float → Float
-  F = densityAt (map (rescaled (applied v (heldSeen q fs ws .parts))) (map bare (heldSeen q fs ws .parts)))
+  F = densityAt (map (rescaled (applied v (heldSeen q fs S .parts))) (map bare (heldSeen q fs S .parts)))
 
   abbrev W : List Float
   W = write out 0 (along F points (length points / 3))
@@ -57,12 +65,12 @@ module _ (q : ℕ) (fs : List Float) (ws : List ℕ) (v : Convention) (points ou
   all a b c = guardedRead a (track v points out) (cond b (refusing (track v points out) Unfinished) (guardedRun c out (outcome (counted (length points / 3 ∷ [])) W)))
 
   abbrev got : Outcome
-  got = readStep q fs ws (track v points out)
+  got = readStep q fs ws layers (track v points out)
 
   -- where the track is not refused, the density reading at each of its points is not, and answers the word that is written there
-  pub each-point : (i : ℕ) → i < length points / 3 → got .reply .refusal ≡ 0 → readStep q fs ws (density v (pointAt points i)) ≡ outcome (accepted (getD (got .out) i nan ∷ [])) []
+  pub each-point : (i : ℕ) → i < length points / 3 → got .reply .refusal ≡ 0 → readStep q fs ws layers (density v (pointAt points i)) ≡ outcome (accepted (getD (got .out) i nan ∷ [])) []
   unfolding readStep
-  each-point i l = go (storeCheck q fs ws) (byMass v && ltb 0 (leftOf q ws (facesOf ws) placeLimit)) (trackCheck (length points) (length out))
+  each-point i l = go C (byMass v && ltb 0 (leftOf q S (facesOf S) placeLimit)) (trackCheck (length points) (length out))
     where
       word : getD W i nan ≡ F (pointAt points i)
       word = front (along F points (length points / 3)) out i nan (rw (stretch-length F points 0 (length points / 3)) l) ∙ (stretch-at F points 0 (length points / 3) i nan l ∙ ap (λ (n : ℕ). F (pointAt points n)) (zero-add i))
@@ -76,7 +84,7 @@ module _ (q : ℕ) (fs : List Float) (ws : List ℕ) (v : Convention) (points ou
   -- "a run's words past what a call writes stay untouched"
   pub rest-stays : drop (length points / 3) (got .out) ≡ drop (length points / 3) out
   unfolding readStep
-  rest-stays = go (storeCheck q fs ws) (byMass v && ltb 0 (leftOf q ws (facesOf ws) placeLimit)) (trackCheck (length points) (length out))
+  rest-stays = go C (byMass v && ltb 0 (leftOf q S (facesOf S) placeLimit)) (trackCheck (length points) (length out))
     where
       go : (a : Checked) (b : Bool) (c : Checked) → drop (length points / 3) (all a b c .out) ≡ drop (length points / 3) out
       go (Failed e) b c = refl
@@ -87,9 +95,9 @@ module _ (q : ℕ) (fs : List Float) (ws : List ℕ) (v : Convention) (points ou
           ap (λ (k : ℕ). drop k W) (sym n) ∙ (past (along F points (length points / 3)) out ∙ ap (λ (k : ℕ). drop k out) n)
 
   -- "for 8 a track counts as a density": where the density reading is refused, the track is refused alike
-  pub refused-alike : (x : List Float) → (readStep q fs ws (density v x) .reply .refusal ≡ 0 → ⊥) → got .reply ≡ readStep q fs ws (density v x) .reply
+  pub refused-alike : (x : List Float) → (readStep q fs ws layers (density v x) .reply .refusal ≡ 0 → ⊥) → got .reply ≡ readStep q fs ws layers (density v x) .reply
   unfolding readStep
-  refused-alike x = go (storeCheck q fs ws) (byMass v && ltb 0 (leftOf q ws (facesOf ws) placeLimit)) (trackCheck (length points) (length out))
+  refused-alike x = go C (byMass v && ltb 0 (leftOf q S (facesOf S) placeLimit)) (trackCheck (length points) (length out))
     where
       go : (a : Checked) (b : Bool) (c : Checked) → (one a b x .reply .refusal ≡ 0 → ⊥) → all a b c .reply ≡ one a b x .reply
       go (Failed e) b c h = refl

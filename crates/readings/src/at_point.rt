@@ -16,7 +16,13 @@ use density::convention::Convention;
 use layout::runs::word;
 
 // The density at a point of the places in some layers, under a convention.
-pub fn density(floats: &[f64], words: &[u32], v: Convention, layers: u32, point: [f64; 3]) -> Measured
+pub fn density(
+    floats: &[f64],
+    words: &[u32],
+    v: Convention,
+    layers: u32,
+    point: [f64; 3],
+) -> Measured
     ensures { λ r. ⌜ outcome (measuredAs r) []
         ≡ readStep width (now (floats .entry)) (now (words .entry)) layers (Readings.density v point) ⌝ }
 {

@@ -1,19 +1,24 @@
 // What a reading sees of a store's places. Whether it sees a place is decided here and nowhere else.
 // Internal: a function with a `requires` is called by proved code alone.
 ghost use mathlib.Core.Path.{_≡_};
+ghost use mathlib.Core.Bool.{cond};
 ghost use Prim.Native.Nat.{_≤_, _<_};
 ghost use lib.Dec.{ltb};
-ghost use lib.ListN.{length, take};
-ghost use Rattle.layout.specs.Layout.{width, placeLimit, layerLimit, cornersFrom};
+ghost use lib.ListN.{length, take, replicate};
+ghost use Rattle.layout.specs.Layout.{width, placeLimit, layerLimit, stateFrom, cornersFrom, layerOf};
 ghost use Rattle.layout.specs.Layers.{inSet, layersCheck, inLayers};
 ghost use Rattle.layout.specs.Left.{leftOf};
+ghost use Rattle.layout.specs.Runs.{write};
 ghost use Rattle.layout.specs.SoundLaws.{Worded};
 use base::refusal::Checked;
 use base::refusal::Refusal;
 use layout::left::left;
+use layout::offsets::CORNERS;
 use layout::offsets::PLACES;
 use layout::offsets::STATE;
 use layout::offsets::WIDTH;
+use layout::runs::copy_words;
+use layout::runs::zero_words;
 
 // Refusal 16 of a set of layers: a bit from 16 on names a layer above 15.
 pub fn check_layers(layers: u32) -> Checked
@@ -34,6 +39,22 @@ fn in_set(layers: u32, layer: u32) -> bool
     (layers >> layer) % 2 == 1
 }
 
+// Place i of the words that are seen: as it is where its layer is in the set, else as clear leaves a place, empty. This is
+// the one place where it is decided what a reading sees.
+fn look(seen: &mut [u32], words: &[u32], layers: u32, i: usize)
+    requires { ⌜ cornersFrom width ≤ length (now words) ⌝ ∗ ⌜ cornersFrom width ≤ length (now seen) ⌝
+        ∗ ⌜ (i < placeLimit) × (layerOf width (now words) i < layerLimit) ⌝ }
+    ensures { λ _. ⌜ now (seen .exit)
+        ≡ cond (inSet layers (layerOf width (now (words .entry)) i)) (now (seen .entry))
+        (write (now (seen .entry)) (stateFrom width i) (replicate width 0)) ⌝ }
+{
+    let row = WIDTH * i;
+    if in_set(layers, words[STATE + 3 + row]) {
+        return;
+    }
+    zero_words(seen, STATE + row, WIDTH);
+}
+
 // The words of a sound store up to the corners, with the places outside the layers empty. The other functions of a reading
 // go over these words, so that they know of no layers.
 pub fn seen_places(words: &[u32], layers: u32, faces: usize) -> [u32; 130]
@@ -41,18 +62,10 @@ pub fn seen_places(words: &[u32], layers: u32, faces: usize) -> [u32; 130]
     ensures { λ r. ⌜ r ≡ take (cornersFrom width) (inLayers width layers (now (words .entry))) ⌝ }
 {
     let mut seen = [0; 130];
-    seen[0] = words[0];
-    seen[1] = words[1];
+    copy_words(&mut seen, 0, &words[..CORNERS]);
     let mut i: usize = 0;
     while i < PLACES {
-        let at = STATE + WIDTH * i;
-        let layer = words[at + 3];
-        if in_set(layers, layer) {
-            seen[at] = words[at];
-            seen[at + 1] = words[at + 1];
-            seen[at + 2] = words[at + 2];
-            seen[at + 3] = layer;
-        }
+        look(&mut seen, words, layers, i);
         i += 1;
     }
     seen

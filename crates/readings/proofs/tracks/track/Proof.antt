@@ -1,34 +1,49 @@
 -- `readings::tracks::track` meets its contract: its check, then its scale, then its answer. Assumes nothing.
-use mathlib.Core.Path.{refl, sym, _∙_}
+use mathlib.Core.List.{map}
+use lib.Ieee.{Float}
+use mathlib.Core.Path.{_≡_, sym, ap, _∙_}
 use native.Mathlib.Omega.{arith}
+use Rattle.base.specs.declared.refusal.Checked.the-variants.{Passed}
 use Rattle.layout.specs.Layout.{width}
-use Rattle.layout.specs.SoundLaws.{fine}
-use Rattle.readings.specs.Readings.{track, heldSeen}
-use Rattle.readings.specs.ReadLaws.{read-as, read-passed}
+use Rattle.layout.specs.SoundLaws.{Worded, fine}
+use Rattle.readings.specs.Readings.{track, tracking, byMass, bare, heldAll}
+use Rattle.readings.specs.Checks.{readCheck}
+use Rattle.readings.specs.ReadLaws.{read-passed, read-refused}
+use Rattle.readings.specs.SeenLaws.{read-seen, seen-ready}
 use borrow.Author.Needs.{needs}
 use Rattle.readings.proofs.tracks.track.Statement.{statement}
 use Rattle.readings.proofs.tracks.track.Tie as tie
 
 scale-of-requires : tie.Need-scale-of-requires
 scale-of-requires c κs =
-    let h = fine width _ _ (read-passed width _ _ _ (sym (c .before .before .before .check-read .ensures) ∙ c .before .enum-told .given .1)) in
-    (omega (arith, h .mesh .floats), rw (c .word .ensures) (h .places))
+    let h = fine width _ _ (read-passed width _ _ _ _ (sym (c .before .before .before .before .before .check-read .ensures) ∙ c .before .before .before .enum-told .given .1)) in
+    let w : Worded width (c .before .before .before .before .before .before .before .before .before .before .before .args .words .now) (c .before .before .word .result) = rw (c .before .before .word .ensures) (h .places) in
+    (omega (arith, h .mesh .floats), seen-ready _ _ _ _ (c .before .seen-places .ensures) w)
 
 track-points-requires : tie.Need-track-points-requires
 track-points-requires c κs =
-    let h = fine width _ _ (read-passed width _ _ _ (sym (c .before .before .before .before .before .check-read .ensures) ∙ c .before .before .before .enum-told .given .1)) in
-    (omega (arith, h .mesh .floats), rw (c .before .before .word .ensures) (h .places))
+    let h = fine width _ _ (read-passed width _ _ _ _ (sym (c .before .before .before .before .before .before .before .before .check-read .ensures) ∙ c .before .before .before .before .before .before .enum-told .given .1)) in
+    let w : Worded width (c .before .before .before .before .before .before .before .before .before .before .before .before .before .before .args .words .now) (c .before .before .before .before .before .word .result) = rw (c .before .before .before .before .before .word .ensures) (h .places) in
+    (omega (arith, h .mesh .floats), seen-ready _ _ _ _ (c .before .before .before .before .seen-places .ensures) w)
 
 returns : tie.Need-returns
 returns c =
     let a = c .before .before .before .before .before .before .before .before .before .args in
-    rw (read-as width (a .floats .now) (a .words .now) (track (a .v) (a .points .now) (a .out .now)), ← c .before .before .before .before .by-mass .ensures, ← c .before .before .before .check-read .ensures, c .before .r .given .1) refl
+    let check = readCheck width (a .floats .now) (a .words .now) (a .layers) in
+    sym (read-refused width (a .floats .now) (a .words .now) (a .layers) (track (a .v) (a .points .now) (a .out .now)) _
+    (ap check (sym (c .before .before .before .before .by-mass .ensures)) ∙ (sym (c .before .before .before .check-read .ensures) ∙ c .before .r .given .1)))
 
 returns-2 : tie.Need-returns-2
-unfolding heldSeen
 returns-2 c =
-    let a = c .before .before .before .before .before .before .before .before .before .before .before .before .before .before .args in
-    rw (read-as width (a .floats .now) (a .words .now) (track (a .v) (a .points .now) (a .out .now)), ← c .before .before .before .before .before .before .before .before .before .by-mass .ensures, ← c .before .before .before .before .before .before .before .before .check-read .ensures, c .before .before .before .before .before .before .enum-told .given .1, ← c .before .before .before .before .scale-of .ensures) (c .before .before .track-points .ensures)
+    let a = c .before .before .before .before .before .before .before .before .before .before .before .before .before .before .before .before .before .args in
+    let f = a .floats .now in
+    let w = a .words .now in
+    let p : readCheck width f w (a .layers) (byMass (a .v)) ≡ Passed
+    = ap (readCheck width f w (a .layers)) (sym (c .before .before .before .before .before .before .before .before .before .before .before .before .by-mass .ensures)) ∙ (sym (c .before .before .before .before .before .before .before .before .before .before .before .check-read .ensures) ∙ c .before .before .before .before .before .before .before .before .before .enum-told .given .1) in
+    let ks = map bare (heldAll width f (c .before .before .before .before .before .before .before .seen-places .result) 32) in
+    c .before .before .track-points .ensures
+    ∙ (ap (λ (s : Float). tracking s ks (a .points .now) (a .out .now)) (c .before .before .before .before .before .scale-of .ensures)
+    ∙ sym (read-seen width f w (a .layers) (track (a .v) (a .points .now) (a .out .now)) (omega arith) p _ (c .before .before .before .before .before .before .before .seen-places .ensures)))
 
 pub track-spec : {M : Type 1} → statement M
 track-spec =
@@ -38,8 +53,11 @@ track-spec =
     (λ c κs. search needs)
     (λ c. search needs)
     (λ c. search needs)
-    (λ c κs. omega (arith, fine width _ _ (read-passed width _ _ _ (sym (c .before .before .check-read .ensures) ∙ c .enum-told .given .1)) .places))
+    (λ c κs. omega (arith, fine width _ _ (read-passed width _ _ _ _ (sym (c .before .before .check-read .ensures) ∙ c .enum-told .given .1)) .places))
+    (λ c κs. rw (c .word .ensures) (fine width _ _ (read-passed width _ _ _ _ (sym (c .before .before .before .check-read .ensures) ∙ c .before .enum-told .given .1)) .places))
+    (λ c. search needs)
     scale-of-requires
+    (λ c. search needs)
     track-points-requires
     returns
     (λ c. search needs)
