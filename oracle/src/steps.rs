@@ -145,9 +145,8 @@ pub fn power(b: f64, y: f64) -> f64 {
 }
 
 /// The floats 10^0 to 10^22, which are exact.
-const TENS: [f64; 23] = [
-    1.0, 1e1, 1e2, 1e3, 1e4, 1e5, 1e6, 1e7, 1e8, 1e9, 1e10, 1e11, 1e12, 1e13, 1e14, 1e15, 1e16, 1e17, 1e18, 1e19, 1e20, 1e21, 1e22,
-];
+const TENS: [f64; 23] =
+    [1.0, 1e1, 1e2, 1e3, 1e4, 1e5, 1e6, 1e7, 1e8, 1e9, 1e10, 1e11, 1e12, 1e13, 1e14, 1e15, 1e16, 1e17, 1e18, 1e19, 1e20, 1e21, 1e22];
 
 /// "T(y) = E(y·3.321928094887362)", but by 02's L2 "for whole y from 0 to 22, T(y) becomes the float 10^y", and "for whole y
 /// from -22 to -1 it becomes 1 divided by the float 10^(-y)".

@@ -2,21 +2,25 @@
 -- once, and T of any other argument is what 01's steps give. `HasValue y s k 1` says that y is finite, of the sign s, and k in size. Assumes nothing.
 use mathlib.Core.Path.{_≡_, refl, sym, ap, _∙_, subst}
 use mathlib.Core.Bool.{Bool, true, false, _&&_, cond, true≢false, false≢true}
-use Prim.Native.Nat.{ℕ, zero, suc, _+_, _-_, _*_, _/_, _^_, _≤_, _<_}
-use native.Mathlib.Nat.{mul-one, zero-mul, mul-comm, mul-right-comm, mul-pos, mul-div-cancel, eq-of-mul-eq-mul-right, le-trans, lt-irrefl, zero-lt-suc, pow-succ'}
+use Prim.Native.Nat.{ℕ, zero, suc, _+_, _-_, _*_, _/_, _%_, _^_, _≤_, _<_}
+use native.Mathlib.Nat.{mul-one, zero-mul, mul-comm, mul-right-comm, mul-pos, mul-div-cancel, eq-of-mul-eq-mul-right, le-trans, lt-irrefl, zero-lt-suc, pow-succ', suc-mul, add-mul, mul-assoc, mul-le-mul, mul-le-mul-right, le-of-lt}
+use mathlib.Core.Logic.{_⊎_, inl, inr}
 use native.Mathlib.Decide.{decLt}
 use native.Mathlib.Omega.{arith}
 use borrow.Author.Tests.{leb-true, eq-eqb, ne-eqb, le-leb, le-ltb, lt-ltb}
 use lib.Dec.{T, eqb, leb, ltb, ltb→lt, eqb→eq, lit≤, lit<}
 use lib.IntN.{ℤ}
-use lib.Ieee.{Float, nan, inf, fin, binary64, up, down, round, lt, eq, div, ofBits, ofInt, toBits}
-use lib.Ieee.Fits.{down-pos, and-l, and-r}
+use lib.Pow.{pow-add, pow-pos, pow-mono}
+use lib.Ieee.{Float, nan, inf, fin, binary64, up, down, round, lt, eq, div, ofBits, ofInt, toBits, fits}
+use lib.Ieee.Fits.{down-pos, and-l, and-r, round-fits}
 use lib.Ieee.Exact.{HasValue}
 use lib.Ieee.Back.{round-whole}
 use lib.Ieee.Positive.{first-pos}
 use lib.Ieee.Scale.{round-same}
-use Rattle.base.specs.Floats.{_⊘_, bits, decimal, +0, sign, abs, unitsIn}
+use Rattle.base.specs.Floats.{_⊘_, decimal, +0, sign, abs, unitsIn}
 use Rattle.base.specs.Constants.{one, one-is}
+use Rattle.base.specs.UnitLaws.{units-of, shift-of, units-is, unique}
+use Rattle.root.specs.Nearest.{plain}
 use Rattle.powers.specs.Exp.{cut}
 use Rattle.powers.specs.Power.{tenSteps, wholeTen, smallWhole, tenTo}
 
@@ -35,26 +39,26 @@ each f (suc n) k t h = go (each f n k (and-r (f n) (every f n) t)) (decLt k n)
 
 -- ---- the floats 10^k are exact
 
--- whether x is the whole number n
-abbrev isWhole : Float → ℕ → Bool
-isWhole nan n = false
-isWhole (inf s) n = false
-isWhole (fin true m e) n = false
-isWhole (fin false m e) n = eqb (m * up e * 1) (n * down e)
+-- whether x is a / c
+abbrev isFraction : Float → ℕ → ℕ → Bool
+isFraction nan a c = false
+isFraction (inf s) a c = false
+isFraction (fin true m e) a c = false
+isFraction (fin false m e) a c = eqb (m * up e * c) (a * down e)
 
-value-of : (x : Float) (n : ℕ) → T (isWhole x n) → HasValue x false n 1
-value-of nan n t = absurd t
-value-of (inf s) n t = absurd t
-value-of (fin true m e) n t = absurd t
-value-of (fin false m e) n t = (refl, eqb→eq (m * up e * 1) (n * down e) t)
+value-of : (x : Float) (a c : ℕ) → T (isFraction x a c) → HasValue x false a c
+value-of nan a c t = absurd t
+value-of (inf s) a c t = absurd t
+value-of (fin true m e) a c t = absurd t
+value-of (fin false m e) a c t = (refl, eqb→eq (m * up e * c) (a * down e) t)
 
-all-exact : T (every (λ k. isWhole (wholeTen k) (10 ^ k)) 23)
+all-exact : T (every (λ k. isFraction (wholeTen k) (10 ^ k) 1) 23)
 unfolding wholeTen ofInt round
 all-exact = tt
 
 -- "the float 10^y, which is exact"
 pub ten-exact : (k : ℕ) → k ≤ 22 → HasValue (wholeTen k) false (10 ^ k) 1
-ten-exact k h = value-of (wholeTen k) (10 ^ k) (each (λ i. isWhole (wholeTen i) (10 ^ i)) 23 k all-exact (omega arith))
+ten-exact k h = value-of (wholeTen k) (10 ^ k) 1 (each (λ i. isFraction (wholeTen i) (10 ^ i) 1) 23 k all-exact (omega arith))
 
 -- ---- y is whole: its part before the point, and the test
 module _ (s : Bool) (m : ℕ) (e : ℤ) (k : ℕ) where
@@ -174,29 +178,95 @@ pub ten-minus : (y : Float) (k : ℕ) → HasValue y true k 1 → k ≤ 22 → t
 ten-minus y zero v l = at-minus-zero y v ∙ one-is
 ten-minus y (suc k) v l = at-minus y (suc k) v (zero-lt-suc k) l ∙ quotient (wholeTen (suc k)) (10 ^ suc k) (ten-exact (suc k) l) (above-zero (suc k))
 
--- ---- no float beside T(-k) is nearer to 10^(-k)
+-- ---- no other float is as near to 10^(-k) as T(-k)
 
--- how far x is from 10^(-k), in units of 2^-1074 / 10^k
+-- how far a float of the sign plus is from 10^(-k), in units of 2^-1074 / 10^k
 abbrev pub far : ℕ → Float → ℕ
 far k x = (unitsIn binary64 x * 10 ^ k - 2 ^ 1074) + (2 ^ 1074 - unitsIn binary64 x * 10 ^ k)
 
--- the floats of the next patterns, which are the next ones above and below, are farther
-pub record Nearer (k : ℕ) (x : Float) : Type 0 where
-  pub above : far k x < far k (bits (toBits binary64 x + 1))
-  pub below : far k x < far k (bits (toBits binary64 x - 1))
+-- the digits of a normal value, 53 of them, and the place of the last
+abbrev digits : Float → ℕ
+digits x = 2 ^ 52 + toBits binary64 x % 2 ^ 52
 
-abbrev isNearer : ℕ → Bool
-isNearer k =
-    let x = decimal 1 k in
-    ltb (far k x) (far k (bits (toBits binary64 x + 1))) && ltb (far k x) (far k (bits (toBits binary64 x - 1)))
+abbrev last : Float → ℕ
+last x = toBits binary64 x / 2 ^ 52 - 1
 
-all-nearer : T (every isNearer 23)
-unfolding unitsIn toBits ofBits round
-all-nearer = tt
+-- whether x has more than the least 53 digits, and is off by less than half a unit of the last
+abbrev isClose : ℕ → Float → Bool
+isClose k x = isFraction x (digits x * 2 ^ last x) (2 ^ 1074) && (ltb (2 ^ 52) (digits x) && ltb (2 * far k x) (2 ^ last x * 10 ^ k))
 
-pub ten-nearest : (y : Float) (k : ℕ) → HasValue y true k 1 → k ≤ 22 → Nearer k (tenTo y)
-ten-nearest y k v l =
-    let t = each isNearer 23 k all-nearer (omega arith) in
-    let a = ltb (far k (decimal 1 k)) (far k (bits (toBits binary64 (decimal 1 k) + 1))) in
-    let b = ltb (far k (decimal 1 k)) (far k (bits (toBits binary64 (decimal 1 k) - 1))) in
-    rw (ten-minus y k v l) (record { above = ltb→lt _ _ (and-l a b t); below = ltb→lt _ _ (and-r a b t) })
+all-close : T (every (λ k. isClose (suc k) (decimal 1 (suc k))) 22)
+unfolding unitsIn toBits round
+all-close = tt
+
+-- another number of up to 53 digits, whatever the place of its last, is at least a unit of q's last place away
+unit-off : (q j p i : ℕ) → 2 ^ 52 < q → p < 2 ^ 53 → (p * 2 ^ i ≡ q * 2 ^ j → ⊥) → (q * 2 ^ j + 2 ^ j ≤ p * 2 ^ i) ⊎ (p * 2 ^ i + 2 ^ j ≤ q * 2 ^ j)
+unit-off q j p i Q P d = go (decLt i j)
+  where
+    -- the places of p that are above q's last
+    above : (r h : ℕ) → (r * h ≡ q * h → ⊥) → (q * h + h ≤ r * h) ⊎ (r * h + h ≤ q * h)
+    above r h n = pick (decLt q r) (decLt r q)
+      where
+        pick : Dec (q < r) → Dec (r < q) → (q * h + h ≤ r * h) ⊎ (r * h + h ≤ q * h)
+        pick (yes l) m = inl (subst (λ (x : ℕ). x ≤ r * h) (suc-mul q h) (mul-le-mul-right h l))
+        pick (no l) (yes m) = inr (subst (λ (x : ℕ). x ≤ q * h) (suc-mul r h) (mul-le-mul-right h m))
+        pick (no l) (no m) = let e : r ≡ q = omega arith in absurd (n (ap (λ (x : ℕ). x * h) e))
+
+    low : (h w : ℕ) → w ≤ h → p * w + 2 * h ≤ q * (2 * h)
+    low h w l =
+        let a : p * w ≤ 2 ^ 53 * h = mul-le-mul (le-of-lt P) l in
+        let b : (2 ^ 52 + 1) * (2 * h) ≤ q * (2 * h) = mul-le-mul-right (2 * h) (omega arith) in
+        let c : (2 ^ 52 + 1) * (2 * h) ≡ 2 ^ 52 * (2 * h) + 1 * (2 * h) = add-mul (2 ^ 52) 1 (2 * h) in
+        omega arith
+
+    go : Dec (i < j) → (q * 2 ^ j + 2 ^ j ≤ p * 2 ^ i) ⊎ (p * 2 ^ i + 2 ^ j ≤ q * 2 ^ j)
+    go (yes l) =
+        let t : j ≡ suc (j - 1) = omega arith in
+        let e : 2 ^ j ≡ 2 * 2 ^ (j - 1) = ap (λ (x : ℕ). 2 ^ x) t ∙ pow-succ' 2 (j - 1) in
+        inr (rw e (low (2 ^ (j - 1)) (2 ^ i) (pow-mono (omega arith))))
+    go (no l) =
+        let t : i - j + j ≡ i = omega arith in
+        let e : p * 2 ^ i ≡ p * 2 ^ (i - j) * 2 ^ j = ap (λ (x : ℕ). p * 2 ^ x) (sym t) ∙ ap (λ (x : ℕ). p * x) (pow-add 2 (i - j) j) ∙ sym (mul-assoc p (2 ^ (i - j)) (2 ^ j)) in
+        rw e (above (p * 2 ^ (i - j)) (2 ^ j) (λ z. d (e ∙ z)))
+
+-- g is off by less than half of u, and w a whole u from g: w is farther off
+farther : (g w u t n : ℕ) → (g + u ≤ w) ⊎ (w + u ≤ g) → 2 * ((g * t - n) + (n - g * t)) < u * t → (g * t - n) + (n - g * t) < (w * t - n) + (n - w * t)
+farther g w u t n (inl h) c = let l = subst (λ (x : ℕ). x ≤ w * t) (add-mul g u t) (mul-le-mul-right t h) in omega arith
+farther g w u t n (inr h) c = let l = subst (λ (x : ℕ). x ≤ g * t) (add-mul w u t) (mul-le-mul-right t h) in omega arith
+
+-- what a finite float of the sign plus is in units of 2^-1074
+record Held (z : Float) : Type 0 where
+  m : ℕ
+  i : ℕ
+  short : m < 2 ^ 53
+  value : HasValue z false (m * 2 ^ i) (2 ^ 1074)
+
+held : (z : Float) → T (fits binary64 z) → T (plain z) → Held z
+held nan f p = absurd p
+held (inf s) f p = absurd p
+held (fin true m e) f p = absurd p
+held (fin false zero e) f p = record { m = 0; i = 0; short = lit< tt; value = (refl, ap (λ (a : ℕ). a * 2 ^ 1074) (zero-mul (up e)) ∙ sym (zero-mul (down e))) }
+held (fin false (suc m) e) f p = let u = units-of false m e f in record { m = suc m; i = shift-of e; short = u .digits; value = (refl, u .value) }
+
+-- what is close to 10^(-k) is nearer than every other float of the sign plus
+nearest : (k : ℕ) (x z : Float) → T (isClose k x) → T (fits binary64 x) → T (fits binary64 z) → T (plain z) → (z ≡ x → ⊥) → far k x < far k z
+nearest k x z t f g p d =
+    let v = value-of x (digits x * 2 ^ last x) (2 ^ 1074) (and-l (isFraction x (digits x * 2 ^ last x) (2 ^ 1074)) (ltb (2 ^ 52) (digits x) && ltb (2 * far k x) (2 ^ last x * 10 ^ k)) t) in
+    let r = and-r (isFraction x (digits x * 2 ^ last x) (2 ^ 1074)) (ltb (2 ^ 52) (digits x) && ltb (2 * far k x) (2 ^ last x * 10 ^ k)) t in
+    let b = ltb→lt (2 ^ 52) (digits x) (and-l (ltb (2 ^ 52) (digits x)) (ltb (2 * far k x) (2 ^ last x * 10 ^ k)) r) in
+    let c = ltb→lt (2 * far k x) (2 ^ last x * 10 ^ k) (and-r (ltb (2 ^ 52) (digits x)) (ltb (2 * far k x) (2 ^ last x * 10 ^ k)) r) in
+    let h = held z g p in
+    let differ : h .m * 2 ^ h .i ≡ digits x * 2 ^ last x → ⊥ =
+    λ e. d (unique z x false (h .m * 2 ^ h .i) (2 ^ 1074) (digits x * 2 ^ last x) (2 ^ 1074) (pow-pos 1074) (pow-pos 1074) g f (h .value) v (ap (λ (a : ℕ). a * 2 ^ 1074) e)) in
+    let u = units-is x (digits x * 2 ^ last x) v in
+    let w = units-is z (h .m * 2 ^ h .i) (h .value) in
+    farther (unitsIn binary64 x) (unitsIn binary64 z) (2 ^ last x) (10 ^ k) (2 ^ 1074)
+    (rw (u, w) (unit-off (digits x) (last x) (h .m) (h .i) b (h .short) differ)) c
+
+-- T(-k) is correctly rounded. (What is below zero is farther from 10^(-k) than +0 is.)
+pub ten-nearest : (y : Float) (k : ℕ) → HasValue y true k 1 → 0 < k → k ≤ 22
+    → (z : Float) → T (fits binary64 z) → T (plain z) → (z ≡ tenTo y → ⊥) → far k (tenTo y) < far k z
+ten-nearest y zero v p l z f g d = absurd (lt-irrefl 0 p)
+ten-nearest y (suc k) v p l z f g d =
+    let e = ten-minus y (suc k) v l in
+    rw e (nearest (suc k) (decimal 1 (suc k)) z (each (λ i. isClose (suc i) (decimal 1 (suc i))) 22 k all-close (omega arith)) (round-fits binary64 false 1 (10 ^ suc k)) f g (λ h. d (h ∙ sym e)))
