@@ -47,7 +47,9 @@ pub fn put_refusal(refusal: Refusal) {
 // Writes how a fit ended.
 pub fn put_end_of_fit(fit: Fit) {
     match fit {
-        Fit::Kept => io::write_all(STDOUT_FILENO, b" kept"),
+        Fit::Kept => {
+            io::write_all(STDOUT_FILENO, b" kept");
+        }
         Fit::Fitted(pivot) => {
             io::write_all(STDOUT_FILENO, b" fitted");
             put_float(pivot);
@@ -56,7 +58,9 @@ pub fn put_end_of_fit(fit: Fit) {
             io::write_all(STDOUT_FILENO, b" fallback");
             put_number(column as u64);
         }
-        Fit::NoExponent => io::write_all(STDOUT_FILENO, b" no-exponent"),
+        Fit::NoExponent => {
+            io::write_all(STDOUT_FILENO, b" no-exponent");
+        }
     }
 }
 
