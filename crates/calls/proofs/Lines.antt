@@ -8,6 +8,7 @@ use denote.Enum.Declared.{tagOf}
 use Rattle.text.specs.Print.{Wrote}
 use Rattle.density.specs.declared.convention.Convention.{Convention}
 use Rattle.layout.specs.Layout.{width}
+use Rattle.layout.specs.Layers.{allLayers}
 use Rattle.store.specs.Calls.{clearStep, reweighStep}
 use Rattle.store.specs.Puts.{putStep}
 use Rattle.advance.specs.Steps.{advanceStep}
@@ -31,7 +32,7 @@ looking e (b, w) = calling e (b, (refl, (refl, w)))
 
 -- ---- each call
 pub put-line : (fs : List Float) (ws : List ℕ) {l : Line} {place : ℕ} {x y z sigma w alpha : Float} → l ≡ Put place x y z sigma w alpha →
-    callOf fs ws l ≡ called (putText place) (putStep width fs ws place (kernelOf x y z sigma w alpha))
+    callOf fs ws l ≡ called (putText place) (putStep width fs ws place (kernelOf x y z sigma w alpha) 0)
 unfolding callOf
 put-line fs ws e = rw (e) refl
 
@@ -49,12 +50,12 @@ unfolding callOf
 advance-line fs ws e = rw (e) refl
 
 pub density-line : (fs : List Float) (ws : List ℕ) {l : Line} {v : Convention} {x y z : Float} → l ≡ Density v x y z →
-    callOf fs ws l ≡ looked fs ws (densityText (readStep width fs ws (density v (x ∷ y ∷ z ∷ [])) .reply))
+    callOf fs ws l ≡ looked fs ws (densityText (readStep width fs ws allLayers (density v (x ∷ y ∷ z ∷ [])) .reply))
 unfolding callOf
 density-line fs ws e = rw (e) refl
 
 pub report-line : (fs : List Float) (ws : List ℕ) {l : Line} {v : Convention} → l ≡ Report v →
-    callOf fs ws l ≡ looked fs ws (reportText (readStep width fs ws (report v) .reply))
+    callOf fs ws l ≡ looked fs ws (reportText (readStep width fs ws allLayers (report v) .reply))
 unfolding callOf
 report-line fs ws e = rw (e) refl
 
