@@ -14,15 +14,17 @@ use lib.ListN.{length, length-append, length-replicate}
 use lib.Ieee.{Float}
 use Rattle.base.specs.Answers.{counted, refused}
 use Rattle.base.specs.declared.refusal.Refusal.the-variants.{NoFigure, ShortPage}
+use Rattle.base.specs.declared.refusal.Checked.the-variants.{Passed}
 use Rattle.layout.specs.Runs.{write}
 use Rattle.layout.specs.Layout.{statusOf}
-use Rattle.layout.specs.SoundLaws.{Worded}
+use Rattle.layout.specs.Soundness.{storeCheck}
+use Rattle.layout.specs.SoundLaws.{Worded, passed-both}
 use Rattle.readings.specs.Readings.{rawMass, heldAt, heldFilled}
 use Rattle.text.specs.Print.{lengthFrom, decimalLength, decimalText}
 use Rattle.text.specs.WriteLaws.{length-digits}
 use Rattle.whole.specs.Whole.{printable}
 use Rattle.whole.specs.WholeLaws.{rounded-most}
-use Rattle.page.specs.Page.{spaces, right, wholeText, ending, placeLine, totalLine, Row, row, figure, linesOf, totalOf, pageOf, paged, allPrintable, pageAnswer, rowAt, heldRows}
+use Rattle.page.specs.Page.{spaces, right, wholeText, ending, placeLine, totalLine, Row, row, figure, linesOf, totalOf, pageOf, paged, allPrintable, pageAnswer, rowAt, heldRows, doneCheck}
 
 -- ---- lengths of texts
 pub decimal-length : (n : ℕ) → length (decimalText n) ≡ decimalLength n
@@ -257,3 +259,8 @@ module _ (rs : List Row) (bs : List ℕ) where
         let k = page-length rs g few in
         let m : length (pageOf rs) ≡ n = k ∙ sym h in
         rw (e, m, le-leb n (length bs) l, r)
+
+-- ---- the check passes only on a store that passes
+pub done-passed : (q : ℕ) (fs : List Float) (ws : List ℕ) → doneCheck q fs ws ≡ Passed → storeCheck q fs ws ≡ Passed
+unfolding doneCheck
+done-passed q fs ws h = passed-both (storeCheck q fs ws) _ h .0

@@ -20,10 +20,8 @@ use Rattle.layout.specs.Runs.{write}
 use Rattle.layout.specs.Layout.{placeLimit, facesOf}
 use Rattle.layout.specs.SoundLaws.{fine}
 use Rattle.readings.specs.Readings.{heldFilled}
-use Rattle.readings.specs.Checks.{readCheck}
-use Rattle.readings.specs.ReadLaws.{read-passed}
-use Rattle.page.specs.Page.{Row, totalOf, pageOf, Paged, paged, guardedPage, allPrintable, pageAnswer, heldRows, pageStep}
-use Rattle.page.specs.PageLaws.{AllFair, page-length, rows-count, rows-fair, filled-most}
+use Rattle.page.specs.Page.{doneCheck, Row, totalOf, pageOf, Paged, paged, guardedPage, allPrintable, pageAnswer, heldRows, pageStep}
+use Rattle.page.specs.PageLaws.{AllFair, done-passed, page-length, rows-count, rows-fair, filled-most}
 use Rattle.page.specs.ReadBack.{Lines, exactly, readMass, readLines, shown, page-lines, page-back, total-back}
 
 not-zero : {P : Type 0} (e : Refusal) → number e ≡ 0 → P
@@ -61,15 +59,15 @@ module _ (q : ℕ) (fs : List Float) (ws bs : List ℕ) where
 
   -- a page that is not refused passed all three
   record Good : Type 0 where
-    sound : readCheck q fs ws true ≡ Passed
+    sound : doneCheck q fs ws ≡ Passed
     figures : allPrintable rows ≡ true
     is : got ≡ paged (counted (length (pageOf rows) ∷ [])) (write bs 0 (pageOf rows))
 
   good : got .reply .refusal ≡ 0 → Good
   unfolding pageStep pageAnswer
-  good h = go (readCheck q fs ws true) (allPrintable rows) (leb (length (pageOf rows)) (length bs)) refl refl refl h
+  good h = go (doneCheck q fs ws) (allPrintable rows) (leb (length (pageOf rows)) (length bs)) refl refl refl h
     where
-      go : (a : Checked) (b c : Bool) → readCheck q fs ws true ≡ a → allPrintable rows ≡ b → leb (length (pageOf rows)) (length bs) ≡ c → so a b c .reply .refusal ≡ 0 → Good
+      go : (a : Checked) (b c : Bool) → doneCheck q fs ws ≡ a → allPrintable rows ≡ b → leb (length (pageOf rows)) (length bs) ≡ c → so a b c .reply .refusal ≡ 0 → Good
       go (Failed e) b c x y z r = not-zero e r
       go Passed false c x y z r = absurd (omega arith)
       go Passed true false x y z r = absurd (omega arith)
@@ -79,7 +77,7 @@ module _ (q : ℕ) (fs : List Float) (ws bs : List ℕ) where
   unfolding write
   posted h =
       let g = good h in
-      let s = fine q fs ws (read-passed q fs ws true (g .sound)) in
+      let s = fine q fs ws (done-passed q fs ws (g .sound)) in
       let f : AllFair rows = rows-fair q fs ws (facesOf ws) (s .places) placeLimit (omega arith) (g .figures) in
       let k = rows-count q fs ws placeLimit in
       let few : length rows ≤ 32 = rw k (filled-most q ws placeLimit) in
@@ -96,7 +94,7 @@ module _ (q : ℕ) (fs : List Float) (ws bs : List ℕ) where
   -- "a refused call changes nothing"
   pub unchanged : (got .reply .refusal ≡ 0 → ⊥) → got .page ≡ bs
   unfolding pageStep pageAnswer
-  unchanged h = go (readCheck q fs ws true) (allPrintable rows) (leb (length (pageOf rows)) (length bs)) h
+  unchanged h = go (doneCheck q fs ws) (allPrintable rows) (leb (length (pageOf rows)) (length bs)) h
     where
       go : (a : Checked) (b c : Bool) → (so a b c .reply .refusal ≡ 0 → ⊥) → so a b c .page ≡ bs
       go (Failed e) b c n = refl
