@@ -40,7 +40,7 @@ fn feed_chunk(
     n: usize,
     line: &mut [u8; 256],
     f: &mut [f64; 3261],
-    w: &mut [u32; 3098],
+    w: &mut [u32; 3130],
     coords: &mut [f64; 1500],
     corners: &mut [u32; 3000],
     out: &mut [u8; 512],
@@ -67,7 +67,7 @@ fn finish(
     st: State,
     line: &[u8; 256],
     f: &mut [f64; 3261],
-    w: &mut [u32; 3098],
+    w: &mut [u32; 3130],
     coords: &mut [f64; 1500],
     corners: &mut [u32; 3000],
     out: &mut [u8; 512],
@@ -83,7 +83,7 @@ fn finish(
 fn serve(
     line: &mut [u8; 256],
     f: &mut [f64; 3261],
-    w: &mut [u32; 3098],
+    w: &mut [u32; 3130],
     coords: &mut [f64; 1500],
     corners: &mut [u32; 3000],
     out: &mut [u8; 512],
@@ -112,7 +112,7 @@ fn serve(
 fn main() {
     let mut line = [0u8; 256];
     let mut f = [0.0f64; 3261];
-    let mut w = [0u32; 3098];
+    let mut w = [0u32; 3130];
     let mut coords = [0.0f64; 1500];
     let mut corners = [0u32; 3000];
     let mut out = [0u8; 512];
