@@ -79,7 +79,7 @@ fn feed_chunk(
     n: usize,
     line: &mut [u8; 256],
     floats: &mut [f64; 3261],
-    words: &mut [u32; 3098],
+    words: &mut [u32; 3130],
     coords: &mut [f64; 1500],
     corners: &mut [u32; 3000],
     out: &mut [u8; 512],
@@ -112,7 +112,7 @@ fn finish(
     st: State,
     line: &[u8; 256],
     floats: &mut [f64; 3261],
-    words: &mut [u32; 3098],
+    words: &mut [u32; 3130],
     coords: &mut [f64; 1500],
     corners: &mut [u32; 3000],
     out: &mut [u8; 512],
@@ -130,7 +130,7 @@ fn finish(
 fn serve(
     line: &mut [u8; 256],
     floats: &mut [f64; 3261],
-    words: &mut [u32; 3098],
+    words: &mut [u32; 3130],
     coords: &mut [f64; 1500],
     corners: &mut [u32; 3000],
     out: &mut [u8; 512],
@@ -159,7 +159,7 @@ fn serve(
 fn main() {
     let mut line = [0u8; 256];
     let mut floats = [0.0f64; 3261];
-    let mut words = [0u32; 3098];
+    let mut words = [0u32; 3130];
     let mut coords = [0.0f64; 1500];
     let mut corners = [0u32; 3000];
     let mut out = [0u8; 512];

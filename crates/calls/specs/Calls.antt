@@ -7,6 +7,7 @@ use Rattle.base.specs.Answers.{Answer}
 use Rattle.base.specs.declared.refusal.Refusal.the-variants.{BadLine}
 use Rattle.kernel.specs.declared.kernel.Kernel.{Kernel}
 use Rattle.layout.specs.Layout.{width}
+use Rattle.layout.specs.Layers.{allLayers}
 use Rattle.layout.specs.After.{After}
 use Rattle.store.specs.Calls.{clearStep, reweighStep}
 use Rattle.store.specs.Puts.{putStep}
@@ -35,11 +36,12 @@ badText = noText (number BadLine)
 abbrev pub kernelOf : Float → Float → Float → Float → Float → Float → Kernel
 kernelOf x y z sigma w alpha = record { c = x ∷ y ∷ z ∷ []; sigma = sigma; w = w; alpha = alpha }
 
+-- 02, L5: "The bench puts in layer 0 and reads with all sixteen."
 unfoldable pub callOf : List Float → List ℕ → Call → Called
 callOf fs ws (Put place x y z sigma w alpha) =
-    called (putText place) (putStep width fs ws place (kernelOf x y z sigma w alpha))
+    called (putText place) (putStep width fs ws place (kernelOf x y z sigma w alpha) 0)
 callOf fs ws (Clear place) = called (clearText place) (clearStep width fs ws place)
 callOf fs ws (Reweigh place w) = called (reweighText place) (reweighStep width fs ws place w)
 callOf fs ws (Advance n) = called advanceText (advanceStep width fs ws n)
-callOf fs ws (Density v x y z) = looked fs ws (densityText (readStep width fs ws (density v (x ∷ y ∷ z ∷ [])) .reply))
-callOf fs ws (Report v) = looked fs ws (reportText (readStep width fs ws (report v) .reply))
+callOf fs ws (Density v x y z) = looked fs ws (densityText (readStep width fs ws allLayers (density v (x ∷ y ∷ z ∷ [])) .reply))
+callOf fs ws (Report v) = looked fs ws (reportText (readStep width fs ws allLayers (report v) .reply))

@@ -5,6 +5,7 @@ ghost use Prim.Native.Nat.{_≤_};
 ghost use Rattle.base.specs.Refusals.{number};
 ghost use Rattle.text.specs.Print.{Wrote};
 ghost use Rattle.layout.specs.Layout.{width};
+ghost use Rattle.layout.specs.Layers.{allLayers};
 ghost use Rattle.store.specs.Calls.{openStep, clearStep, reweighStep};
 ghost use Rattle.store.specs.Puts.{putStep};
 ghost use Rattle.advance.specs.Steps.{advanceStep};
@@ -37,6 +38,11 @@ use store::open::open;
 use store::put::Placed;
 use store::put::put;
 use text::write::write_bytes;
+
+// The program puts into this layer, and reads with all sixteen.
+const LAYER: u32 = 0;
+
+const ALL_LAYERS: u32 = 65535;
 
 // The newline after a text that ends at `at`.
 fn newline(out: &mut [u8; 512], at: usize) -> usize
@@ -79,7 +85,7 @@ pub fn answer_open(
     }
 }
 
-// Puts a kernel.
+// Puts a kernel, in layer 0.
 pub fn answer_put(
     floats: &mut [f64],
     words: &mut [u32],
@@ -88,11 +94,11 @@ pub fn answer_put(
     out: &mut [u8; 512],
 ) -> usize
     ensures { λ r. ⌜ r ≤ 256 ⌝ }
-    ensures { λ _. ⌜ now (floats .exit) ≡ putStep width (now (floats .entry)) (now (words .entry)) place k .floats ⌝ }
-    ensures { λ _. ⌜ now (words .exit) ≡ putStep width (now (floats .entry)) (now (words .entry)) place k .words ⌝ }
-    ensures { λ r. ⌜ Wrote (now (out .entry)) 0 (putText place (putStep width (now (floats .entry)) (now (words .entry)) place k .reply)) r (now (out .exit)) ⌝ }
+    ensures { λ _. ⌜ now (floats .exit) ≡ putStep width (now (floats .entry)) (now (words .entry)) place k 0 .floats ⌝ }
+    ensures { λ _. ⌜ now (words .exit) ≡ putStep width (now (floats .entry)) (now (words .entry)) place k 0 .words ⌝ }
+    ensures { λ r. ⌜ Wrote (now (out .entry)) 0 (putText place (putStep width (now (floats .entry)) (now (words .entry)) place k 0 .reply)) r (now (out .exit)) ⌝ }
 {
-    match put(floats, words, place, k) {
+    match put(floats, words, place, k, LAYER) {
         Placed::Needs(pieces, need, _) => {
             let at = write_put(out, 0, place, pieces, need);
             newline(out, at)
@@ -160,7 +166,7 @@ pub fn answer_advance(
     }
 }
 
-// Reads the density.
+// Reads the density, with all sixteen layers.
 pub fn answer_density(
     floats: &[f64],
     words: &[u32],
@@ -169,9 +175,9 @@ pub fn answer_density(
     out: &mut [u8; 512],
 ) -> usize
     ensures { λ r. ⌜ r ≤ 256 ⌝ }
-    ensures { λ r. ⌜ Wrote (now (out .entry)) 0 (densityText (readStep width (now (floats .entry)) (now (words .entry)) (Readings.density v point) .reply)) r (now (out .exit)) ⌝ }
+    ensures { λ r. ⌜ Wrote (now (out .entry)) 0 (densityText (readStep width (now (floats .entry)) (now (words .entry)) allLayers (Readings.density v point) .reply)) r (now (out .exit)) ⌝ }
 {
-    match density(floats, words, v, point) {
+    match density(floats, words, v, ALL_LAYERS, point) {
         Measured::Value(x) => {
             let at = write_density(out, 0, x);
             newline(out, at)
@@ -180,12 +186,12 @@ pub fn answer_density(
     }
 }
 
-// Reports the masses.
+// Reports the masses, with all sixteen layers.
 pub fn answer_report(floats: &[f64], words: &[u32], v: Convention, out: &mut [u8; 512]) -> usize
     ensures { λ r. ⌜ r ≤ 256 ⌝ }
-    ensures { λ r. ⌜ Wrote (now (out .entry)) 0 (reportText (readStep width (now (floats .entry)) (now (words .entry)) (Readings.report v) .reply)) r (now (out .exit)) ⌝ }
+    ensures { λ r. ⌜ Wrote (now (out .entry)) 0 (reportText (readStep width (now (floats .entry)) (now (words .entry)) allLayers (Readings.report v) .reply)) r (now (out .exit)) ⌝ }
 {
-    match report(floats, words, v) {
+    match report(floats, words, v, ALL_LAYERS) {
         Reported::Report {
             mass,
             filled,

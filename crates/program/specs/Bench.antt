@@ -31,7 +31,7 @@ answersTo s (l ∷ ls) = respond s (parseLine l) .text ++ answersTo (respond s (
 
 -- "Before an opening the store is all zeros, which is sound" (proofs/Zeros.antt)
 abbrev pub atFirst : Session
-atFirst = session idle (replicate 3261 +0) (replicate 3098 0) (replicate 1500 +0) (replicate 3000 0)
+atFirst = session idle (replicate 3261 +0) (replicate 3130 0) (replicate 1500 +0) (replicate 3000 0)
 
 -- what is held before the first byte
 abbrev pub heldAtFirst : Held

@@ -34,12 +34,12 @@ use store::squeeze::Squeezed;
 use store::squeeze::squeeze;
 
 // How many values a word of 32 bits has.
-const WORD: u64 = 4_294_967_296;
+pub const WORD: u64 = 4_294_967_296;
 
 // The runs have room for 8 vertices and 12 faces, and a few words of excess.
 pub type Floats = [f64; 1787];
 
-pub type Words = [u32; 135];
+pub type Words = [u32; 167];
 
 // Opens the store with so many coordinates of the mesh, and its corners from one position to another.
 pub fn run_open(
@@ -80,15 +80,23 @@ fn say_fit(fit: Fit) {
     }
 }
 
-// Puts a kernel; all have one centre.
-pub fn run_put(f: &mut Floats, w: &mut Words, place: u64, sigma: f64, weight: f64, alpha: f64) {
+// Puts a kernel into a layer; all have one centre.
+pub fn run_put(
+    f: &mut Floats,
+    w: &mut Words,
+    place: u64,
+    sigma: f64,
+    weight: f64,
+    alpha: f64,
+    layer: u32,
+) {
     let k = Kernel {
         c: [0.25, -0.125, 0.5],
         sigma,
         w: weight,
         alpha,
     };
-    match put(f, w, (place % WORD) as u32, k) {
+    match put(f, w, (place % WORD) as u32, k, layer) {
         Placed::Needs(pieces, need, fit) => {
             say(b" pieces 0 need 1", [pieces as u64, need as u64], NO_FLOATS);
             say_fit(fit);
@@ -127,15 +135,15 @@ pub fn run_squeeze(f: &mut Floats, w: &mut Words) {
 }
 
 // The density at a point beside the kernels' centre.
-pub fn run_density(f: &Floats, w: &Words, v: Convention) {
-    match density(f, w, v, [0.75, -0.5, 0.25]) {
+pub fn run_density(f: &Floats, w: &Words, v: Convention, layers: u32) {
+    match density(f, w, v, layers, [0.75, -0.5, 0.25]) {
         Measured::Value(x) => say(b" value A", [0, 0], [x; 8]),
         Measured::Refused(r) => say_refused(r),
     }
 }
 
-pub fn run_report(f: &Floats, w: &Words, v: Convention) {
-    match report(f, w, v) {
+pub fn run_report(f: &Floats, w: &Words, v: Convention, layers: u32) {
+    match report(f, w, v, layers) {
         Reported::Report {
             mass,
             filled,
@@ -169,17 +177,17 @@ fn say_listed(l: ListRead) {
 }
 
 // The list into the first `room` floats of a run, whose digest is written too: words past the pieces stay.
-fn run_list_in(f: &Floats, w: &Words, v: Convention, room: usize, out: &mut [f64]) {
+fn run_list_in(f: &Floats, w: &Words, v: Convention, layers: u32, room: usize, out: &mut [f64]) {
     if room > out.len() {
         return;
     }
-    say_listed(list(f, w, v, &mut out[0..room]));
+    say_listed(list(f, w, v, layers, &mut out[0..room]));
     say(b" run X", [digest_floats(out), 0], NO_FLOATS);
 }
 
-pub fn run_list(f: &Floats, w: &Words, v: Convention, room: usize) {
+pub fn run_list(f: &Floats, w: &Words, v: Convention, layers: u32, room: usize) {
     let mut out = [2.5; 1200];
-    run_list_in(f, w, v, room, &mut out);
+    run_list_in(f, w, v, layers, room, &mut out);
 }
 
 fn say_tracked(t: TrackRead) {
@@ -194,6 +202,7 @@ fn run_track_in(
     f: &Floats,
     w: &Words,
     v: Convention,
+    layers: u32,
     points: &[f64],
     coordinates: usize,
     room: usize,
@@ -205,18 +214,25 @@ fn run_track_in(
     if room > out.len() {
         return;
     }
-    say_tracked(track(f, w, v, &points[0..coordinates], &mut out[0..room]));
+    say_tracked(track(f, w, v, layers, &points[0..coordinates], &mut out[0..room]));
     say(b" run X", [digest_floats(out), 0], NO_FLOATS);
 }
 
 // A track of a few of the body's points, or of so many that all are one.
-pub fn run_track(f: &Floats, w: &Words, v: Convention, coordinates: usize, room: usize) {
+pub fn run_track(
+    f: &Floats,
+    w: &Words,
+    v: Convention,
+    layers: u32,
+    coordinates: usize,
+    room: usize,
+) {
     let mut out = [2.5; 4100];
     if coordinates <= 24 {
-        run_track_in(f, w, v, &points(), coordinates, room, &mut out);
+        run_track_in(f, w, v, layers, &points(), coordinates, room, &mut out);
     } else {
         let far = [0.5; 12291];
-        run_track_in(f, w, v, &far, coordinates, room, &mut out);
+        run_track_in(f, w, v, layers, &far, coordinates, room, &mut out);
     }
 }
 
@@ -244,7 +260,7 @@ pub fn run_page(f: &Floats, w: &Words, room: usize) {
 
 // Writes a word of the store from outside.
 pub fn run_write(w: &mut Words, at: usize, value: u64) {
-    if at < 135 {
+    if at < 167 {
         w[at] = (value % WORD) as u32;
     }
 }

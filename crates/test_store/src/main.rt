@@ -14,6 +14,7 @@ mod script;
 ghost use Prim.Native.Nat.{_≤_};
 ghost use lib.ListN.{length};
 use crate::calls::Floats;
+use crate::calls::WORD;
 use crate::calls::Words;
 use crate::calls::run_advance;
 use crate::calls::run_clear;
@@ -35,6 +36,12 @@ use density::convention::Convention;
 use libc::STDIN_FILENO;
 use libc::STDOUT_FILENO;
 
+// The layer of a put, and the set of layers of a reading.
+struct Layers {
+    layer: u32,
+    layers: u32,
+}
+
 // A convention by the words that follow its name, of which it has none, one or two.
 fn convention(first: u64, second: u64, a: f64, b: f64) -> Convention {
     if first == NO_WORD {
@@ -46,8 +53,31 @@ fn convention(first: u64, second: u64, a: f64, b: f64) -> Convention {
     Convention::Mass(a, b)
 }
 
-// A call by the first and the third letter of its name, and its line's words.
-fn call(f: &mut Floats, w: &mut Words, first: u8, third: u8, n: [u64; 8], x: [f64; 8]) {
+// A reading of some layers by the first letter of its name, and its line's words.
+fn read(f: &Floats, w: &Words, first: u8, n: [u64; 8], x: [f64; 8], layers: u32) {
+    match first {
+        b'd' => run_density(f, w, convention(n[2], n[3], x[2], x[3]), layers),
+        b't' => run_track(
+            f,
+            w,
+            convention(n[4], n[5], x[4], x[5]),
+            layers,
+            n[1] as usize,
+            n[2] as usize,
+        ),
+        b'l' => run_list(
+            f,
+            w,
+            convention(n[3], n[4], x[3], x[4]),
+            layers,
+            n[1] as usize,
+        ),
+        _ => run_report(f, w, convention(n[2], n[3], x[2], x[3]), layers),
+    }
+}
+
+// A call by the first and the third letter of its name, and its line's words; a put is into a layer, a reading of some layers.
+fn call(f: &mut Floats, w: &mut Words, first: u8, third: u8, n: [u64; 8], x: [f64; 8], at: Layers) {
     match first {
         b'o' => run_open(f, w, n[1] as usize, 0, n[2] as usize, x[3]),
         b'e' => run_open(f, w, n[1] as usize, n[2] as usize, n[3] as usize, x[4]),
@@ -55,27 +85,18 @@ fn call(f: &mut Floats, w: &mut Words, first: u8, third: u8, n: [u64; 8], x: [f6
             if third == b'g' {
                 run_page(f, w, n[1] as usize);
             } else {
-                run_put(f, w, n[1], x[2], x[3], x[4]);
+                run_put(f, w, n[1], x[2], x[3], x[4], at.layer);
             }
         }
         b'c' => run_clear(f, w, n[1]),
         b'a' => run_advance(f, w, n[1]),
         b's' => run_squeeze(f, w),
         b'w' => run_write(w, n[1] as usize, n[2]),
-        b'd' => run_density(f, w, convention(n[2], n[3], x[2], x[3])),
-        b't' => run_track(
-            f,
-            w,
-            convention(n[4], n[5], x[4], x[5]),
-            n[1] as usize,
-            n[2] as usize,
-        ),
-        b'l' => run_list(f, w, convention(n[3], n[4], x[3], x[4]), n[1] as usize),
         _ => {
             if third == b'w' {
                 run_reweigh(f, w, n[1], x[2]);
             } else {
-                run_report(f, w, convention(n[2], n[3], x[2], x[3]));
+                read(f, w, first, n, x, at.layers);
             }
         }
     }
@@ -96,7 +117,36 @@ fn next(s: &[u8], at: usize, b: u8) -> usize
     i
 }
 
-// A line of the script: a call, of which the part before the colon is written, or nothing.
+// The call of a line.
+fn run_call(f: &mut Floats, w: &mut Words, s: &[u8], at: Layers) {
+    if s.len() < 3 {
+        return;
+    }
+    let colon = next(s, 0, b':');
+    call(f, w, s[0], s[2], numbers(&s[0..colon]), floats(s), at);
+}
+
+// A call after the word `in` and a number: the layer of a put, the set of layers of a reading.
+fn run_in(f: &mut Floats, w: &mut Words, s: &[u8], number: u32) {
+    if s.len() < 3 {
+        return;
+    }
+    let end = next(s, 3, b' ');
+    if end < s.len() {
+        run_call(
+            f,
+            w,
+            &s[end + 1..s.len()],
+            Layers {
+                layer: number,
+                layers: number,
+            },
+        );
+    }
+}
+
+// A line of the script: a call, of which the part before the colon is written, or nothing. A put is into layer 0 and a reading of all
+// sixteen layers, unless the line says otherwise.
 fn run_line(f: &mut Floats, w: &mut Words, s: &[u8]) {
     if s.len() < 3 {
         return;
@@ -107,7 +157,19 @@ fn run_line(f: &mut Floats, w: &mut Words, s: &[u8]) {
     let colon = next(s, 0, b':');
     let shown = &s[0..colon];
     io::write_all(STDOUT_FILENO, shown);
-    call(f, w, s[0], s[2], numbers(shown), floats(s));
+    if s[0] == b'i' {
+        run_in(f, w, s, (numbers(shown)[1] % WORD) as u32);
+    } else {
+        run_call(
+            f,
+            w,
+            s,
+            Layers {
+                layer: 0,
+                layers: 65535,
+            },
+        );
+    }
     say_runs(f, w);
 }
 
@@ -123,7 +185,7 @@ fn play(f: &mut Floats, w: &mut Words, script: &[u8]) {
 
 fn main() {
     let mut f = [1.5; 1787];
-    let mut w: Words = [9; 135];
+    let mut w: Words = [9; 167];
     let mut script = io::large_buffer();
     let n = io::read_full(STDIN_FILENO, &mut script);
     play(&mut f, &mut w, &script[0..n]);

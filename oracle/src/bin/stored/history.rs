@@ -4,7 +4,7 @@ use crate::topics;
 use oracle::conventions::{Convention, RAW, RHO0, Report};
 use oracle::held::store_number;
 use oracle::histories::{Answer, Call, Model};
-use oracle::machine::{Machine, open_number};
+use oracle::machine::{ALL_LAYERS, Machine, open_number};
 use oracle::page;
 use oracle::pattern;
 use oracle::text::ByTranscription;
@@ -133,7 +133,18 @@ impl Replay {
     }
 }
 
+/// The call as its line in the script shows it, after the layer of a put that is not 0, or the set of layers of a reading that is not
+/// of all sixteen.
 fn head(call: Call) -> String {
+    let within = match call {
+        Call::Put(_, _, layer) if layer != 0 => Some(layer),
+        Call::Density(_, set, _) | Call::Report(_, set) | Call::List(_, set, _) | Call::Track(_, set, ..) if set != ALL_LAYERS => Some(set),
+        _ => None,
+    };
+    within.map_or(String::new(), |number| format!("in {number} ")) + &named(call)
+}
+
+fn named(call: Call) -> String {
     match call {
         Call::Put(place, ..) => format!("put {place}"),
         Call::Clear(place) => format!("clear {place}"),

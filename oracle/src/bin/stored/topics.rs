@@ -24,6 +24,7 @@ pub fn steps() -> Vec<Step> {
         squeezed(),
         tracked(),
         paged(),
+        layered(),
     ];
     topics.concat()
 }
@@ -69,8 +70,12 @@ fn excerpt(coordinates: usize, from: usize, to: usize, radius: f64) -> Step {
     Step::Excerpt(coordinates, from, to, radius)
 }
 
+fn put_in(layer: u32, place: u32, k: Kernel) -> Step {
+    Step::Call(Call::Put(place, k, layer))
+}
+
 fn put(place: u32, k: Kernel) -> Step {
-    Step::Call(Call::Put(place, k, 0))
+    put_in(0, place, k)
 }
 
 fn clear(place: u32) -> Step {
@@ -89,16 +94,28 @@ fn squeeze() -> Step {
     Step::Call(Call::Squeeze)
 }
 
+fn density_of(layers: u32, by: Convention) -> Step {
+    Step::Call(Call::Density(by, layers, [0.75, -0.5, 0.25]))
+}
+
 fn density(by: Convention) -> Step {
-    Step::Call(Call::Density(by, ALL_LAYERS, [0.75, -0.5, 0.25]))
+    density_of(ALL_LAYERS, by)
+}
+
+fn report_of(layers: u32, by: Convention) -> Step {
+    Step::Call(Call::Report(by, layers))
 }
 
 fn report(by: Convention) -> Step {
-    Step::Call(Call::Report(by, ALL_LAYERS))
+    report_of(ALL_LAYERS, by)
+}
+
+fn list_of(layers: u32, by: Convention, room: usize) -> Step {
+    Step::Call(Call::List(by, layers, room))
 }
 
 fn list(by: Convention, room: usize) -> Step {
-    Step::Call(Call::List(by, ALL_LAYERS, room))
+    list_of(ALL_LAYERS, by, room)
 }
 
 /// The points of a track, no numbers and infinities among them, and those of a long one.
@@ -109,9 +126,13 @@ const POINTS: [f64; 24] = [
 ];
 static FAR: [f64; 12_291] = [0.5; 12_291];
 
-fn track(by: Convention, coordinates: usize, room: usize) -> Step {
+fn track_of(layers: u32, by: Convention, coordinates: usize, room: usize) -> Step {
     let points: &'static [f64] = if coordinates <= POINTS.len() { &POINTS } else { &FAR };
-    Step::Call(Call::Track(by, ALL_LAYERS, &points[..coordinates], room))
+    Step::Call(Call::Track(by, layers, &points[..coordinates], room))
+}
+
+fn track(by: Convention, coordinates: usize, room: usize) -> Step {
+    track_of(ALL_LAYERS, by, coordinates, room)
 }
 
 fn page(room: usize) -> Step {
@@ -317,17 +338,20 @@ fn unsound() -> Vec<Step> {
         (1, 13),
         (0, 1),
         (0, 0),
-        (98, 8),
-        (133, u32::MAX),
+        (130, 8),
+        (165, u32::MAX),
         (2, 18),
-        (2 + 3 * 4, 0),
-        (2 + 3 * 4, 16),
-        (2 + 3 * 4, 18),
-        (3 + 3 * 4, 17),
-        (4 + 3 * 4, 1),
-        (4 + 3 * 31, 12),
-        (3 + 3 * 6, 1),
-        (4 + 3 * 6, 1),
+        (2 + 4 * 4, 0),
+        (2 + 4 * 4, 16),
+        (2 + 4 * 4, 18),
+        (3 + 4 * 4, 17),
+        (4 + 4 * 4, 1),
+        (4 + 4 * 31, 12),
+        (3 + 4 * 6, 1),
+        (4 + 4 * 6, 1),
+        (5 + 4 * 4, 16),
+        (5 + 4 * 31, u32::MAX),
+        (5 + 4 * 6, 1),
     ];
     damages.map(|(at, value)| damaged(at, value)).concat()
 }
@@ -526,5 +550,79 @@ fn paged() -> Vec<Step> {
         put(9, sixteen()),
         put(10, thirteen()),
         page(195),
+    ]
+}
+
+/// Layers 0, 1, 3, 7 and 15: what is refused before what, readings of sets with work left in them and outside them, of no layer, after a
+/// place changed its layer, and of a store whose words have a wild layer.
+fn layered() -> Vec<Step> {
+    let (first, third, seventh, last) = (1 << 1, 1 << 3, 1 << 7, 1 << 15);
+    vec![
+        open(24, 36, 2.0),
+        put_in(16, 0, one()),
+        put_in(u32::MAX, 31, one()),
+        put_in(16, 32, one()),
+        put_in(15, 0, one()),
+        put_in(3, 1, thirteen()),
+        put(2, none()),
+        put_in(7, 31, sixteen()),
+        advance(12),
+        report_of(last, RAW),
+        report_of(1, RAW),
+        report_of(third, RAW),
+        report_of(last | seventh, RAW),
+        report(RAW),
+        report_of(0, mass(1e9, 2000.0)),
+        density_of(0, mass(1e9, 2000.0)),
+        density_of(third, RAW),
+        density_of(last | seventh, rho0(1190.0)),
+        density_of(last, mass(1e9, 2000.0)),
+        density_of(seventh, mass(1e9, 2000.0)),
+        density_of(65_536, mass(1e9, 2000.0)),
+        density_of(u32::MAX, RAW),
+        report_of(65_537, RAW),
+        list_of(131_072, mass(1e9, 2000.0), 0),
+        track_of(65_536, RAW, 23, 8),
+        list_of(last, mass(1e9, 2000.0), 6),
+        list_of(third, RAW, 78),
+        list_of(third, RAW, 77),
+        list_of(seventh | 1, rho0(1190.0), 96),
+        list_of(seventh | 1, mass(1e9, 2000.0), 96),
+        list_of(0, mass(1e9, 2000.0), 0),
+        track_of(last, mass(1e9, 2000.0), 24, 8),
+        track_of(seventh, mass(1e9, 2000.0), 24, 8),
+        track_of(third, RAW, 24, 9),
+        track_of(0, rho0(1190.0), 24, 8),
+        reweigh(1, 2.5),
+        advance(156),
+        report_of(third, mass(1e9, 2000.0)),
+        report_of(third | last, rho0(1190.0)),
+        report_of(seventh, RAW),
+        clear(1),
+        report_of(third, RAW),
+        put_in(7, 1, one()),
+        put_in(1, 0, one()),
+        report_of(last, RAW),
+        report_of(first, RAW),
+        reweigh(31, 5.5),
+        advance(u64::MAX),
+        report_of(first, RAW),
+        report_of(seventh, mass(1e9, 1190.0)),
+        report_of(first | seventh, mass(1e9, 1190.0)),
+        report(mass(1e9, 1190.0)),
+        list_of(seventh, mass(1e9, 1190.0), 102),
+        density(mass(1e9, 1190.0)),
+        page(400),
+        Step::Write(1, 13),
+        put_in(16, 0, one()),
+        report_of(65_536, RAW),
+        Step::Mend(1),
+        Step::Write(5 + 4 * 31, 16),
+        put_in(16, 32, one()),
+        report_of(65_536, RAW),
+        page(400),
+        Step::Mend(5 + 4 * 31),
+        clear(31),
+        report_of(seventh, RAW),
     ]
 }
