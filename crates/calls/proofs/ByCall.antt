@@ -6,6 +6,7 @@ use lib.Ieee.{Float}
 use Rattle.text.specs.Print.{Wrote}
 use Rattle.density.specs.declared.convention.Convention.{Convention}
 use Rattle.layout.specs.Layout.{width}
+use Rattle.layout.specs.Layers.{allLayers}
 use Rattle.store.specs.Calls.{clearStep, reweighStep}
 use Rattle.store.specs.Puts.{putStep}
 use Rattle.advance.specs.Steps.{advanceStep}
@@ -28,7 +29,7 @@ looking e (b, w) = calling e (b, (refl, (refl, w)))
 
 -- ---- each call
 pub put-call : (fs : List Float) (ws : List ℕ) {c : Call} {place : ℕ} {x y z sigma w alpha : Float} → c ≡ Put place x y z sigma w alpha →
-    callOf fs ws c ≡ called (putText place) (putStep width fs ws place (kernelOf x y z sigma w alpha))
+    callOf fs ws c ≡ called (putText place) (putStep width fs ws place (kernelOf x y z sigma w alpha) 0)
 unfolding callOf
 put-call fs ws e = rw (e) refl
 
@@ -46,11 +47,11 @@ unfolding callOf
 advance-call fs ws e = rw (e) refl
 
 pub density-call : (fs : List Float) (ws : List ℕ) {c : Call} {v : Convention} {x y z : Float} → c ≡ Density v x y z →
-    callOf fs ws c ≡ looked fs ws (densityText (readStep width fs ws (density v (x ∷ y ∷ z ∷ [])) .reply))
+    callOf fs ws c ≡ looked fs ws (densityText (readStep width fs ws allLayers (density v (x ∷ y ∷ z ∷ [])) .reply))
 unfolding callOf
 density-call fs ws e = rw (e) refl
 
 pub report-call : (fs : List Float) (ws : List ℕ) {c : Call} {v : Convention} → c ≡ Report v →
-    callOf fs ws c ≡ looked fs ws (reportText (readStep width fs ws (report v) .reply))
+    callOf fs ws c ≡ looked fs ws (reportText (readStep width fs ws allLayers (report v) .reply))
 unfolding callOf
 report-call fs ws e = rw (e) refl
