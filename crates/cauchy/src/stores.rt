@@ -108,7 +108,7 @@ fn opened_of(o: Opened) -> CauchyOpened
 }
 
 // Makes two runs a store of this radius and mesh, every place empty: 1, 2, 3, or 4 below 1,761 + 3V floats or
-// 98 + 3F words. What the runs held does not matter, and words past these stay.
+// 130 + 3F words. What the runs held does not matter, and words past these stay.
 #[no_mangle]
 pub extern "C" fn cauchy_store_open(
     floats: &mut [f64],
@@ -145,17 +145,18 @@ fn placed_of(p: Placed) -> CauchyPlaced
     }
 }
 
-// Puts a kernel, in metres, into a place, whatever it held: 4, 5 or 6.
+// Puts a kernel, in metres, into a place, whatever it held, in a layer from 0 to 15: 4, 5, 6 or 16.
 #[no_mangle]
 pub extern "C" fn cauchy_store_put(
     floats: &mut [f64],
     words: &mut [u32],
     place: u32,
     k: Kernel,
+    layer: u32,
 ) -> CauchyPlaced
-    ensures { λ r. ⌜ crossed r (now (floats .exit)) (now (words .exit)) ≡ across placedFrom (putStep width (now (floats .entry)) (now (words .entry)) place k) ⌝ }
+    ensures { λ r. ⌜ crossed r (now (floats .exit)) (now (words .exit)) ≡ across placedFrom (putStep width (now (floats .entry)) (now (words .entry)) place k layer) ⌝ }
 {
-    placed_of(put(floats, words, place, k))
+    placed_of(put(floats, words, place, k, layer))
 }
 
 fn edit_number(e: Edited) -> u32
@@ -286,20 +287,24 @@ fn convention_of(v: CauchyConvention) -> Convention
     Convention::Mass(v.target, v.bulk)
 }
 
-// The density at a point, in metres: 4, 5, or 8 where the kind is mass and the target above 0.
+// A reading sees the places whose layers are in its set `layers`, bit l for layer l; 16 where a bit from 16 on is set.
+//
+// The density at a point, in metres: 4, 5, 16, or 8 where the kind is mass and the target above 0.
 #[no_mangle]
 pub extern "C" fn cauchy_store_density(
     floats: &[f64],
     words: &[u32],
     convention: CauchyConvention,
+    layers: u32,
     point: V3,
 ) -> CauchyValue
-    ensures { λ r. ⌜ r ≡ valueFrom (readStep width (now (floats .entry)) (now (words .entry)) (Readings.density (conventionOf convention) (pointValues point)) .reply) ⌝ }
+    ensures { λ r. ⌜ r ≡ valueFrom (readStep width (now (floats .entry)) (now (words .entry)) layers (Readings.density (conventionOf convention) (pointValues point)) .reply) ⌝ }
 {
     value_of(density(
         floats,
         words,
         convention_of(convention),
+        layers,
         [point.x, point.y, point.z],
     ))
 }
@@ -333,16 +338,17 @@ fn report_of(d: Reported) -> CauchyStoreReport
     }
 }
 
-// The report of the store: 4, 5 or 8.
+// The report of the store: 4, 5, 16 or 8.
 #[no_mangle]
 pub extern "C" fn cauchy_store_report(
     floats: &[f64],
     words: &[u32],
     convention: CauchyConvention,
+    layers: u32,
 ) -> CauchyStoreReport
-    ensures { λ r. ⌜ r ≡ reportFrom (readStep width (now (floats .entry)) (now (words .entry)) (Readings.report (conventionOf convention)) .reply) ⌝ }
+    ensures { λ r. ⌜ r ≡ reportFrom (readStep width (now (floats .entry)) (now (words .entry)) layers (Readings.report (conventionOf convention)) .reply) ⌝ }
 {
-    report_of(report(floats, words, convention_of(convention)))
+    report_of(report(floats, words, convention_of(convention), layers))
 }
 
 fn listed_of(d: ListRead) -> CauchyListed
@@ -357,18 +363,19 @@ fn listed_of(d: ListRead) -> CauchyListed
     }
 }
 
-// Writes the store's pieces as kernels of six floats each, weights rescaled: 4, 5, 8 or 9. Floats of `out`
+// Writes the store's pieces as kernels of six floats each, weights rescaled: 4, 5, 16, 8 or 9. Floats of `out`
 // past them stay.
 #[no_mangle]
 pub extern "C" fn cauchy_store_list(
     floats: &[f64],
     words: &[u32],
     convention: CauchyConvention,
+    layers: u32,
     out: &mut [f64],
 ) -> CauchyListed
-    ensures { λ r. ⌜ lent r (now (out .exit)) ≡ lentFrom listedFrom (readStep width (now (floats .entry)) (now (words .entry)) (Readings.list (conventionOf convention) (now (out .entry)))) ⌝ }
+    ensures { λ r. ⌜ lent r (now (out .exit)) ≡ lentFrom listedFrom (readStep width (now (floats .entry)) (now (words .entry)) layers (Readings.list (conventionOf convention) (now (out .entry)))) ⌝ }
 {
-    listed_of(list(floats, words, convention_of(convention), out))
+    listed_of(list(floats, words, convention_of(convention), layers, out))
 }
 
 fn track_of(d: TrackRead) -> CauchyTrack
@@ -383,19 +390,27 @@ fn track_of(d: TrackRead) -> CauchyTrack
     }
 }
 
-// Writes the density at each point of a track, three coordinates a point, in point order: 4, 5, 8 or 14. Floats of `out` past
-// them stay.
+// Writes the density at each point of a track, three coordinates a point, in point order: 4, 5, 16, 8 or 14. Floats of
+// `out` past them stay.
 #[no_mangle]
 pub extern "C" fn cauchy_store_track(
     floats: &[f64],
     words: &[u32],
     convention: CauchyConvention,
+    layers: u32,
     points: &[f64],
     out: &mut [f64],
 ) -> CauchyTrack
-    ensures { λ r. ⌜ lent r (now (out .exit)) ≡ lentFrom trackFrom (readStep width (now (floats .entry)) (now (words .entry)) (Readings.track (conventionOf convention) (now (points .entry)) (now (out .entry)))) ⌝ }
+    ensures { λ r. ⌜ lent r (now (out .exit)) ≡ lentFrom trackFrom (readStep width (now (floats .entry)) (now (words .entry)) layers (Readings.track (conventionOf convention) (now (points .entry)) (now (out .entry)))) ⌝ }
 {
-    track_of(track(floats, words, convention_of(convention), points, out))
+    track_of(track(
+        floats,
+        words,
+        convention_of(convention),
+        layers,
+        points,
+        out,
+    ))
 }
 
 fn bytes_of(d: PageRead) -> CauchyBytes
