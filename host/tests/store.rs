@@ -1,7 +1,7 @@
 //! The crate over the archive, as a user sees it.
 use cauchy::{
-    Bill, Convention, Fit, Kernel, MAX_PIECES, MAX_TRACK, Mesh, OpenError, Placed, Refusal, SnapshotError, SolveError,
-    Steps, Store, bill, density, solve,
+    Bill, Convention, Fit, Kernel, MAX_PIECES, MAX_TRACK, Mesh, OpenError, Placed, Refusal, SnapshotError,
+    SolveError, Steps, Store, bill, density, solve,
 };
 
 const VERTICES: [[f64; 3]; 4] = [[0.0, 0.0, 0.0], [900.0, 0.0, 0.0], [0.0, 800.0, 0.0], [0.0, 0.0, 700.0]];
