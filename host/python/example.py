@@ -31,10 +31,10 @@ def put_kernels(store):
     lines = rows("kernels.txt")
     default = next((float(words[1]) for words in lines if words[0] == "default"), 1)
     kernels = [words for words in lines if words[0] != "default"]
-    for place, (x, y, z, sigma, w, alpha) in enumerate(kernels):
+    for place, (x, y, z, sigma, w, alpha, *layer) in enumerate(kernels):
         given = None if alpha == "-" else float(alpha)
         kernel = cauchy.kernel_from_file((float(x), float(y), float(z)), float(sigma), float(w), given, default)
-        store.put(place, kernel)
+        store.put(place, kernel, layer=int(layer[0]) if layer else 0)
 
 
 def main():

@@ -232,6 +232,38 @@ fn the_convention_is_named_and_followed() {
 }
 
 #[test]
+fn layers_are_read_alone_and_reported_beside_the_whole() {
+    let folder = Folder::new("layers");
+    folder.write("k.txt", "0 0 0 0.5 1000 1\n0 0 0 0.5 500 1 7\n0 0 0 2 -80 1.5 7\n");
+    let said = folder.goes("run a.obj k.txt --raw --by-layer");
+    assert!(
+        said.contains("exponent 1, kept, in layer 7") && said.contains("By layer, by the convention raw"),
+        "{said}"
+    );
+    let row = |name: &str| said.lines().find(|line| line.trim_start().starts_with(name)).unwrap().to_string();
+    let counts =
+        |name: &str| row(name).split_whitespace().skip(1).take(2).map(str::to_string).collect::<Vec<_>>();
+    assert_eq!(
+        (counts("0  "), counts("7  "), counts("all")),
+        (strings(["1", "1"]), strings(["2", "14"]), strings(["3", "15"]))
+    );
+    let seven = folder.goes("run a.obj k.txt --raw --layers 7");
+    assert!(
+        seven.contains("Mass report of layer 7 by the convention raw")
+            && seven.contains("list by the convention raw: 14 pieces")
+    );
+    // what is read is not what is kept: the wall page stays that of every layer
+    assert!(seven.contains("\n   0  1 "), "{seven}");
+    folder.fails("run a.obj k.txt --raw --layers 7,16", 2, "--layers: `16` is not a layer: they are 0 to 15");
+    folder.write("bad.txt", "0 0 0 0.5 1000 1 16\n");
+    folder.fails("run a.obj bad.txt --raw", 1, "bad.txt, line 1: `16` is not a layer: they are 0 to 15");
+}
+
+fn strings<const N: usize>(words: [&str; N]) -> Vec<String> {
+    words.map(str::to_string).to_vec()
+}
+
+#[test]
 fn a_track_may_have_any_number_of_points() {
     let folder = Folder::new("track");
     let densities = |track: &str| -> Vec<String> {

@@ -1,7 +1,7 @@
 //! The crate over the archive, as a user sees it.
 use cauchy::{
-    Bill, Convention, Fit, Kernel, MAX_PIECES, MAX_TRACK, Mesh, OpenError, Placed, Refusal, SnapshotError, SolveError,
-    Steps, Store, bill, density, solve,
+    Bill, Convention, Fit, Kernel, Layers, MAX_PIECES, MAX_TRACK, Mesh, OpenError, Placed, Refusal,
+    SnapshotError, SolveError, Steps, Store, bill, density, solve,
 };
 
 const VERTICES: [[f64; 3]; 4] = [[0.0, 0.0, 0.0], [900.0, 0.0, 0.0], [0.0, 800.0, 0.0], [0.0, 0.0, 700.0]];
@@ -438,4 +438,42 @@ fn a_store_goes_on_in_another_thread() {
     let mut here = filled();
     here.advance(u64::MAX).unwrap();
     assert_eq!(moved.join().unwrap().to_bytes(), here.to_bytes());
+}
+
+#[test]
+fn layers_are_read_as_if_the_others_were_empty() {
+    let mut store = opened();
+    store.put_in(2, FLAT, 3).unwrap();
+    store.put_in(30, STEEP, 15).unwrap();
+    assert_eq!(store.put_in(30, FLAT, 16), Err(Refusal::NoLayer));
+    assert_eq!(store.put_in(32, FLAT, 16), Err(Refusal::NoPlace));
+    store.reweigh(2, 700.0).unwrap();
+    assert_eq!((store.held(2).unwrap().layer, store.held(30).unwrap().layer), (3, 15));
+    // the work of place 2 comes first, and a reading of its layer needs no other
+    store.advance(4).unwrap();
+    let of = |layers: &[u32]| Layers::of(layers).unwrap();
+    assert_eq!(store.report(BY_MASS), Err(Refusal::Unfinished));
+    assert_eq!(store.layers(of(&[15])).report(BY_MASS), Err(Refusal::Unfinished));
+    let alone = |store: &Store, place: u32| {
+        let mut other = store.clone();
+        other.clear(if place == 2 { 30 } else { 2 }).unwrap();
+        other.advance(u64::MAX).unwrap();
+        other
+    };
+    assert_eq!(store.layers(of(&[3])).report(BY_MASS), alone(&store, 2).report(BY_MASS));
+    let points = [[10.0, 20.0, 30.0], [0.0; 3], [f64::INFINITY, 0.0, 0.0]];
+    let seen = store.layers(of(&[3, 4]));
+    assert_eq!(seen.densities(BY_MASS, &points), alone(&store, 2).densities(BY_MASS, &points));
+    assert_eq!(seen.density(BY_MASS, points[0]), alone(&store, 2).density(BY_MASS, points[0]));
+    store.advance(u64::MAX).unwrap();
+    let seen = store.layers(of(&[15]));
+    assert_eq!(seen.report(BY_MASS), alone(&store, 30).report(BY_MASS));
+    assert_eq!(seen.list(BY_MASS), alone(&store, 30).list(BY_MASS));
+    assert_eq!(store.layers(Layers::ALL).report(BY_MASS), store.report(BY_MASS));
+    let none = store.layers(Layers::NONE);
+    assert_eq!((none.density(BY_MASS, [0.0; 3]), none.list(BY_MASS)), (Ok(0.0), Ok(vec![])));
+    assert_eq!(none.report(BY_MASS).unwrap().mass.volume, store.report(BY_MASS).unwrap().mass.volume);
+    store.clear(30).unwrap();
+    store.put(30, FLAT).unwrap();
+    assert_eq!(store.held(30).unwrap().layer, 0);
 }

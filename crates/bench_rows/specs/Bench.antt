@@ -3,17 +3,15 @@ use mathlib.Core.Path.{_≡_, _∙_}
 use mathlib.Core.List.{List, [], _∷_}
 use Prim.Native.Nat.{ℕ}
 use lib.Ieee.{Float, nan, binary64}
-use Rattle.base.specs.Answers.{done, refused, outcome}
+use Rattle.base.specs.Answers.{accepted, outcome}
 use Rattle.base.specs.Floats.{bits, decimal, +0, _⊘_}
 use Rattle.base.specs.Constants.{one, two, three, four, flatLimit}
-use Rattle.base.specs.Answers.{accepted}
-use Rattle.base.specs.declared.refusal.Refusal.the-variants.{FlatPivot}
 use Rattle.root.specs.Root.{squareRoot}
 use Rattle.root.specs.Rows as root
 use Rattle.powers.specs.Power.{power}
 use Rattle.powers.specs.Rows as powers
 use Rattle.radial.specs.Radial.{radialG}
-use Rattle.solve.specs.Solve.{solution}
+use Rattle.solve.specs.Solve.{flatAt, solution}
 use Rattle.solve.specs.Rows as solve
 use Rattle.pieces.specs.Pieces.{delta, sizeOf, itself, decomposed}
 use Rattle.pieces.specs.Rows.{near, twoAndHalf}
@@ -41,10 +39,10 @@ pub record BenchRows : Type 0 where
   pub power-one-nan : power one nan ≡ one
   -- "g(0) = 1/3"
   pub g-zero : radialG +0 ≡ one ⊘ three
-  -- "[2|4] solves to 2; [1e-18|1] is 11; [1 1|3],[1 2|5] gives 1, 2"
-  pub solve-one : solution 1 (two ∷ four ∷ []) (+0 ∷ []) ≡ outcome done (two ∷ [])
-  pub solve-flat : solution 1 (flatLimit ∷ one ∷ []) (+0 ∷ []) ≡ outcome (refused FlatPivot) (+0 ∷ [])
-  pub solve-two : solution 2 (one ∷ one ∷ three ∷ one ∷ two ∷ five ∷ []) (+0 ∷ +0 ∷ four ∷ []) ≡ outcome done (one ∷ two ∷ four ∷ [])
+  -- "[2|4] solves to 2; [1e-18|1] is 11; [1 1|3],[1 2|5] gives 1, 2", by 02 with the smallest pivot or the flat column
+  pub solve-one : solution 1 (two ∷ four ∷ []) (+0 ∷ []) ≡ outcome (accepted (two ∷ [])) (two ∷ [])
+  pub solve-flat : solution 1 (flatLimit ∷ one ∷ []) (+0 ∷ []) ≡ outcome (flatAt 0) (+0 ∷ [])
+  pub solve-two : solution 2 (one ∷ one ∷ three ∷ one ∷ two ∷ five ∷ []) (+0 ∷ +0 ∷ four ∷ []) ≡ outcome (accepted (one ∷ [])) (one ∷ two ∷ four ∷ [])
   -- "alpha 1.0000000005 stays": for every centre, sigma, weight and radius
   pub near-is : near ≡ decimal 10000000005 10
   pub near-stays : (c : List Float) (sigma w radius : Float)

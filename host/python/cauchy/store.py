@@ -80,8 +80,10 @@ class Store:
         pieces, the steps that they need, and how their fit ended, which the store does not keep.
 
         >>> store = Store(500, [0] * 9, [0, 1, 2])
-        >>> store.put(0, Kernel((0, 0, 0), 1, 2, 1), layer=3), store.put(1, Kernel((0, 0, 0), 1, 5, 1))
-        (Placed(pieces=1, need=1), Placed(pieces=1, need=1))
+        >>> store.put(0, Kernel((0, 0, 0), 1, 2, 1), layer=3)
+        Placed(pieces=1, need=1, fit=Fit(kind='kept', pivot=None, column=None))
+        >>> store.put(1, Kernel((0, 0, 0), 1, 5, 1)).need
+        1
         >>> store.density(RAW, (0, 0, 0)), store.density(RAW, (0, 0, 0), layers=[3]), store.held(0).layer
         (7.0, 2.0, 3)
         >>> store.put(0, Kernel((0, 0, 0), 1, 2, 1), layer=16)
@@ -222,8 +224,8 @@ class Store:
         """The masses, with `kernels`, `pieces` and `error` beside them. It needs all work of these layers done.
 
         >>> store = Store(500, [0] * 9, [0, 1, 2])
-        >>> store.put(0, Kernel((0, 0, 0), 1, 2, 1), layer=3)
-        Placed(pieces=1, need=1)
+        >>> store.put(0, Kernel((0, 0, 0), 1, 2, 1), layer=3).pieces
+        1
         >>> store.report(RAW, layers=[0, 1]).kernels, store.report(RAW, layers=[]).kernels
         (0, 0)
         >>> store.report(RAW, layers=[3])

@@ -356,6 +356,7 @@ class Refusals(unittest.TestCase):
             cauchy.Exponent: lambda: cauchy.source_normalize(vertices, faces, wide, 1),
             cauchy.BadTrack: lambda: store.track(RAW, [0] * 4),
             cauchy.ManyKernels: lambda: cauchy.bill(wide * 33, 6, 8),
+            cauchy.NoLayer: lambda: store.report(RAW, layers=[16]),
             cauchy.NoFigure: lambda: heavy.page(),
             cauchy.BadKernelLine: lambda: cauchy.convert(LINE[1:], 1, Loader.NATIVE),
             cauchy.LoadersDiffer: lambda: cauchy.convert(line(1, 2, 3, 4, 5, -0.0), 0, Loader.STRICT),

@@ -137,27 +137,28 @@ fn layers_said(layers: Layers) -> String {
     }
 }
 
-/// Each layer's own report beside that of all that are read. A convention rescales each row by itself.
+/// Each layer's own report, with weights as entered, beside that of all that are read. A convention is the whole's, so a
+/// layer's mass by it is its mass as entered times the factor of the whole: a layer alone is not brought to a target.
 pub fn by_layer(by: Convention, own: &[(u32, StoreReport)], all: &StoreReport) -> String {
+    let factor = all.mass.applied_scale;
+    let row = |[layer, kernels, pieces, entered, applied, error]: [String; 6]| {
+        format!("  {layer:<7}{kernels:>8}{pieces:>8}{entered:>26}{applied:>30}{error:>26}\n")
+    };
+    let of = |name: String, report: &StoreReport| {
+        let entered = report.mass.raw_mass;
+        let [kernels, pieces] = [report.kernels, report.pieces].map(|n| n.to_string());
+        row([name, kernels, pieces, whole(entered), whole(entered * factor), whole(report.error)])
+    };
     let heads = [
         "layer",
         "kernels",
         "pieces",
         "mass as entered [kg]",
         "mass by this convention [kg]",
-        "weights times",
+        "greatest error of a fit",
     ];
-    let row = |cells: [String; 6]| {
-        let [layer, kernels, pieces, raw, applied, scale] = cells;
-        format!("  {layer:<7}{kernels:>8}{pieces:>8}{raw:>26}{applied:>30}{scale:>26}\n")
-    };
-    let of = |name: String, report: &StoreReport| {
-        let figures = [report.mass.raw_mass, report.mass.applied_mass, report.mass.applied_scale].map(whole);
-        let [raw, applied, scale] = figures;
-        row([name, report.kernels.to_string(), report.pieces.to_string(), raw, applied, scale])
-    };
     let rows: String = own.iter().map(|(layer, report)| of(layer.to_string(), report)).collect();
-    let title = format!("\nBy layer, each alone, by the convention {}: {}\n", by.name(), convention(by));
+    let title = format!("\nBy layer, by the convention {}: {}\n", by.name(), convention(by));
     title + &row(heads.map(String::from)) + &rows + &of("all".to_string(), all)
 }
 

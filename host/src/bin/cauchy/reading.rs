@@ -25,7 +25,7 @@ pub fn read(
     say(&page::report(by, options.layers, &report, origin, closed))?;
     if options.by_layer {
         let own = layers_of(store, options.layers).into_iter();
-        let own = own.map(|layer| Ok((layer, store.layers(Layers::of(&[layer])?).report(by)?)));
+        let own = own.map(|layer| Ok((layer, store.layers(Layers::of(&[layer])?).report(Convention::Raw)?)));
         let own = own.collect::<std::result::Result<Vec<_>, Refusal>>().map_err(refused("report"))?;
         say(&page::by_layer(by, &own, &report))?;
     }

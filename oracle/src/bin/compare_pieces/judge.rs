@@ -141,7 +141,11 @@ fn decompositions(name: &str, exponent: Exponent, count: u64, mut r: Rng) -> Tal
     }
     let [kept, fitted, fallback, nameless] = ends;
     let ends = format!("{kept} kept, {fitted} fitted, {fallback} by the fallback, {nameless} without an exponent");
-    tally.line("pieces", name, &format!("{none} of no piece, {stay} of one, {some} of some, {all} of all terms; {short} refused as 9; {ends}"));
+    tally.line(
+        "pieces",
+        name,
+        &format!("{none} of no piece, {stay} of one, {some} of some, {all} of all terms; {short} refused as 9; {ends}"),
+    );
     tally
 }
 
@@ -157,7 +161,8 @@ fn decompose_differs(k: Kernel, radius: f64, list: &[KernelSi], error: f64, fit:
     let told = pieces::decompose(k, radius, &mut out);
     let refused = before.len() < 6 * list.len();
     let ended = if refused { (0, 0, 0) } else { fit.told() };
-    told.fit.told() != ended || pieces_differ((told.no, told.pieces, told.error), &out, if refused { None } else { Some((list, error)) }, before)
+    told.fit.told() != ended
+        || pieces_differ((told.no, told.pieces, told.error), &out, if refused { None } else { Some((list, error)) }, before)
 }
 
 /// The number, pieces and error that a call tells, what it writes, and what it leaves, held to the text's pieces and error, or to refusal 9, which tells nothing

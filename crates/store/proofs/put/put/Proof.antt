@@ -41,7 +41,7 @@ returns c = rw (← c .before .before .before .check-put .ensures, c .before .r 
 
 returns-2 : tie.Need-returns-2
 unfolding putStep
-returns-2 c = rw (c .before .before .before .before .fill .ensures .0, c .before .before .before .before .fill .ensures .1, c .before .before .before .before .before .before .before .before .before .before .decompose .ensures .0, c .before .before .before .before .before .before .before .before .before .before .decompose .ensures .1, ← c .before .before .before .before .before .before .before .before .before .before .before .before .before .before .check-place .ensures, c .before .before .before .before .before .before .before .before .before .before .before .before .enum-told .given .1)
+returns-2 c = rw (c .before .before .before .before .fill .ensures .0, c .before .before .before .before .fill .ensures .1, c .before .before .before .before .before .before .before .before .before .before .decompose .ensures .0, c .before .before .before .before .before .before .before .before .before .before .decompose .ensures .1, ← c .before .before .before .before .before .before .before .before .before .before .before .before .before .before .check-put .ensures, c .before .before .before .before .before .before .before .before .before .before .before .before .enum-told .given .1)
 
 pub put-spec : {M : Type 1} → statement M
 put-spec =
