@@ -392,7 +392,7 @@ mod tests {
             ("run a b --mass inf", "not a number above 0"),
             ("run a b --raw --fast", "--fast is no option"),
             ("run a b --raw --csv c", "give --track FILE too"),
-            ("run a b --raw --steps 5", "give --snapshot FILE too"),
+            ("run a b --raw --steps 5", "give --snapshot FILE or --so-far too"),
             ("run a b --raw --steps -5", "--steps: -5 is not a whole number"),
             ("run a b --raw --mesh-unit cm", "neither km nor m"),
             ("resume s --raw --radius 1", "go with run"),
