@@ -19,7 +19,7 @@ use Rattle.density.specs.declared.convention.Convention.{Convention}
 use Rattle.layout.specs.Layers.{layersCheck}
 use Rattle.readings.specs.Readings.{report, answerOf}
 use Rattle.readings.specs.Finished.{completeAt, completeIn, passedOver, beside, finishedStep}
-use Rattle.machine.specs.Machine.{Mesh, Place, empty, full, need, leftPlace, leftSum, seenPlace, seenPlaces, completePlace, completePlaces, passedPlaces}
+use Rattle.machine.specs.Machine.{Mesh, Place, empty, full, leftPlace, leftSum, seenPlace, seenPlaces, isComplete, completePlace, completePlaces, passedPlaces}
 use Rattle.machine.specs.Holding.{placeRow, wordsOf}
 use Rattle.machine.specs.Fresh.{kernelOf, kernelsOf, workedAfresh, finishedAfresh}
 use Rattle.machine.specs.Valid.{Within, Valid}
@@ -60,21 +60,21 @@ module _ (n f p : ℕ) (h : p ≤ n * f) where
 -- ---- the places that have nothing left
 module _ (m : Mesh) where
   place-complete : (s : Place) → Within m s
-      → eqb (getD (placeRow m s) 1 0) (getD (placeRow m s) 0 0 - 1) ≡ eqb (leftPlace m s) 0
+      → eqb (getD (placeRow m s) 1 0) (getD (placeRow m s) 0 0 - 1) ≡ isComplete m s
   place-complete empty w = refl
   place-complete (full k fit p l) w = steps-complete (fit .count) (m .faces) p (w .steps)
 
   pub complete-or-none : Emptying (completePlace m)
-  complete-or-none s = go (eqb (leftPlace m s) 0)
+  complete-or-none s = go (isComplete m s)
     where
       go : (b : Bool) → (cond b s empty ≡ s) ⊎ (cond b s empty ≡ empty)
       go true = inl refl
       go false = inr refl
 
   one-left : (s : Place) → leftPlace m (completePlace m s) ≡ 0
-  one-left s = go (eqb (leftPlace m s) 0) refl
+  one-left s = go (isComplete m s) refl
     where
-      go : (b : Bool) → eqb (leftPlace m s) 0 ≡ b → leftPlace m (cond b s empty) ≡ 0
+      go : (b : Bool) → isComplete m s ≡ b → leftPlace m (cond b s empty) ≡ 0
       go true e = eqb-true (leftPlace m s) 0 e
       go false e = refl
 
@@ -84,9 +84,9 @@ module _ (m : Mesh) where
 
   -- the filled places are these and those that are passed over
   one-passed : (s : Place)
-      → length (kernelOf s) ≡ length (kernelOf (completePlace m s)) + cond (eqb (leftPlace m s) 0) 0 1
+      → length (kernelOf s) ≡ length (kernelOf (completePlace m s)) + cond (isComplete m s) 0 1
   one-passed empty = refl
-  one-passed (full k fit p l) = go (eqb (need m fit - p) 0)
+  one-passed (full k fit p l) = go (isComplete m (full k fit p l))
     where
       go : (b : Bool) → 1 ≡ length (kernelOf (cond b (full k fit p l) empty)) + cond b 0 1
       go true = refl
@@ -102,25 +102,17 @@ module _ (m : Mesh) where
       ) (omega (arith, one-passed s, all-passed ss))
 
   -- with nothing left none is passed over
-  module _ (ss : List Place) where
-    pub all-complete : leftSum m ss ≡ 0 → completePlaces m ss ≡ ss
-    all-complete = go ss
-      where
-        go : (l : List Place) → leftSum m l ≡ 0 → completePlaces m l ≡ l
-        go [] z = refl
-        go (s ∷ l) z = rw (eq-eqb (leftPlace m s) 0 (omega arith), go l (omega arith)) refl
+  all-complete : (ss : List Place) → leftSum m ss ≡ 0 → (completePlaces m ss ≡ ss) × (passedPlaces m ss ≡ 0)
+  all-complete [] z = (refl, refl)
+  all-complete (s ∷ ss) z =
+      let c : isComplete m s ≡ true = eq-eqb (leftPlace m s) 0 (omega arith) in
+      let i = all-complete ss (omega arith) in
+      (rw (c, i .0) refl, rw (c, i .1) refl)
 
-    none-passed : leftSum m ss ≡ 0 → passedPlaces m ss ≡ 0
-    none-passed = go ss
-      where
-        go : (l : List Place) → leftSum m l ≡ 0 → passedPlaces m l ≡ 0
-        go [] z = refl
-        go (s ∷ l) z = rw (eq-eqb (leftPlace m s) 0 (omega arith), go l (omega arith)) refl
-
-    pub whole-afresh : (cv : Convention) → leftSum m ss ≡ 0
-        → finishedAfresh m ss cv ≡ beside 0 (workedAfresh m ss (report cv) .reply)
-    unfolding finishedAfresh
-    whole-afresh cv z = rw (all-complete z, none-passed z) refl
+  pub whole-afresh : (ss : List Place) (cv : Convention) → leftSum m ss ≡ 0
+      → finishedAfresh m ss cv ≡ beside 0 (workedAfresh m ss (report cv) .reply)
+  unfolding finishedAfresh
+  whole-afresh ss cv z = let c = all-complete ss z in rw (c .0, c .1) refl
 
 -- ---- the report
 module _
@@ -162,11 +154,11 @@ module _
       both false = refl
 
       go : (seenPlace layers s ≡ s) ⊎ (seenPlace layers s ≡ empty)
-          → cond (eqb (leftPlace m s) 0) (seenPlace layers s) empty ≡ completePlace m (seenPlace layers s)
-      go (inl e) = ap (λ (t : Place). cond (eqb (leftPlace m s) 0) t empty) e ∙ ap (completePlace m) (sym e)
+          → cond (isComplete m s) (seenPlace layers s) empty ≡ completePlace m (seenPlace layers s)
+      go (inl e) = ap (λ (t : Place). cond (isComplete m s) t empty) e ∙ ap (completePlace m) (sym e)
       go (inr e) =
-          ap (λ (t : Place). cond (eqb (leftPlace m s) 0) t empty) e
-          ∙ (both (eqb (leftPlace m s) 0) ∙ ap (completePlace m) (sym e))
+          ap (λ (t : Place). cond (isComplete m s) t empty) e
+          ∙ (both (isComplete m s) ∙ ap (completePlace m) (sym e))
 
   shown-at : (i : ℕ) → i < 32
       → cond (completeAt wd WS i) (getD seen i empty) empty ≡ completePlace m (getD seen i empty)

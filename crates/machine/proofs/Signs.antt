@@ -42,7 +42,7 @@ use Rattle.readings.specs.AlongLaws.{stretch-same}
 use Rattle.readings.specs.Readings.{Reading, density, report, list, track, noKernel, origin, rescaled, six, sixes, trackCheck, refusing}
 use Rattle.readings.specs.SixLaws.{whole, sixes-length, at-whole, list-sound, count-of}
 use Rattle.page.specs.Page.{Row, row, pageAnswer}
-use Rattle.machine.specs.Machine.{Mesh, Place, empty, full, among, seenPlace, seenPlaces, completePlace, completePlaces, passedPlaces, leftPlace, leftSum, adv, bump, Machine, Turn, turn, stepsOf, putTurn, clearTurn, weighed, reweighTurn, opened}
+use Rattle.machine.specs.Machine.{Mesh, Place, empty, full, among, seenPlace, seenPlaces, isComplete, completePlace, completePlaces, passedPlaces, leftPlace, leftSum, adv, bump, Machine, Turn, turn, stepsOf, putTurn, clearTurn, weighed, reweighTurn, opened}
 use Rattle.machine.specs.Holding.{triangles, cells, excessF, excessW}
 use Rattle.machine.specs.Valid.{Valid}
 use Rattle.machine.specs.Fresh.{kernelsOf, piecesOf, allPieces, worstFrom, valueOf, massOf, originOf, scaledList, readingOn, workedAfresh, finishedAfresh, freshRow, freshRows, pageAfresh}
@@ -299,7 +299,7 @@ module _ (m : Mesh) where
 
   -- the places that have nothing left
   complete-one : (s : Place) → completePlace m (unsignedPlace s) ≡ unsignedPlace (completePlace m s)
-  complete-one s = rw (left-same s) (go (eqb (leftPlace m s) 0))
+  complete-one s = rw (left-same s) (go (isComplete m s))
     where
       go : (b : Bool) → cond b (unsignedPlace s) empty ≡ unsignedPlace (cond b s empty)
       go true = refl
