@@ -217,6 +217,14 @@ typedef struct CauchyStoreReport {
     double error;             /* the greatest error of a fit, as a fraction of its kernel's peak */
 } CauchyStoreReport;
 
+typedef struct CauchyFinished {
+    uint32_t no;
+    CauchyMassReport report;
+    uint32_t kernels, pieces; /* filled places that are complete, and their pieces */
+    double error;             /* the greatest error of a fit among them, as a fraction of its kernel's peak */
+    uint32_t passed_over;     /* filled places of the layers that have work left */
+} CauchyFinished;
+
 typedef struct CauchyListed {
     uint32_t no, pieces; /* pieces written */
 } CauchyListed;
@@ -303,6 +311,13 @@ CauchyValue cauchy_store_density(const double *floats, size_t n_floats, const ui
 CAUCHY_MUST_USE
 CauchyStoreReport cauchy_store_report(const double *floats, size_t n_floats, const uint32_t *words, size_t n_words,
                                       CauchyConvention convention, uint32_t layers);
+
+/* The report of what is finished, which may be taken while work is left: of those places in some layers whose steps are
+ * complete (a place without pieces, and any place of a mesh without faces, is), and how many filled places of these
+ * layers it passed over. It is the report of a store that holds just those places.              4 5 16 */
+CAUCHY_MUST_USE
+CauchyFinished cauchy_store_finished(const double *floats, size_t n_floats, const uint32_t *words, size_t n_words,
+                                     CauchyConvention convention, uint32_t layers);
 
 /* Writes the pieces of the places in some layers as a kernel list, weights rescaled; doubles past them stay.
  *                                                                       4 5 16 8 9; 8 as for a density */

@@ -1,6 +1,6 @@
 //! Layers, and the readings of a store by layer.
 use crate::store::{MAX_TRACK, PLACES};
-use crate::{Convention, Kernel, MAX_PIECES, Refusal, Store, StoreReport, sys};
+use crate::{Convention, Finished, Kernel, MAX_PIECES, Refusal, Store, StoreReport, sys};
 
 /// The layers of a store, numbered from 0.
 pub const LAYERS: u32 = 16;
@@ -125,6 +125,26 @@ impl Seen<'_> {
         };
         Refusal::check(told.no)?;
         Ok(StoreReport { mass: told.report, kernels: told.kernels, pieces: told.pieces, error: told.error })
+    }
+
+    /// As [`Store::finished`], of these places.
+    pub fn finished(&self, convention: Convention) -> Result<Finished, Refusal> {
+        let (floats, words) = (&self.store.floats, &self.store.words);
+        // SAFETY: two vectors of the store's own, borrowed for the call and only read.
+        let told = unsafe {
+            sys::cauchy_store_finished(
+                floats.as_ptr(),
+                floats.len(),
+                words.as_ptr(),
+                words.len(),
+                convention.crossing(),
+                self.layers.bits(),
+            )
+        };
+        Refusal::check(told.no)?;
+        let report =
+            StoreReport { mass: told.report, kernels: told.kernels, pieces: told.pieces, error: told.error };
+        Ok(Finished { report, passed_over: told.passed_over })
     }
 
     /// As [`Store::list`], of these places.

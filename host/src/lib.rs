@@ -61,7 +61,7 @@ pub use kernel::{FileKernel, Kernel, KernelPieces, MAX_PIECES, Pieces, density, 
 pub use layers::{LAYERS, Layers, Seen};
 pub use mesh::Mesh;
 pub use refusal::Refusal;
-pub use report::{MassReport, StoreReport};
+pub use report::{Finished, MassReport, StoreReport};
 pub use snapshot::SnapshotError;
 pub use solve::{SolveError, solve};
 pub use store::{Held, MAX_PAGE, MAX_TRACK, OpenError, PLACES, Placed, Steps, Store};

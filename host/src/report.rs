@@ -32,3 +32,12 @@ pub struct StoreReport {
     /// The greatest error of a fit, as a fraction of its kernel's peak.
     pub error: f64,
 }
+
+/// What a store reports of the places whose work is done.
+#[derive(Clone, Copy, Debug, PartialEq)]
+pub struct Finished {
+    /// The report of those places.
+    pub report: StoreReport,
+    /// The filled places that it passed over, since work is left in them.
+    pub passed_over: u32,
+}

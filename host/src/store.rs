@@ -1,5 +1,5 @@
 //! The store, over two vectors of its own.
-use crate::{Convention, Fit, FloatState, Kernel, Layers, Mesh, Refusal, StoreReport, sys};
+use crate::{Convention, Finished, Fit, FloatState, Kernel, Layers, Mesh, Refusal, StoreReport, sys};
 use std::error::Error;
 use std::fmt;
 
@@ -294,6 +294,48 @@ impl Store {
     /// ```
     pub fn report(&self, convention: Convention) -> Result<StoreReport, Refusal> {
         self.layers(Layers::ALL).report(convention)
+    }
+
+    /// The report of what is finished: of the places whose work is done, while others may have some left, and how many
+    /// filled places it passed over. It is what [`Store::report`] gives of a store that holds just those places.
+    ///
+    /// ```
+    /// # use cauchy::{Convention, Kernel, Mesh, Refusal, Store};
+    /// # let mesh = Mesh { vertices: &[[0.0; 3]; 3], faces: &[[0, 1, 2]] };
+    /// let mut store = Store::open(500.0, mesh)?;
+    /// let kernel = Kernel { c: [0.0; 3], sigma: 0.01, w: 300.0, alpha: 1.0 };
+    /// store.put(0, kernel)?;
+    /// store.put(1, kernel)?;
+    /// store.advance(1)?;
+    /// assert_eq!(store.report(Convention::Raw), Err(Refusal::Unfinished));
+    /// let so_far = store.finished(Convention::Raw)?;
+    /// assert_eq!((so_far.report.kernels, so_far.passed_over), (1, 1));
+    /// # Ok::<(), Box<dyn std::error::Error>>(())
+    /// ```
+    pub fn finished(&self, convention: Convention) -> Result<Finished, Refusal> {
+        self.layers(Layers::ALL).finished(convention)
+    }
+
+    /// The steps that place has left; 0 where it is empty or 32 or above.
+    ///
+    /// ```
+    /// # use cauchy::{Kernel, Mesh, Store};
+    /// # let mesh = Mesh { vertices: &[[0.0; 3]; 3], faces: &[[0, 1, 2]; 10] };
+    /// # let kernel = Kernel { c: [0.0; 3], sigma: 0.01, w: 300.0, alpha: 1.0 };
+    /// let mut store = Store::open(500.0, mesh)?;
+    /// store.put(4, kernel)?;
+    /// store.advance(3)?;
+    /// assert_eq!((store.left_at(4), store.left_at(5)), (7, 0));
+    /// # Ok::<(), Box<dyn std::error::Error>>(())
+    /// ```
+    pub fn left_at(&self, place: u32) -> u64 {
+        if place >= PLACES {
+            return 0;
+        }
+        let state = &self.words[STATES_AT + STATE_WORDS * place as usize..][..STATE_WORDS];
+        let [status, finished, done] = [state[0], state[1], state[2]].map(u64::from);
+        let faces = u64::from(self.faces());
+        status.saturating_sub(1) * faces - (finished * faces + done)
     }
 
     /// The pieces of all places, in order, with weights rescaled by the convention. By mass with a target

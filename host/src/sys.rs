@@ -95,6 +95,16 @@ pub struct StoreReport {
 }
 
 #[repr(C)]
+pub struct Finished {
+    pub no: u32,
+    pub report: MassReport,
+    pub kernels: u32,
+    pub pieces: u32,
+    pub error: f64,
+    pub passed_over: u32,
+}
+
+#[repr(C)]
 pub struct Listed {
     pub no: u32,
     pub pieces: u32,
@@ -217,6 +227,14 @@ unsafe extern "C" {
         convention: Convention,
         layers: u32,
     ) -> StoreReport;
+    pub fn cauchy_store_finished(
+        floats: *const f64,
+        n_floats: usize,
+        words: *const u32,
+        n_words: usize,
+        convention: Convention,
+        layers: u32,
+    ) -> Finished;
     pub fn cauchy_store_list(
         floats: *const f64,
         n_floats: usize,

@@ -213,6 +213,24 @@ impl Held {
         Ok(Report { mass, kernels: seen.len() as u32, pieces: pieces.len() as u32, error })
     }
 
+    /// 02's L7: the report of a store in which every place outside the layers, or with work left, is empty.
+    pub fn finished(&self, by: Convention, layers: u32) -> Result<(Report, u32), u32> {
+        self.sound()?;
+        set_number(layers)?;
+        let mut just = self.clone();
+        let mut passed = 0;
+        for i in 0..32 {
+            let seen = self.seen(layers, i);
+            if seen && self.owed(i) > 0 {
+                passed += 1;
+            }
+            if !seen || self.owed(i) > 0 {
+                just.words[2 + RECORD * i..][..RECORD].fill(0);
+            }
+        }
+        Ok((just.report(by, ALL_LAYERS)?, passed))
+    }
+
     pub fn list(&self, by: Convention, layers: u32, out: &mut [f64]) -> Result<u32, u32> {
         self.finished_for(Reading::List, by, layers)?;
         write_list(&self.rescaled(by, layers), out)

@@ -20,6 +20,7 @@ pub enum Call {
     Squeeze,
     Density(Convention, u32, [f64; 3]),
     Report(Convention, u32),
+    Finished(Convention, u32),
     List(Convention, u32, usize),
     Track(Convention, u32, &'static [f64], usize),
     Page(usize),
@@ -35,6 +36,7 @@ pub enum Answer {
     Freed(u32),
     Value(f64),
     Report(Report),
+    Finished(Report, u32),
     Listed(u32),
     Tracked(u32),
     Paged(u64),
@@ -64,6 +66,7 @@ macro_rules! model {
                 Call::Squeeze => of($squeeze(self), Answer::Freed),
                 Call::Density(by, layers, at) => of(self.density(by, layers, at), Answer::Value),
                 Call::Report(by, layers) => of(self.report(by, layers), Answer::Report),
+                Call::Finished(by, layers) => of(self.finished(by, layers), |(report, passed)| Answer::Finished(report, passed)),
                 Call::List(by, layers, _) => of(self.list(by, layers, out), Answer::Listed),
                 Call::Track(by, layers, points, _) => of(self.track(by, layers, points, out), Answer::Tracked),
                 Call::Page(room) => of(self.page(&mut page::bytes(out)[..room]), Answer::Paged),
@@ -262,7 +265,7 @@ impl Places {
 
 /// The next call, by where the model stands.
 pub fn call(r: &mut Rng, model: &impl Model, places: &Places) -> Call {
-    match r.below(30) {
+    match r.below(32) {
         0..=5 => Call::Put(places.one(r), kernel(r), layer(r)),
         6 | 7 => Call::Clear(places.one(r)),
         8 | 9 => Call::Reweigh(places.one(r), weight(r)),
@@ -272,6 +275,7 @@ pub fn call(r: &mut Rng, model: &impl Model, places: &Places) -> Call {
         21 | 22 => Call::Squeeze,
         23 | 24 => track(r),
         25 | 26 => Call::Page(page_room(r, model)),
+        27 | 28 => Call::Finished(convention(r), layers(r)),
         _ => Call::List(convention(r), layers(r), list_room(r, model)),
     }
 }

@@ -233,6 +233,21 @@ impl<T: Text> Machine<T> {
         Ok(Report { mass, kernels: kernels.len() as u32, pieces: pieces.len() as u32, error })
     }
 
+    /// 02's L7: "It covers only the places whose steps are complete, and says how many filled places of its layers it passed over. It
+    /// equals the ordinary report of a store holding just those places".
+    pub fn finished(&self, by: Convention, layers: u32) -> Result<(Report, u32), u32> {
+        set_number(layers)?;
+        let mut just = Machine::<T>::open(&self.xyz, &self.faces, self.radius);
+        let mut passed = 0;
+        for place in (0..PLACES).filter(|place| self.seen(layers, *place).is_some()) {
+            match self.owed(place) {
+                0 => just.places[place] = self.places[place],
+                _ => passed += 1,
+            }
+        }
+        Ok((just.report(by, ALL_LAYERS)?, passed))
+    }
+
     /// Writes c, sigma, rescaled w, alpha per piece; answers the piece count.
     pub fn list(&self, by: Convention, layers: u32, out: &mut [f64]) -> Result<u32, u32> {
         self.finished_for(Reading::List, by, layers)?;

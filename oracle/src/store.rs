@@ -91,7 +91,7 @@ pub fn squeeze(floats: &mut [f64], words: &mut [u32]) -> Squeezed {
     unsafe { cauchy_store_squeeze(floats.as_mut_ptr(), floats.len(), words.as_mut_ptr(), words.len()) }
 }
 
-pub use reading::{density, list, page, report, track};
+pub use reading::{density, finished, list, page, report, track};
 
 /// The readings.
 mod reading {
@@ -121,6 +121,16 @@ mod reading {
     }
 
     #[repr(C)]
+    struct Finished {
+        no: u32,
+        report: [f64; 7],
+        kernels: u32,
+        pieces: u32,
+        error: f64,
+        passed_over: u32,
+    }
+
+    #[repr(C)]
     struct Listed {
         no: u32,
         pieces: u32,
@@ -141,6 +151,7 @@ mod reading {
     unsafe extern "C" {
         fn cauchy_store_density(f: *const f64, f_len: usize, w: *const u32, w_len: usize, by: Convention, layers: u32, at: Point) -> Value;
         fn cauchy_store_report(f: *const f64, f_len: usize, w: *const u32, w_len: usize, by: Convention, layers: u32) -> StoreReport;
+        fn cauchy_store_finished(f: *const f64, f_len: usize, w: *const u32, w_len: usize, by: Convention, layers: u32) -> Finished;
         fn cauchy_store_list(
             f: *const f64,
             f_len: usize,
@@ -176,6 +187,13 @@ mod reading {
     pub fn report(floats: &[f64], words: &[u32], by: Convention, layers: u32) -> (u32, Report) {
         let told = unsafe { cauchy_store_report(floats.as_ptr(), floats.len(), words.as_ptr(), words.len(), by, layers) };
         (told.no, Report { mass: told.report, kernels: told.kernels, pieces: told.pieces, error: told.error })
+    }
+
+    /// A number, the report, and the places passed over.
+    pub fn finished(floats: &[f64], words: &[u32], by: Convention, layers: u32) -> (u32, Report, u32) {
+        let told = unsafe { cauchy_store_finished(floats.as_ptr(), floats.len(), words.as_ptr(), words.len(), by, layers) };
+        let report = Report { mass: told.report, kernels: told.kernels, pieces: told.pieces, error: told.error };
+        (told.no, report, told.passed_over)
     }
 
     /// A number, and the count of pieces.

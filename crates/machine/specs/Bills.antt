@@ -20,7 +20,7 @@ use Rattle.store.specs.Calls.{openStep}
 use Rattle.readings.specs.Readings.{list}
 use Rattle.machine.specs.Machine.{openRow}
 use Rattle.machine.specs.Holding.{flat}
-use Rattle.machine.specs.Calls.{Call, put, clear, reweigh, advance, squeeze, read, page, Store, store, leaves, chargedIn}
+use Rattle.machine.specs.Calls.{Call, put, clear, reweigh, advance, squeeze, read, finished, page, Store, store, leaves, chargedIn}
 use Rattle.machine.specs.Demands.{leaving}
 
 -- ---- the kernels of a list
@@ -59,6 +59,7 @@ putBy (reweigh i v) = []
 putBy (advance n) = []
 putBy squeeze = []
 putBy (read ls r) = []
+putBy (finished ls v) = []
 putBy (page bs) = []
 
 abbrev pub putIn : List Call → List Kernel
@@ -72,6 +73,7 @@ placeBy (reweigh i v) = []
 placeBy (advance n) = []
 placeBy squeeze = []
 placeBy (read ls r) = []
+placeBy (finished ls v) = []
 placeBy (page bs) = []
 
 abbrev pub placesIn : List Call → List ℕ
@@ -89,6 +91,7 @@ layerBy (reweigh i v) = []
 layerBy (advance n) = []
 layerBy squeeze = []
 layerBy (read ls r) = []
+layerBy (finished ls v) = []
 layerBy (page bs) = []
 
 abbrev pub layersIn : List Call → List ℕ

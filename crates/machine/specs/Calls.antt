@@ -7,7 +7,7 @@ use lib.Dec.{ltb, leb}
 use lib.ListN.{getD, replicate}
 use lib.Ieee.{Float, lt}
 use Rattle.base.specs.Floats.{+0}
-use Rattle.base.specs.Answers.{Answer, refused, Outcome}
+use Rattle.base.specs.Answers.{Answer, refused, Outcome, outcome}
 use Rattle.base.specs.declared.refusal.Refusal.the-variants.{NoPlace, Unfinished, NoLayer}
 use Rattle.kernel.specs.declared.kernel.Kernel.{Kernel}
 use Rattle.pieces.specs.Pieces.{decomposed}
@@ -20,11 +20,12 @@ use Rattle.store.specs.Puts.{putStep}
 use Rattle.density.specs.declared.convention.Convention.{Convention}
 use Rattle.density.specs.declared.convention.Convention.the-variants.{Raw, Rho0, Mass}
 use Rattle.readings.specs.Readings.{Reading, density, report, list, track, refusing, readStep}
+use Rattle.readings.specs.Finished.{finishedStep}
 use Rattle.page.specs.Page.{Paged, paged, pageStep}
 use Rattle.store.specs.Squeeze.{squeezeStep}
 use Rattle.machine.specs.Machine.{empty, Machine, leftSum, seenPlaces, workLeft, Turn, turn, putTurn, clearTurn, reweighTurn, advanceTurn, squeezeTurn}
 use Rattle.machine.specs.Holding.{floatsOf, wordsOf}
-use Rattle.machine.specs.Fresh.{workedAfresh, pageAfresh}
+use Rattle.machine.specs.Fresh.{workedAfresh, finishedAfresh, pageAfresh}
 
 -- the calls of demand 3's list
 pub data Call : Type 0 where
@@ -36,6 +37,8 @@ pub data Call : Type 0 where
   squeeze : Call
   -- of a set of layers
   read : ℕ → Reading → Call
+  -- the report of what is finished, of a set of layers
+  finished : ℕ → Convention → Call
   -- the wall page, into lent bytes
   page : List ℕ → Call
 
@@ -73,6 +76,11 @@ readTurn m layers r =
     (cond (needs r && ltb 0 (workSeen m layers)) (refusing r Unfinished)
     (workedAfresh (m .mesh) (seenPlaces layers (m .places)) r))
 
+-- 02, L7, of the places that it sees: "It is never refused as unfinished"; like a reading it changes nothing
+abbrev pub finishedTurn : Machine → ℕ → Convention → Answer
+finishedTurn m layers v =
+    cond (leb (2 ^ 16) layers) (refused NoLayer) (finishedAfresh (m .mesh) (seenPlaces layers (m .places)) v)
+
 abbrev pub given : Machine → Outcome → Turn
 given m a = record { next = m; reply = a .reply; out = a .out; page = [] }
 
@@ -92,6 +100,7 @@ machine m (reweigh i v) = inPlace m i (reweighTurn m i v (getD (m .places) i emp
 machine m (advance n) = advanceTurn m n
 machine m squeeze = squeezeTurn m
 machine m (read ls r) = given m (readTurn m ls r)
+machine m (finished ls v) = turn m (finishedTurn m ls v)
 machine m (page bs) = posted m (pageTurn m bs)
 
 -- ---- the store
@@ -126,6 +135,7 @@ store q s (reweigh i v) = result (reweighStep q (s .floats) (s .words) i v)
 store q s (advance n) = result (advanceStep q (s .floats) (s .words) n)
 store q s squeeze = result (squeezeStep q (s .floats) (s .words))
 store q s (read ls r) = seen s (readStep q (s .floats) (s .words) ls r)
+store q s (finished ls v) = seen s (outcome (finishedStep q (s .floats) (s .words) ls v) [])
 store q s (page bs) = pinned s (pageStep q (s .floats) (s .words) bs)
 
 -- ---- a list of calls: each gets what the call before it left
@@ -153,6 +163,7 @@ chargedBy (reweigh i v) r = 0
 chargedBy (advance n) r = 0
 chargedBy squeeze r = 0
 chargedBy (read ls x) r = 0
+chargedBy (finished ls v) r = 0
 chargedBy (page bs) r = 0
 
 -- the steps that an advance answers
@@ -163,6 +174,7 @@ doneBy (reweigh i v) r = 0
 doneBy (advance n) r = getD (r .counts) 0 0
 doneBy squeeze r = 0
 doneBy (read ls x) r = 0
+doneBy (finished ls v) r = 0
 doneBy (page bs) r = 0
 
 -- the left that an advance answers
@@ -186,6 +198,7 @@ without (reweigh i v ∷ cs) = reweigh i v ∷ without cs
 without (advance n ∷ cs) = advance n ∷ without cs
 without (squeeze ∷ cs) = without cs
 without (read ls r ∷ cs) = read ls r ∷ without cs
+without (finished ls v ∷ cs) = finished ls v ∷ without cs
 without (page bs ∷ cs) = page bs ∷ without cs
 
 -- of one call: its reply, and what is lent beside the store as it is then
@@ -201,6 +214,7 @@ others (reweigh i v) o os = o ∷ os
 others (advance n) o os = o ∷ os
 others squeeze o os = os
 others (read ls r) o os = o ∷ os
+others (finished ls v) o os = o ∷ os
 others (page bs) o os = o ∷ os
 
 abbrev pub hearing : Result → Heard

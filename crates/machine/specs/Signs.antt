@@ -17,7 +17,7 @@ use Rattle.layout.specs.Layout.{width, placeLimit, pieceLimit, pieceFrom}
 use Rattle.store.specs.Calls.{openStep}
 use Rattle.readings.specs.Readings.{Reading, density, report, list, track, six}
 use Rattle.machine.specs.Machine.{openRow}
-use Rattle.machine.specs.Calls.{Call, put, clear, reweigh, advance, squeeze, read, page, Store, store, leaves, Heard, hearing}
+use Rattle.machine.specs.Calls.{Call, put, clear, reweigh, advance, squeeze, read, finished, page, Store, store, leaves, Heard, hearing}
 use Rattle.machine.specs.Demands.{leaving}
 
 -- ---- two lists of calls that differ only in signs of sigmas of kernels that stay: they are the same without these
@@ -34,6 +34,7 @@ unsignedCall (reweigh i v) = reweigh i v
 unsignedCall (advance n) = advance n
 unsignedCall squeeze = squeeze
 unsignedCall (read ls r) = read ls r
+unsignedCall (finished ls v) = finished ls v
 unsignedCall (page bs) = page bs
 
 -- ---- what they answer and write: the same, but that a list writes the sigmas as they are
@@ -58,6 +59,7 @@ unsignedHeard (reweigh i v) o = o
 unsignedHeard (advance n) o = o
 unsignedHeard squeeze o = o
 unsignedHeard (read ls r) o = unsignedRead r o
+unsignedHeard (finished ls v) o = o
 unsignedHeard (page bs) o = o
 
 abbrev pub said : ℕ → Store → List Call → List Heard

@@ -9,6 +9,8 @@ pub mod ReadLaws
 pub mod SeenLaws
 pub mod Layered
 pub mod ReportAnswer
+pub mod Finished
+pub mod FinishedAnswer
 pub mod ListAnswer
 pub mod TrackAnswer
 pub mod TrackLaws

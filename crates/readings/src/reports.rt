@@ -41,7 +41,7 @@ pub enum Reported {
 }
 
 // The volume of the mesh that a store holds.
-fn body_of(floats: &[f64], words: &[u32], verts: usize, faces: usize) -> f64
+pub fn body_of(floats: &[f64], words: &[u32], verts: usize, faces: usize) -> f64
     requires { ⌜ Meshed width (now floats) (now words) verts faces ⌝ }
     ensures { λ r. ⌜ r ≡ bodyVolume (held width (now (floats .entry)) (now (words .entry)) verts faces) faces ⌝ }
 {
@@ -64,7 +64,7 @@ fn body_of(floats: &[f64], words: &[u32], verts: usize, faces: usize) -> f64
 }
 
 // The report of a sound store whose mesh has the volume `body`, over the places that are seen.
-fn report_seen(v: Convention, floats: &[f64], seen: &[u32], faces: usize, body: f64) -> Reported
+pub fn report_seen(v: Convention, floats: &[f64], seen: &[u32], faces: usize, body: f64) -> Reported
     requires { ⌜ coordsFrom ≤ length (now floats) ⌝ ∗ ⌜ Worded width (now seen) faces ⌝ }
     ensures { λ r. ⌜ outcome (reportRead r) []
         ≡ answerOf (Readings.report v) (seenBy width (now (floats .entry)) (now (seen .entry)) body) ⌝ }

@@ -90,6 +90,13 @@ class CauchyStoreReport(Structure):
     ]
 
 
+class CauchyFinished(Structure):
+    _fields_ = [
+        ("no", c_uint32), ("report", CauchyMassReport), ("kernels", c_uint32), ("pieces", c_uint32),
+        ("error", c_double), ("passed_over", c_uint32),
+    ]
+
+
 class CauchyListed(Structure):
     _fields_ = [("no", c_uint32), ("pieces", c_uint32)]
 
@@ -137,6 +144,7 @@ PROTOTYPES: Dict[str, Tuple[Any, ...]] = {
     "store_advance": (CauchySteps, *_STORE, c_uint64),
     "store_density": (CauchyValue, *_STORE, CauchyConvention, c_uint32, CauchyVector),
     "store_report": (CauchyStoreReport, *_STORE, CauchyConvention, c_uint32),
+    "store_finished": (CauchyFinished, *_STORE, CauchyConvention, c_uint32),
     "store_list": (CauchyListed, *_STORE, CauchyConvention, c_uint32, *_FLOATS),
     "store_track": (CauchyTrack, *_STORE, CauchyConvention, c_uint32, *_FLOATS, *_FLOATS),
     "store_page": (CauchyBytes, *_STORE, *_BYTES),

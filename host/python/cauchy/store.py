@@ -22,7 +22,8 @@ _STATES_AT, _STATE_WORDS, _LAYER_IN_STATE = 2, 4, 3
 Layers = Optional[Collection[int]]
 
 # The functions that only read a store, so that they may share it; the header's `const` says the same.
-READINGS = frozenset(("store_density", "store_report", "store_list", "store_track", "store_page"))
+READINGS = frozenset(
+    ("store_density", "store_report", "store_finished", "store_list", "store_track", "store_page"))
 
 
 class Store:
@@ -233,6 +234,24 @@ class Store:
         """
         answer = self._call("store_report", crossing_convention(convention), _layers(layers))
         return StoreReport(**masses(answer.report), kernels=answer.kernels, pieces=answer.pieces, error=answer.error)
+
+    def finished(self, convention: Convention, layers: Layers = None) -> Tuple[StoreReport, int]:
+        """The report of what is finished, while work may be left, and how many filled places of these layers it passed
+        over: what `report` gives of a store that holds just the places whose work is done.
+
+        >>> store = Store(500, [0] * 9, [0, 1, 2])
+        >>> store.put(0, Kernel((0, 0, 0), 1, 2, 1)), store.put(1, Kernel((0, 0, 0), 1, 5, 1))
+        (Placed(pieces=1, need=1), Placed(pieces=1, need=1))
+        >>> store.advance(1)
+        Steps(done=1, left=1)
+        >>> report, passed_over = store.finished(RAW)
+        >>> report.kernels, passed_over
+        (1, 1)
+        """
+        answer = self._call("store_finished", crossing_convention(convention), _layers(layers))
+        report = StoreReport(
+            **masses(answer.report), kernels=answer.kernels, pieces=answer.pieces, error=answer.error)
+        return report, int(answer.passed_over)
 
     def list(self, convention: Convention, layers: Layers = None) -> List[Kernel]:
         """The pieces of the places, in order, as kernels with weights rescaled. By mass with a target above 0 it

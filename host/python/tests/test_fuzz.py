@@ -95,7 +95,7 @@ RIGHT = {
 METHODS = {
     "put": "place kernel layer", "clear": "place", "reweigh": "place number", "squeeze": "", "advance": "budget", "left": "",
     "work": "budget", "density": "convention point layers",
-    "track": "convention points layers", "report": "convention layers", "list": "convention layers", "page": "", "held": "place", "mesh": "", "to_bytes": "", "copy": "",
+    "track": "convention points layers", "report": "convention layers", "finished": "convention layers", "list": "convention layers", "page": "", "held": "place", "mesh": "", "to_bytes": "", "copy": "",
 }
 FUNCTIONS = {
     "Store": "number vertices faces", "Store.from_bytes": "bytes", "Kernel": "point number number number",

@@ -10,6 +10,8 @@ pub enum Failure {
     Usage(String),
     /// Something was refused or could not be done.
     Work(String),
+    /// An interrupt; what is to be said has been said.
+    Interrupted,
 }
 
 pub type Result<T> = std::result::Result<T, Failure>;

@@ -4,6 +4,7 @@ mod failure;
 mod figures;
 mod holes;
 mod input;
+mod interrupt;
 mod kernels;
 mod opening;
 mod options;
@@ -23,6 +24,9 @@ use output::say;
 use outputs::Outputs;
 use std::process::ExitCode;
 
+/// The exit status after an interrupt, as shells have it.
+const INTERRUPTED: u8 = 130;
+
 fn main() -> ExitCode {
     let told = options::parse(std::env::args_os().skip(1)).and_then(|command| match command {
         Command::Help => say(include_str!("help.txt")),
@@ -37,6 +41,7 @@ fn main() -> ExitCode {
             eprintln!("cauchy: {what}\n`cauchy help` tells more");
             ExitCode::from(2)
         }
+        Err(Failure::Interrupted) => ExitCode::from(INTERRUPTED),
         Err(Failure::Work(what)) => {
             eprintln!("cauchy: {what}");
             ExitCode::FAILURE
@@ -50,12 +55,17 @@ fn run(options: &Options) -> Result<()> {
     let points = options.track.as_deref().map(input::track).transpose()?;
     let Opening { mut store, closed, head } = opening::open(&options.origin, options.squeeze)?;
     say(&head)?;
+    interrupt::watch();
     let steps = work::work(&mut store, options.steps, outputs.snapshot.as_ref())?;
     say(&page::entry("work", &[page::steps(steps.done, steps.left)]))?;
     if steps.left > 0 {
-        return outputs.snapshot.map_or(Ok(()), |snapshot| {
-            say(&format!("The rest: cauchy resume {} ..\n", snapshot.path().display()))
-        });
+        if options.so_far || interrupt::asked() {
+            reading::so_far(&store, closed, options)?;
+        }
+        if let Some(snapshot) = outputs.snapshot {
+            say(&format!("The rest: cauchy resume {} ..\n", snapshot.path().display()))?;
+        }
+        return if interrupt::asked() { Err(Failure::Interrupted) } else { Ok(()) };
     }
     reading::read(&store, closed, options, &outputs, points)
 }

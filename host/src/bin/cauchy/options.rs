@@ -43,6 +43,8 @@ pub struct Options {
     pub layers: Layers,
     /// Whether each layer is reported by itself too.
     pub by_layer: bool,
+    /// Whether what is finished is reported where work is left.
+    pub so_far: bool,
     pub track: Option<PathBuf>,
     pub csv: Option<PathBuf>,
     pub svg: Option<PathBuf>,
@@ -66,6 +68,7 @@ struct Given {
     bulk: Option<f64>,
     layers: Option<Layers>,
     by_layer: Option<()>,
+    so_far: Option<()>,
     track: Option<PathBuf>,
     csv: Option<PathBuf>,
     svg: Option<PathBuf>,
@@ -129,6 +132,7 @@ impl Given {
                 "--bulk" => once(name, &mut given.bulk, above_zero(name, value()?)?)?,
                 "--layers" => once(name, &mut given.layers, layers(name, value()?)?)?,
                 "--by-layer" => once(name, &mut given.by_layer, ())?,
+                "--so-far" => once(name, &mut given.so_far, ())?,
                 "--track" => once(name, &mut given.track, value()?.into())?,
                 "--csv" => once(name, &mut given.csv, value()?.into())?,
                 "--svg" => once(name, &mut given.svg, value()?.into())?,
@@ -209,14 +213,15 @@ impl Given {
         if self.track.is_none() && (self.csv.is_some() || self.svg.is_some()) {
             return Failure::usage("--csv and --svg are of a track: give --track FILE too");
         }
-        if self.steps.is_some() && self.snapshot.is_none() {
-            return Failure::usage("--steps may stop before the end: give --snapshot FILE too");
+        if self.steps.is_some() && self.snapshot.is_none() && self.so_far.is_none() {
+            return Failure::usage("--steps may stop before the end: give --snapshot FILE or --so-far too");
         }
         Ok(Command::Work(Box::new(Options {
             origin,
             convention,
             layers: self.layers.unwrap_or_default(),
             by_layer: self.by_layer.is_some(),
+            so_far: self.so_far.is_some(),
             track: self.track,
             csv: self.csv,
             svg: self.svg,

@@ -2,7 +2,7 @@
 use crate::figures::{count, counted, rounded, short, whole};
 use crate::track::Track;
 use cauchy::{
-    Bill, Convention, Fit, Held, Kernel, LAYERS, Layers, MassReport, PLACES, Refusal, Store, StoreReport,
+    Bill, Convention, Finished, Fit, Held, Kernel, LAYERS, Layers, MassReport, PLACES, Refusal, Store, StoreReport,
 };
 use std::fmt::Write;
 use std::path::Path;
@@ -160,6 +160,41 @@ pub fn by_layer(by: Convention, own: &[(u32, StoreReport)], all: &StoreReport) -
     let rows: String = own.iter().map(|(layer, report)| of(layer.to_string(), report)).collect();
     let title = format!("\nBy layer, by the convention {}: {}\n", by.name(), convention(by));
     title + &row(heads.map(String::from)) + &rows + &of("all".to_string(), all)
+}
+
+/// The report of what is finished.
+pub fn so_far(by: Convention, layers: Layers, told: &Finished, closed: bool) -> String {
+    let of = if layers == Layers::ALL { String::new() } else { format!(" of {}", layers_said(layers)) };
+    let mut text =
+        format!("\nMass of what is finished{of}, by the convention {}: {}\n", by.name(), convention(by));
+    let mass = &told.report.mass;
+    let rows = [
+        ("field mass, weights as entered", whole(mass.raw_mass), "kg"),
+        ("field mass by this convention", whole(mass.applied_mass), "kg"),
+        ("weights times", whole(mass.applied_scale), ""),
+    ];
+    for (label, figure, unit) in rows {
+        let _ = writeln!(text, "{}", format!("  {label:<43}{figure} {unit}").trim_end());
+    }
+    let covered = counted(u64::from(told.report.kernels), "kernel");
+    let _ = writeln!(text, "  {:<43}{covered}, {}", "of", counted(u64::from(told.report.pieces), "piece"));
+    if !closed {
+        let _ = writeln!(text, "  Note: {NOT_CLOSED}");
+    }
+    let passed = counted(u64::from(told.passed_over), "kernel");
+    let _ =
+        writeln!(text, "  Note: this is NOT the mass of the store: {passed} with work left are not in it");
+    text
+}
+
+/// A place that the report of what is finished passed over.
+pub fn passed_over(store: &Store, place: u32) -> String {
+    let left = count(store.left_at(place));
+    let layer = match store.held(place) {
+        Some(held) if held.layer > 0 => format!(", in layer {}", held.layer),
+        _ => String::new(),
+    };
+    format!("  not in it: place {place}{layer}, {left} steps left\n")
 }
 
 /// What is said of a mass on a mesh that is not closed.

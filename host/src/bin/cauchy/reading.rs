@@ -55,6 +55,19 @@ pub fn read(
     if paths.is_empty() { Ok(()) } else { say(&format!("\n{}", page::entry("written", &paths))) }
 }
 
+/// The report of what is finished, and what it passed over, place by place.
+pub fn so_far(store: &Store, closed: bool, options: &Options) -> Result<()> {
+    let seen = store.layers(options.layers);
+    let refused = |refusal| Failure::Work(format!("finished: {refusal}"));
+    let told = seen.finished(options.convention).map_err(refused)?;
+    say(&page::so_far(options.convention, options.layers, &told, closed))?;
+    let passed = |place: &u32| {
+        store.left_at(*place) > 0 && store.held(*place).is_some_and(|held| options.layers.has(held.layer))
+    };
+    let lines = (0..PLACES).filter(passed).map(|place| page::passed_over(store, place)).collect::<String>();
+    say(&lines)
+}
+
 /// The layers of the places that are read, by rising number.
 fn layers_of(store: &Store, layers: Layers) -> Vec<u32> {
     let held =

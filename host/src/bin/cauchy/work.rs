@@ -1,5 +1,6 @@
 //! The work, in portions of a fifth of a second, with a bar on a terminal and snapshots between portions.
 use crate::failure::{Failure, Result};
+use crate::interrupt;
 use crate::output::Output;
 use cauchy::{Steps, Store};
 use std::io::{IsTerminal, Write, stderr};
@@ -8,7 +9,8 @@ use std::time::{Duration, Instant};
 const PORTION_TIME: Duration = Duration::from_millis(200);
 const SNAPSHOT_TIME: Duration = Duration::from_secs(30);
 
-/// Does the steps that are left, or the first `limit` of them, and keeps a snapshot.
+/// Does the steps that are left, or the first `limit` of them, and keeps a snapshot. An interrupt ends it after the portion
+/// under way.
 pub fn work(store: &mut Store, limit: Option<u64>, snapshot: Option<&Output>) -> Result<Steps> {
     let refused = |refusal| Failure::Work(format!("work: {refusal}"));
     let left = store.left().map_err(refused)?;
@@ -18,7 +20,7 @@ pub fn work(store: &mut Store, limit: Option<u64>, snapshot: Option<&Output>) ->
     let mut bar = Bar::new();
     save(store, snapshot)?;
     let mut saved = Instant::now();
-    while steps.done < asked {
+    while steps.done < asked && !interrupt::asked() {
         let begun = Instant::now();
         let told = store.advance(portion.steps.min(asked - steps.done)).map_err(refused)?;
         steps = Steps { done: steps.done + told.done, left: told.left };

@@ -24,7 +24,7 @@ fn calls(r: &mut Rng) -> Vec<Call> {
     let (by, layers) = (histories::convention(r), histories::layers(r));
     calls.push(histories::track(r));
     calls.push(Call::Page(cases::one(r, &[0, 64, 65, 1_000, 2_145])));
-    calls.extend([Call::Density(by, layers, [1.0, 2.0, 3.0]), Call::Report(by, layers)]);
+    calls.extend([Call::Density(by, layers, [1.0, 2.0, 3.0]), Call::Report(by, layers), Call::Finished(by, layers)]);
     calls.push(Call::List(by, layers, cases::one(r, &[0, 6, 600, 3_072])));
     calls
 }

@@ -2,6 +2,7 @@
 use crate::squeezes::{altered, touch_freed};
 use crate::tracks::apart;
 use oracle::cases;
+use oracle::conventions::Report;
 use oracle::held::Held;
 use oracle::histories::{self, Answer, Body, Call, Model, Places};
 use oracle::inputs::Rng;
@@ -65,6 +66,11 @@ impl Runs {
                 let more = [report.kernels.into(), report.pieces.into(), report.error];
                 told(no, &[&report.mass[..], &more].concat(), Answer::Report(report))
             }
+            Call::Finished(by, layers) => {
+                let (no, report, passed) = store::finished(&self.floats, &self.words, by, layers);
+                let more = [report.kernels.into(), report.pieces.into(), report.error, passed.into()];
+                told(no, &[&report.mass[..], &more].concat(), Answer::Finished(report, passed))
+            }
             Call::List(by, layers, _) => {
                 let (no, pieces) = store::list(&self.floats, &self.words, by, layers, out);
                 told(no, &[pieces.into()], Answer::Listed(pieces))
@@ -94,6 +100,7 @@ pub struct Seen {
     tracks: [u64; 4],
     pages: [u64; 6],
     layers: [u64; 4],
+    finished: [u64; 3],
 }
 
 impl Seen {
@@ -118,6 +125,12 @@ impl Seen {
             (Call::Page(_), _) => self.pages[5] += 1,
             _ => {}
         }
+        match answer {
+            Answer::Finished(_, 0) => self.finished[0] += 1,
+            Answer::Finished(Report { kernels: 0, .. }, _) => self.finished[2] += 1,
+            Answer::Finished(..) => self.finished[1] += 1,
+            _ => {}
+        }
         match (set_of(call), answer) {
             (_, Answer::Refused(16)) => self.layers[3] += 1,
             (None, _) | (_, Answer::Refused(_)) => {}
@@ -137,7 +150,9 @@ impl Seen {
         let pages = format!("; of pages {lines} written, {total} without places, {left} refused as 8, {figure} as 17, {short} as 18");
         let [all, some, none, no_layer] = self.layers;
         let layers = format!("; of readings {all} by all layers, {some} by some, {none} by none; {no_layer} calls refused as 16");
-        format!("{} accepted{}{squeezes}{tracks}{pages}, {other} as another{layers}", self.accepted, refused.collect::<String>())
+        let [whole, part, empty] = self.finished;
+        let finished = format!("; of what is finished {whole} passed over none, {part} some, {empty} all");
+        format!("{} accepted{}{squeezes}{tracks}{pages}, {other} as another{layers}{finished}", self.accepted, refused.collect::<String>())
     }
 }
 
@@ -154,6 +169,9 @@ fn ended(fit: pieces::Fit) -> Fit {
 
 pub fn same(a: Answer, b: Answer) -> bool {
     let floats = |x: &[f64], y: &[f64]| x.iter().zip(y).all(|(x, y)| pattern(*x) == pattern(*y));
+    let reports = |x: &Report, y: &Report| {
+        floats(&x.mass, &y.mass) && (x.kernels, x.pieces) == (y.kernels, y.pieces) && floats(&[x.error], &[y.error])
+    };
     match (a, b) {
         (Answer::Refused(x), Answer::Refused(y)) => x == y,
         (Answer::Placed(a, b, f), Answer::Placed(x, y, g)) => (a, b, f.told()) == (x, y, g.told()),
@@ -163,9 +181,8 @@ pub fn same(a: Answer, b: Answer) -> bool {
         (Answer::Value(x), Answer::Value(y)) => floats(&[x], &[y]),
         (Answer::Listed(x), Answer::Listed(y)) | (Answer::Tracked(x), Answer::Tracked(y)) => x == y,
         (Answer::Paged(x), Answer::Paged(y)) => x == y,
-        (Answer::Report(x), Answer::Report(y)) => {
-            floats(&x.mass, &y.mass) && (x.kernels, x.pieces) == (y.kernels, y.pieces) && floats(&[x.error], &[y.error])
-        }
+        (Answer::Report(x), Answer::Report(y)) => reports(&x, &y),
+        (Answer::Finished(x, m), Answer::Finished(y, n)) => m == n && reports(&x, &y),
         _ => false,
     }
 }
@@ -203,14 +220,18 @@ fn written(answer: Answer) -> usize {
 /// The set of layers that a reading names.
 fn set_of(call: Call) -> Option<u32> {
     match call {
-        Call::Density(_, layers, _) | Call::Report(_, layers) | Call::List(_, layers, _) | Call::Track(_, layers, ..) => Some(layers),
+        Call::Density(_, layers, _)
+        | Call::Report(_, layers)
+        | Call::Finished(_, layers)
+        | Call::List(_, layers, _)
+        | Call::Track(_, layers, ..) => Some(layers),
         _ => None,
     }
 }
 
 /// Whether the call only reads the store.
 fn reads(call: Call) -> bool {
-    matches!(call, Call::Density(..) | Call::Report(..) | Call::List(..) | Call::Track(..) | Call::Page(_))
+    matches!(call, Call::Density(..) | Call::Report(..) | Call::Finished(..) | Call::List(..) | Call::Track(..) | Call::Page(_))
 }
 
 /// One call on both: the answer, the lent run, and the runs, which `fields` then says of the model. A refused call and a reading leave

@@ -153,6 +153,7 @@ fn named(call: Call) -> String {
         Call::Squeeze => "squeeze".into(),
         Call::Density(by, ..) => format!("density{}", convention(by)),
         Call::Report(by, _) => format!("report{}", convention(by)),
+        Call::Finished(by, _) => format!("finished{}", convention(by)),
         Call::List(by, _, room) => format!("list {room}{}", convention(by)),
         Call::Track(by, _, points, room) => format!("track {} {room}{}", points.len(), convention(by)),
         Call::Page(room) => format!("page {room}"),
@@ -175,13 +176,16 @@ fn answer(told: Answer) -> String {
         Answer::Steps(done, left) => format!(" done {done} left {left}"),
         Answer::Freed(n) => format!(" freed {n}"),
         Answer::Value(x) => format!(" value{}", bits(&[x])),
-        Answer::Report(Report { mass, kernels, pieces, error }) => {
-            format!(" masses{} kernels {kernels} pieces {pieces} error{}", bits(&mass), bits(&[error]))
-        }
+        Answer::Report(report) => masses(report),
+        Answer::Finished(report, passed) => format!("{} passed {passed}", masses(report)),
         Answer::Listed(pieces) => format!(" pieces {pieces}"),
         Answer::Tracked(points) => format!(" points {points}"),
         Answer::Paged(bytes) => format!(" bytes {bytes}"),
     }
+}
+
+fn masses(Report { mass, kernels, pieces, error }: Report) -> String {
+    format!(" masses{} kernels {kernels} pieces {pieces} error{}", bits(&mass), bits(&[error]))
 }
 
 fn bits(list: &[f64]) -> String {
