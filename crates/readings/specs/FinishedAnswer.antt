@@ -2,9 +2,9 @@
 use Rattle.base.specs.Answers.{Answer, refused}
 use Rattle.readings.specs.Readings.{reported}
 use Rattle.readings.specs.Finished.{beside}
-use Rattle.readings.specs.declared.finished.Finished.{Finished}
-use Rattle.readings.specs.declared.finished.Finished.the-variants.{Report, Refused}
+use Rattle.readings.specs.declared.finished.FinishedRead.{FinishedRead}
+use Rattle.readings.specs.declared.finished.FinishedRead.the-variants.{Report, Refused}
 
-abbrev pub finishedRead : Finished → Answer
+abbrev pub finishedRead : FinishedRead → Answer
 finishedRead (Report mass filled pieces error passed) = beside passed (reported mass filled pieces error)
 finishedRead (Refused r) = refused r

@@ -11,15 +11,16 @@ use lib.Ieee.{Float}
 use Rattle.base.specs.declared.refusal.Checked.{Checked}
 use Rattle.base.specs.declared.refusal.Checked.the-variants.{Passed}
 use Rattle.volume.specs.Volume.{bodyVolume}
-use Rattle.layout.specs.Layout.{width, placeLimit, cornersFrom, vertsOf, facesOf, statusOf, layerOf}
+use Rattle.layout.specs.Layout.{width, placeLimit, cornersFrom, vertsOf, facesOf, statusOf}
 use Rattle.layout.specs.SoundLaws.{Worded, fine}
 use Rattle.layout.specs.Left.{held, leftOf}
 use Rattle.layout.specs.Runs.{write}
 use Rattle.layout.specs.RunLaws.{length-write}
-use Rattle.layout.specs.Layers.{inSet, hiding, inLayers}
+use Rattle.layout.specs.Layers.{hiding, inLayers}
 use Rattle.layout.specs.LayerLaws.{seen-verts, seen-faces, seen-corners, seen-worded, front-status, front-worded, front-left, shown-next, hidden-next}
 use Rattle.readings.specs.Readings.{Reading, needsWork, answerOf, guardedRead, seenBy, heldAll, heldFilled, heldWorst, heldSeen, readStep}
 use Rattle.readings.specs.Checks.{readCheck}
+use Rattle.readings.specs.Seeing.{shown, seenPlaces}
 use Rattle.readings.specs.ReadLaws.{read-as, read-passed}
 
 -- ---- what is held of a place is told by its status
@@ -75,16 +76,16 @@ pub seen-left : (layers : ℕ) (ws s : List ℕ) (m : ℕ) → s ≡ take (corne
 seen-left layers ws s m e =
     ap (λ (t : List ℕ). leftOf width t m placeLimit) e ∙ front-left width (omega arith) (inLayers width layers ws) m 32 (omega arith)
 
--- ---- the loop that empties the places outside the layers, in the words up to the corners
-module _ (layers : ℕ) (ws : List ℕ) where
-  abbrev shown : ℕ → Bool
-  shown i = inSet layers (layerOf width ws i)
+-- ---- the loop that empties the places that are not seen, in the words up to the corners
+module _ (layers : ℕ) (only : Bool) (ws : List ℕ) where
+  abbrev test : ℕ → Bool
+  test i = shown width layers only ws i
 
   -- the places below k were looked at
   pub record Looked (k : ℕ) (s : List ℕ) : Type 0 where
     pub low : k ≤ 32
     pub size : length s ≡ 130
-    pub same : s ≡ take 130 (hiding width shown ws k)
+    pub same : s ≡ take 130 (hiding width test ws k)
 
   pub none-looked : cornersFrom width ≤ length ws → (l s : List ℕ) → length l ≡ 130 → s ≡ write l 0 (take 130 ws) → Looked 0 s
   unfolding write hiding
@@ -94,18 +95,18 @@ module _ (layers : ℕ) (ws : List ℕ) where
       let f : s ≡ take 130 ws = e ∙ (ap (λ (r : List ℕ). take 130 ws ++ r) d ∙ append-nil (take 130 ws)) in
       record { low = omega arith; size = ap length f ∙ n; same = f }
 
-  pub next-looked : cornersFrom width ≤ length ws → (k : ℕ) {s t : List ℕ} → Looked k s → k < 32 → t ≡ cond (shown k) s (write s (2 + 4 * k) (replicate 4 0)) → Looked (k + 1) t
-  next-looked long k {s} {t} g h = go (shown k) refl
+  pub next-looked : cornersFrom width ≤ length ws → (k : ℕ) {s t : List ℕ} → Looked k s → k < 32 → t ≡ cond (test k) s (write s (2 + 4 * k) (replicate 4 0)) → Looked (k + 1) t
+  next-looked long k {s} {t} g h = go (test k) refl
     where
-      go : (b : Bool) → shown k ≡ b → t ≡ cond b s (write s (2 + 4 * k) (replicate 4 0)) → Looked (k + 1) t
-      go true e r = record { low = omega arith; size = ap length r ∙ g .size; same = r ∙ (g .same ∙ shown-next width shown ws long k h e) }
+      go : (b : Bool) → test k ≡ b → t ≡ cond b s (write s (2 + 4 * k) (replicate 4 0)) → Looked (k + 1) t
+      go true e r = record { low = omega arith; size = ap length r ∙ g .size; same = r ∙ (g .same ∙ shown-next width test ws long k h e) }
       go false e r =
           record {
             low = omega arith;
             size = ap length r ∙ (length-write s (2 + 4 * k) (replicate 4 0) (omega (arith, g .size)) ∙ g .size);
-            same = r ∙ (ap (λ (l : List ℕ). write l (2 + 4 * k) (replicate 4 0)) (g .same) ∙ hidden-next width shown ws long k h e);
+            same = r ∙ (ap (λ (l : List ℕ). write l (2 + 4 * k) (replicate 4 0)) (g .same) ∙ hidden-next width test ws long k h e);
           }
 
-  pub all-looked : (k : ℕ) {s : List ℕ} → Looked k s → 32 ≤ k → s ≡ take 130 (inLayers width layers ws)
-  unfolding inLayers
+  pub all-looked : (k : ℕ) {s : List ℕ} → Looked k s → 32 ≤ k → s ≡ take 130 (seenPlaces width layers only ws)
+  unfolding seenPlaces
   all-looked k g h = let e : k ≡ 32 = omega (arith, g .low) in rw e at (g .same)

@@ -10,7 +10,7 @@ ghost use Rattle.layout.specs.Left.{held};
 ghost use Rattle.base.specs.Answers.{outcome};
 ghost use Rattle.readings.specs.Readings.{answerOf, seenBy, readStep};
 ghost use Rattle.readings.specs.Readings;
-ghost use Rattle.readings.specs.ReportAnswer.{reportRead};
+ghost use Rattle.readings.specs.ReportAnswer.{totalsRead, reportRead};
 use crate::counts::count_filled;
 use crate::counts::count_pieces;
 use crate::counts::worst_error;
@@ -40,6 +40,14 @@ pub enum Reported {
     Refused(Refusal),
 }
 
+// What a report tells of the places that it covers.
+pub struct Totals {
+    pub mass: MassReport,
+    pub filled: u32,
+    pub pieces: u32,
+    pub error: f64,
+}
+
 // The volume of the mesh that a store holds.
 pub fn body_of(floats: &[f64], words: &[u32], verts: usize, faces: usize) -> f64
     requires { ⌜ Meshed width (now floats) (now words) verts faces ⌝ }
@@ -64,9 +72,9 @@ pub fn body_of(floats: &[f64], words: &[u32], verts: usize, faces: usize) -> f64
 }
 
 // The report of a sound store whose mesh has the volume `body`, over the places that are seen.
-pub fn report_seen(v: Convention, floats: &[f64], seen: &[u32], faces: usize, body: f64) -> Reported
+pub fn report_seen(v: Convention, floats: &[f64], seen: &[u32], faces: usize, body: f64) -> Totals
     requires { ⌜ coordsFrom ≤ length (now floats) ⌝ ∗ ⌜ Worded width (now seen) faces ⌝ }
-    ensures { λ r. ⌜ outcome (reportRead r) []
+    ensures { λ r. ⌜ outcome (totalsRead r) []
         ≡ answerOf (Readings.report v) (seenBy width (now (floats .entry)) (now (seen .entry)) body) ⌝ }
 {
     let mass = raw_mass(floats, seen, faces);
@@ -75,7 +83,7 @@ pub fn report_seen(v: Convention, floats: &[f64], seen: &[u32], faces: usize, bo
     let filled = count_filled(seen, faces) as u32;
     let pieces = count_pieces(seen, faces) as u32;
     let error = worst_error(floats, seen, faces);
-    Reported::Report {
+    Totals {
         mass: masses,
         filled,
         pieces,
@@ -94,7 +102,14 @@ pub fn report(floats: &[f64], words: &[u32], v: Convention, layers: u32) -> Repo
             let faces = word(words, 1);
             let body = body_of(floats, words, word(words, 0), faces);
             let seen = seen_places(words, layers, faces);
-            report_seen(v, floats, &seen, faces, body)
+            let told = report_seen(v, floats, &seen, faces, body);
+            let mass = told.mass;
+            Reported::Report {
+                mass,
+                filled: told.filled,
+                pieces: told.pieces,
+                error: told.error,
+            }
         }
     }
 }

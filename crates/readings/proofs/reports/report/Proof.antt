@@ -35,16 +35,16 @@ returns c =
 
 returns-2 : tie.Need-returns-2
 returns-2 c =
-    let a = c .before .before .before .before .before .before .before .before .before .before .before .args in
+    let a = c .before .before .before .before .before .before .before .before .before .before .before .before .args in
     let f = a .floats .now in
     let w = a .words .now in
-    let s = c .before .before .seen-places .result in
-    let p : readCheck width f w (a .layers) true ≡ Passed = sym (c .before .before .before .before .before .before .before .before .check-read .ensures) ∙ c .before .before .before .before .before .before .enum-told .given .1 in
-    let b : c .before .before .before .body-of .result ≡ bodyVolume (held width f w (vertsOf w) (facesOf w)) (facesOf w)
-    = rw (c .before .before .before .before .word2 .ensures, c .before .before .before .before .before .word .ensures) at (c .before .before .before .body-of .ensures) in
-    c .report-seen .ensures
-    ∙ (ap (λ (x : Float). answerOf (report (a .v)) (seenBy width f s x)) b
-    ∙ sym (read-seen width f w (a .layers) (report (a .v)) (omega arith) p _ (c .before .before .seen-places .ensures)))
+    let s = c .before .before .before .seen-places in
+    let p : readCheck width f w (a .layers) true ≡ Passed = sym (c .before .before .before .before .before .before .before .before .before .check-read .ensures) ∙ c .before .before .before .before .before .before .before .enum-told .given .1 in
+    let b : c .before .before .before .before .body-of .result ≡ bodyVolume (held width f w (vertsOf w) (facesOf w)) (facesOf w)
+    = rw (c .before .before .before .before .before .word2 .ensures, c .before .before .before .before .before .before .word .ensures) at (c .before .before .before .before .body-of .ensures) in
+    c .before .report-seen .ensures
+    ∙ (ap (λ (x : Float). answerOf (report (a .v)) (seenBy width f (s .result) x)) b
+    ∙ sym (read-seen width f w (a .layers) (report (a .v)) (omega arith) p _ (s .ensures)))
 
 pub report-spec : {M : Type 1} → statement M
 report-spec =

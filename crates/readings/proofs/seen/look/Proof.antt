@@ -5,22 +5,18 @@ use Rattle.readings.proofs.seen.look.Statement.{statement}
 use Rattle.readings.proofs.seen.look.Tie as tie
 
 returns : tie.Need-returns
-returns c = rw (sym (c .before .in-set .ensures) ∙ c .if1 .taken) refl
+returns c = rw (sym (c .before .shows .ensures) ∙ c .if1 .taken) refl
 
 returns-2 : tie.Need-returns-2
-returns-2 c = rw (sym (c .before .before .before .before .before .in-set .ensures) ∙ c .before .before .before .before .if1 .left) (c .before .before .zero-words .ensures)
+returns-2 c = rw (sym (c .before .before .before .before .before .shows .ensures) ∙ c .before .before .before .before .if1 .left) (c .before .before .zero-words .ensures)
 
 pub look-spec : {M : Type 1} → statement M
 look-spec =
     tie.close
     (tie.spec
-    (λ c. search needs)
-    (λ c. search needs)
-    (λ c. search needs)
-    (λ c. search needs)
-    (λ c. search needs)
-    (λ c κs. c .before .before .before .pre .1 .1 .1)
+    (λ c κs. search needs)
     returns
+    (λ c. search needs)
     (λ c. search needs)
     (λ c κs. search needs)
     (λ c. search needs)
