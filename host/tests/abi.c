@@ -470,6 +470,35 @@ static void by_layers(void) {
     CHECK(cauchy_store_report(floats, N_FLOATS, words, N_WORDS, raw, CAUCHY_ALL_LAYERS).no == 0);
 }
 
+/* Of these layers, with one face of place 31 left: place 3 alone, as the report of its layer has it. */
+static void check_finished(CauchyConvention v, uint32_t layers, uint32_t passed) {
+    const CauchyStoreReport r = cauchy_store_report(floats, N_FLOATS, words, N_WORDS, v, layers & 1u << 2);
+    const CauchyFinished p = cauchy_store_finished(floats, N_FLOATS, words, N_WORDS, v, layers);
+    CHECK(r.no == 0 && p.no == 0 && p.passed_over == passed && !memcmp(&p.report, &r.report, sizeof p.report));
+    CHECK(p.kernels == r.kernels && p.pieces == r.pieces && p.error == r.error);
+}
+
+static void finished_places(void) {
+    const CauchyConvention by_mass = convention(CAUCHY_MASS, 7e5, 1300);
+    CauchyStoreReport r = cauchy_store_report(floats, N_FLOATS, words, N_WORDS, by_mass, CAUCHY_ALL_LAYERS);
+    CauchyFinished p = cauchy_store_finished(floats, N_FLOATS, words, N_WORDS, by_mass, CAUCHY_ALL_LAYERS);
+    CHECK(p.no == 0 && p.kernels == 2 && p.pieces == 14 && p.error == r.error && p.passed_over == 0);
+    CHECK(!memcmp(&p.report, &r.report, sizeof p.report));
+    words[3 + 4 * 31] = 12, words[4 + 4 * 31] = F - 1;
+    CHECK(cauchy_store_report(floats, N_FLOATS, words, N_WORDS, by_mass, CAUCHY_ALL_LAYERS).no == CAUCHY_UNFINISHED);
+    check_finished(by_mass, CAUCHY_ALL_LAYERS, 1);
+    check_finished(by_mass, 1u << 2, 0);
+    check_finished(by_mass, 1u << 15 | 1u << 3, 1);
+    check_finished(convention(CAUCHY_RAW, 0, 0), CAUCHY_ALL_LAYERS, 1);
+    p = cauchy_store_finished(floats, N_FLOATS, words, N_WORDS, by_mass, 1u << 16);
+    CHECK(p.no == CAUCHY_NO_LAYER && p.kernels == 0 && p.pieces == 0 && p.error == 0 && p.passed_over == 0);
+    CHECK(p.report.raw_mass == 0 && p.report.volume == 0);
+    words[4 + 4 * 31] = F;
+    CHECK(cauchy_store_finished(floats, N_FLOATS, words, N_WORDS, by_mass, 1u << 16).no == CAUCHY_UNSOUND);
+    CHECK(cauchy_store_finished(NULL, 0, NULL, 0, by_mass, 1u << 16).no == CAUCHY_SHORT_STORE);
+    words[3 + 4 * 31] = 13, words[4 + 4 * 31] = 0;
+}
+
 /* ---- The wall page ----------------------------------------------------------------------------------- */
 
 enum { LINE_BYTES = 65, PAGE = LINE_BYTES * (CAUCHY_PLACES + 1) };
@@ -885,6 +914,7 @@ int main(void) {
     bills();
     readings();
     by_layers();
+    finished_places();
     refused_tracks();
     pages();
     rounded_pages();

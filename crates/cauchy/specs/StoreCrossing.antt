@@ -19,6 +19,7 @@ use Rattle.cauchy.specs.declared.stores.CauchySteps.{CauchySteps}
 use Rattle.cauchy.specs.declared.stores.CauchySqueezed.{CauchySqueezed}
 use Rattle.cauchy.specs.declared.stores.CauchyConvention.{CauchyConvention}
 use Rattle.cauchy.specs.declared.stores.CauchyStoreReport.{CauchyStoreReport}
+use Rattle.cauchy.specs.declared.stores.CauchyFinished.{CauchyFinished}
 use Rattle.cauchy.specs.declared.stores.CauchyListed.{CauchyListed}
 use Rattle.cauchy.specs.declared.stores.CauchyTrack.{CauchyTrack}
 use Rattle.cauchy.specs.declared.stores.CauchyBytes.{CauchyBytes}
@@ -63,6 +64,18 @@ reportFrom a =
       kernels = getD (a .counts) 0 0;
       pieces = getD (a .counts) 1 0;
       error = getD (a .floats) 7 +0;
+    }
+
+-- the report of what is finished: likewise, then "how many filled places of its layers it passed over"
+abbrev pub finishedFrom : Answer → CauchyFinished
+finishedFrom a =
+    record {
+      no = a .refusal;
+      report = massFrom a;
+      kernels = getD (a .counts) 0 0;
+      pieces = getD (a .counts) 1 0;
+      error = getD (a .floats) 7 +0;
+      «passed_over» = getD (a .counts) 2 0;
     }
 
 -- list: "the piece count"

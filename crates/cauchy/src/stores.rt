@@ -19,6 +19,8 @@ ghost use Rattle.store.specs.SqueezeAnswer.{squeezedAs};
 ghost use Rattle.mass.specs.Calls.{pointValues};
 ghost use Rattle.readings.specs.Readings.{readStep};
 ghost use Rattle.readings.specs.Readings;
+ghost use Rattle.readings.specs.Finished.{finishedStep};
+ghost use Rattle.readings.specs.FinishedAnswer.{finishedRead};
 ghost use Rattle.readings.specs.ListAnswer.{listRead};
 ghost use Rattle.readings.specs.ReportAnswer.{reportRead};
 ghost use Rattle.readings.specs.TrackAnswer.{trackRead};
@@ -26,7 +28,7 @@ ghost use Rattle.page.specs.Page.{pageStep};
 ghost use Rattle.page.specs.PageAnswer.{pageRead};
 ghost use Rattle.cauchy.specs.Volumes.{valueFrom};
 ghost use Rattle.cauchy.specs.Crossing.{lent, lentFrom, numberFrom};
-ghost use Rattle.cauchy.specs.StoreCrossing.{crossed, across, openedFrom, placedFrom, stepsFrom, squeezedFrom, conventionOf, reportFrom, listedFrom, trackFrom, bytesFrom, pinnedFrom};
+ghost use Rattle.cauchy.specs.StoreCrossing.{crossed, across, openedFrom, placedFrom, stepsFrom, squeezedFrom, conventionOf, reportFrom, finishedFrom, listedFrom, trackFrom, bytesFrom, pinnedFrom};
 use crate::kernels::CauchyFit;
 use crate::kernels::fit_of;
 use crate::volumes::CauchyValue;
@@ -42,6 +44,8 @@ use mesh::vectors::V3;
 use page::call::PageRead;
 use page::call::page;
 use readings::at_point::density;
+use readings::finished::FinishedRead;
+use readings::finished::finished;
 use readings::listing::ListRead;
 use readings::listing::list;
 use readings::reports::Reported;
@@ -254,6 +258,17 @@ pub struct CauchyStoreReport {
     pub error: f64,
 }
 
+// The number, then the report of the places that are complete, as above, and the filled places passed over.
+#[repr(C)]
+pub struct CauchyFinished {
+    pub no: u32,
+    pub report: MassReport,
+    pub kernels: u32,
+    pub pieces: u32,
+    pub error: f64,
+    pub passed_over: u32,
+}
+
 // 01's number, then the pieces written.
 #[repr(C)]
 pub struct CauchyListed {
@@ -349,6 +364,51 @@ pub extern "C" fn cauchy_store_report(
     ensures { λ r. ⌜ r ≡ reportFrom (readStep width (now (floats .entry)) (now (words .entry)) layers (Readings.report (conventionOf convention)) .reply) ⌝ }
 {
     report_of(report(floats, words, convention_of(convention), layers))
+}
+
+fn finished_of(d: FinishedRead) -> CauchyFinished
+    ensures { λ r. ⌜ r ≡ finishedFrom (finishedRead d) ⌝ }
+{
+    match d {
+        FinishedRead::Report {
+            mass,
+            filled,
+            pieces,
+            error,
+            passed,
+        } => CauchyFinished {
+            no: 0,
+            report: mass,
+            kernels: filled,
+            pieces,
+            error,
+            passed_over: passed,
+        },
+        FinishedRead::Refused(r) => {
+            let report = no_report();
+            CauchyFinished {
+                no: refusal_number(r),
+                report,
+                kernels: 0,
+                pieces: 0,
+                error: 0.0,
+                passed_over: 0,
+            }
+        }
+    }
+}
+
+// The report of those places in the layers that have no work left, while others may: 4, 5 or 16, never 8.
+#[no_mangle]
+pub extern "C" fn cauchy_store_finished(
+    floats: &[f64],
+    words: &[u32],
+    convention: CauchyConvention,
+    layers: u32,
+) -> CauchyFinished
+    ensures { λ r. ⌜ r ≡ finishedFrom (finishedStep width (now (floats .entry)) (now (words .entry)) layers (conventionOf convention)) ⌝ }
+{
+    finished_of(finished(floats, words, convention_of(convention), layers))
 }
 
 fn listed_of(d: ListRead) -> CauchyListed
