@@ -264,6 +264,24 @@ fn strings<const N: usize>(words: [&str; N]) -> Vec<String> {
 }
 
 #[test]
+fn what_is_finished_is_told_and_what_is_not_is_named() {
+    let folder = Folder::new("so-far");
+    folder.write("k.txt", "0 0 0 0.5 1000 1\n0 0 0 0.5 500 1 7\n0 0 0 2 -80 1.5 7\n");
+    let all = folder.goes("run a.obj k.txt --raw");
+    let faces: usize = all.split(" faces").next().unwrap().rsplit(' ').next().unwrap().parse().unwrap();
+    let some = folder.goes(&format!("run a.obj k.txt --raw --steps {} --so-far", faces + 1));
+    assert!(
+        some.contains("Mass of what is finished, by the convention raw")
+            && some.contains("1 kernel, 1 piece"),
+        "{some}"
+    );
+    assert!(some.contains("NOT the mass of the store: 2 kernels with work left are not in it"), "{some}");
+    assert!(some.contains(&format!("not in it: place 1, in layer 7, {} steps left", faces - 1)), "{some}");
+    assert!(some.contains("not in it: place 2, in layer 7, ") && !some.contains("Mass report"), "{some}");
+    folder.fails("run a.obj k.txt --raw --steps 5", 2, "give --snapshot FILE or --so-far too");
+}
+
+#[test]
 fn a_track_may_have_any_number_of_points() {
     let folder = Folder::new("track");
     let densities = |track: &str| -> Vec<String> {

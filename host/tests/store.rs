@@ -477,3 +477,33 @@ fn layers_are_read_as_if_the_others_were_empty() {
     store.put(30, FLAT).unwrap();
     assert_eq!(store.held(30).unwrap().layer, 0);
 }
+
+#[test]
+fn what_is_finished_is_the_report_of_those_places_alone() {
+    let mut store = opened();
+    let none = Kernel { alpha: f64::NAN, ..FLAT };
+    for (place, kernel, layer) in [(2, FLAT, 3), (5, none, 3), (9, STEEP, 3), (30, FLAT, 4), (31, STEEP, 4)] {
+        store.put_in(place, kernel, layer).unwrap();
+    }
+    // one step is left of place 9, and all of those behind it
+    store.advance(4 + 13 * 4 - 1).unwrap();
+    assert_eq!((store.left_at(2), store.left_at(5), store.left_at(9), store.left_at(30)), (0, 0, 1, 4));
+    let just = |store: &Store, places: &[u32]| {
+        let mut other = store.clone();
+        let rest = (0..32).filter(|place| store.held(*place).is_some() && !places.contains(place));
+        rest.for_each(|place| other.clear(place).unwrap());
+        other.report(BY_MASS).unwrap()
+    };
+    let told = store.finished(BY_MASS).unwrap();
+    assert_eq!((told.report, told.passed_over), (just(&store, &[2, 5]), 3));
+    let seen = store.layers(Layers::of(&[3]).unwrap());
+    assert_eq!(
+        seen.finished(BY_MASS).map(|told| (told.report, told.passed_over)),
+        Ok((just(&store, &[2, 5]), 1))
+    );
+    let other = store.layers(Layers::of(&[4]).unwrap());
+    assert_eq!(other.finished(BY_MASS).unwrap().report.kernels, 0);
+    store.advance(u64::MAX).unwrap();
+    let told = store.finished(BY_MASS).unwrap();
+    assert_eq!((Ok(told.report), told.passed_over), (store.report(BY_MASS), 0));
+}

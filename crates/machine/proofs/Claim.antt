@@ -11,7 +11,7 @@ use lib.Seq.{set-getD}
 use lib.Dec.{ltb}
 use lib.Ieee.{Float, nan}
 use borrow.Author.Tests.{lt-ltb, le-ltb, le-leb, lt-leb, ne-eqb}
-use Rattle.base.specs.Answers.{refused, counted, done}
+use Rattle.base.specs.Answers.{Answer, refused, counted, done, outcome}
 use Rattle.base.specs.Floats.{+0}
 use Rattle.base.specs.Loops.{times}
 use Rattle.base.specs.declared.refusal.Refusal.{Refusal}
@@ -35,14 +35,16 @@ use Rattle.store.specs.Squeeze.{squeezeStep}
 use Rattle.store.specs.Puts.{fresh, atFirst, putFloats, putWords, placedWith, putStep}
 use Rattle.machine.specs.Machine.{Mesh, Place, empty, full, need, leftPlace, leftSum, Machine, Turn, turn, endCounts, endFloats, putTurn, clearTurn, weighed, reweighTurn}
 use Rattle.machine.specs.Holding.{placeRow, cells, wordsOf}
+use Rattle.density.specs.declared.convention.Convention.{Convention}
 use Rattle.readings.specs.Readings.{Reading}
-use Rattle.machine.specs.Calls.{Call, put, clear, reweigh, advance, squeeze, read, page, machine, Store, Result, result, seen, pinned, store, after-all, past, holding, chargedBy, doneBy, chargedIn, doneIn}
+use Rattle.machine.specs.Calls.{Call, put, clear, reweigh, advance, squeeze, read, finished, page, machine, Store, Result, result, seen, pinned, store, after-all, past, holding, chargedBy, doneBy, chargedIn, doneIn}
 use Rattle.machine.specs.Valid.{Within, Valid}
 use Rattle.machine.proofs.Rows.{Width, width4}
 use Rattle.machine.proofs.Sixteen.{sixteen, laidOut, okay, laid-out}
 use Rattle.machine.proofs.Held.{at-least, zeros-row, status-held, write-words, write-floats, set-seven, coords-held, corners-held}
 use Rattle.machine.proofs.Sane.{no-fault}
 use Rattle.machine.proofs.Look.{read-held}
+use Rattle.machine.proofs.Finished.{finished-report}
 use Rattle.machine.proofs.Pages.{page-held}
 use Rattle.machine.proofs.Squeezing.{floats-squeezed, words-squeezed, slim-valid, left-slim}
 use Rattle.machine.proofs.Slim.{freed-is}
@@ -210,6 +212,14 @@ module _ (wd : ℕ) (fm : Width wd) (m : Machine) (v : Valid (m .mesh) (m .place
   unfolding store machine
   reading-held ls r = ap (seen (inner m xs ys)) (read-held wd fm (m .mesh) (m .places) v (past m xs) ys ls r)
 
+  -- ---- a report of what is finished
+  finished-of-held : (ls : ℕ) (cv : Convention)
+      → store wd (inner m xs ys) (finished ls cv) ≡ shownIn xs ys (machine m (finished ls cv))
+  unfolding store machine
+  finished-of-held ls cv =
+      ap (λ (a : Answer). seen (inner m xs ys) (outcome a []))
+      (finished-report wd fm (m .mesh) (m .places) v (past m xs) ys ls cv)
+
   -- ---- a page
   page-of-held : (bs : List ℕ) → store wd (inner m xs ys) (page bs) ≡ shownIn xs ys (machine m (page bs))
   unfolding store machine
@@ -237,6 +247,7 @@ module _ (wd : ℕ) (fm : Width wd) (m : Machine) (v : Valid (m .mesh) (m .place
   one-in (advance n) = advance-held n
   one-in squeeze = squeeze-held
   one-in (read ls r) = reading-held ls r
+  one-in (finished ls cv) = finished-of-held ls cv
   one-in (page bs) = page-of-held bs
 
 -- ---- what every turn keeps
@@ -324,6 +335,7 @@ module _ (m : Machine) (v : Valid (m .mesh) (m .places)) where
       })
   kept squeeze = record { valid = slim-valid (m .mesh) (m .places) v; balance = rw (left-slim (m .mesh) (m .places) v) refl; charged = omega arith }
   kept (read ls r) = record { valid = v; balance = refl; charged = omega arith }
+  kept (finished ls cv) = record { valid = v; balance = refl; charged = omega arith }
   kept (page bs) = record { valid = v; balance = refl; charged = omega arith }
 
 -- ---- one call, on the runs that hold the machine

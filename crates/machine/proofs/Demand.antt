@@ -15,23 +15,26 @@ use Rattle.base.specs.declared.refusal.Refusal.the-variants.{Unfinished, NoLaye
 use Rattle.base.specs.declared.refusal.Checked.the-variants.{Passed, Failed}
 use Rattle.layout.specs.Runs.{write}
 use Rattle.readings.specs.Along.{along}
+use Rattle.density.specs.declared.convention.Convention.{Convention}
 use Rattle.layout.specs.Layout.{width}
 use Rattle.layout.specs.After.{After, after}
 use Rattle.store.specs.Calls.{openCheck, openStep}
 use Rattle.readings.specs.Readings.{Reading, density, report, list, track, bare, applied, rescaled, densityAt, sixes, Seen, trackLimit, trackCheck, answerOf, refusing}
+use Rattle.readings.specs.Finished.{beside}
 use Rattle.page.specs.Page.{Row, Paged, paged, allPrintable, pageOf, guardedPage, pageAnswer}
-use Rattle.machine.specs.Machine.{Mesh, Place, leftSum, seenPlaces, Machine, opened, openRow}
+use Rattle.machine.specs.Machine.{Mesh, Place, leftSum, seenPlaces, completePlaces, passedPlaces, Machine, opened, openRow}
 use Rattle.machine.specs.Holding.{excessF, excessW}
-use Rattle.machine.specs.Fresh.{kernelsOf, freshRows, workedAfresh, pageAfresh}
-use Rattle.machine.specs.Calls.{Call, advance, read, page, needs, machine, Store, Result, store, leaves, after-all, holding, leftIn, without, heard}
-use Rattle.machine.specs.Demands.{Same, Read, Post, Each, end, next, Follows, leaving, Accepted, refusedBy, Opens, Demand3}
+use Rattle.machine.specs.Fresh.{kernelsOf, freshRows, workedAfresh, finishedAfresh, pageAfresh}
+use Rattle.machine.specs.Calls.{Call, advance, read, finished, page, needs, machine, Store, Result, store, leaves, after-all, holding, leftIn, without, heard}
+use Rattle.machine.specs.Demands.{Same, Read, onlyComplete, Partly, Post, Each, end, next, Follows, leaving, Accepted, refusedBy, Opens, Demand3}
 use Rattle.machine.specs.Valid.{Valid}
 use Rattle.machine.proofs.Rows.{Width, width4}
 use Rattle.machine.proofs.Parts.{freshSeen}
 use Rattle.machine.proofs.Afresh.{joined}
 use Rattle.machine.proofs.Layers.{all-seen, none-seen}
+use Rattle.machine.proofs.Finished.{nothing-left, whole-afresh, complete-valid}
 use Rattle.machine.proofs.Claim.{one-call, kept, books, charges}
-use Rattle.machine.proofs.Unaltered.{From, from-start, from-next, on-opened, page-opened, unaltered}
+use Rattle.machine.proofs.Unaltered.{From, from-start, from-next, on-opened, finished-opened, page-opened, unaltered}
 use Rattle.machine.proofs.Listed.{listed}
 use Rattle.machine.proofs.Opened.{opens, opened-valid}
 use Rattle.machine.proofs.Refused.{row}
@@ -105,6 +108,12 @@ module _ (r : Reading) (o : Outcome) where
   when-not false true h n = absurd (n (refuses-as r Unfinished))
   when-not false false h n = refl
 
+-- a report of what is finished is refused by 16 alone
+finished-not : (n : ℕ) (x : Answer) → Answered (x .refusal) → (b : Bool)
+    → cond b (refused NoLayer) (beside n x) ≡ refused Unfinished → ⊥
+finished-not n x a true e = not-both (sym e)
+finished-not n x a false e = never a .0 (ap number e)
+
 -- what a page answers is never 8
 paged-not : (rs : List Row) (bs : List ℕ) → pageAnswer rs bs .reply ≡ refused Unfinished → ⊥
 unfolding pageAnswer
@@ -165,6 +174,45 @@ module _ (wd : ℕ) (fm : Width wd) (exF : List Float) (exW : List ℕ) where
         kept = ap (λ (x : Result). x .runs) e;
       }
 
+  -- the ordinary report of the store holding just the complete places
+  only-complete : (m : Machine) → Valid (m .mesh) (m .places) → (layers : ℕ) (cv : Convention)
+      → store wd (holding (onlyComplete m layers) exF exW) (read 65535 (report cv)) .reply
+      ≡ workedAfresh (m .mesh) (completePlaces (m .mesh) (seenPlaces layers (m .places))) (report cv) .reply
+  unfolding machine
+  only-complete m v layers cv =
+      let ss = seenPlaces layers (m .places) in
+      let w = complete-valid wd fm (m .mesh) (m .places) v exF exW layers in
+      let e = one-call wd fm (onlyComplete m layers) w exF exW (read 65535 (report cv)) in
+      ap (λ (x : Result). x .reply) e
+      ∙ rw (all-seen (m .mesh) (completePlaces (m .mesh) ss) (w .within), nothing-left (m .mesh) ss) refl
+
+  so-far : (o : Mesh) (m : Machine) → Valid (m .mesh) (m .places) → From o (m .mesh)
+      → (layers : ℕ) (cv : Convention) → Partly wd exF exW o m (holding m exF exW) layers cv
+  unfolding machine finishedAfresh
+  so-far o m v g layers cv =
+      let e = one-call wd fm m v exF exW (finished layers cv) in
+      let er = ap (λ (x : Result). x .reply) e in
+      let ss = seenPlaces layers (m .places) in
+      let cs = completePlaces (m .mesh) ss in
+      let f = workedAfresh (m .mesh) cs (report cv) .reply in
+      let j = joined (m .mesh) (v .mesh) cs (report cv) in
+      let n = subst (λ (x : Outcome). Answered (x .reply .refusal)) j (answered (report cv) (freshSeen (m .mesh) cs)) in
+      record {
+        no-layer = λ h. er ∙ rw (le-leb (2 ^ 16) layers h) refl;
+        never = λ z. finished-not (passedPlaces (m .mesh) ss) f n (leb (2 ^ 16) layers) (sym er ∙ z);
+        afresh = λ h. er ∙ rw (lt-leb (2 ^ 16) layers h) (finished-opened o (m .mesh) g ss cv);
+        alone = λ h.
+            er ∙ rw (lt-leb (2 ^ 16) layers h)
+            (ap (beside (passedPlaces (m .mesh) ss)) (sym (only-complete m v layers cv)));
+        whole = λ h z.
+            let r = ap (λ (x : Result). x .reply) (one-call wd fm m v exF exW (read layers (report cv))) in
+            let y : store wd (holding m exF exW) (read layers (report cv)) .reply
+            ≡ workedAfresh (m .mesh) ss (report cv) .reply
+            = r ∙ rw (lt-leb (2 ^ 16) layers h, z) refl in
+            er ∙ rw (lt-leb (2 ^ 16) layers h) (whole-afresh (m .mesh) ss cv z ∙ ap (beside 0) (sym y));
+        kept = ap (λ (x : Result). x .runs) e;
+      }
+
   posting : (o : Mesh) (m : Machine) → Valid (m .mesh) (m .places) → From o (m .mesh) → (bs : List ℕ) → Post wd o m (holding m exF exW) bs
   unfolding machine
   posting o m v g bs =
@@ -186,7 +234,7 @@ module _ (wd : ℕ) (fm : Width wd) (exF : List Float) (exW : List ℕ) where
   each o [] m v g = end
   each o (c ∷ cs) m v g =
       let s = same m v c in
-      next s (reading o m v g) (posting o m v g) (subst (λ (t : Store). Each wd exF exW o (machine m c .next) t cs) (sym (s .fields)) (each o cs (machine m c .next) (kept m v c .valid) (from-next o m c g)))
+      next s (reading o m v g) (so-far o m v g) (posting o m v g) (subst (λ (t : Store). Each wd exF exW o (machine m c .next) t cs) (sym (s .fields)) (each o cs (machine m c .next) (kept m v c .valid) (from-next o m c g)))
 
   pub last : (cs : List Call) (m : Machine) → Valid (m .mesh) (m .places) → (leaves wd (holding m exF exW) cs ≡ holding (after-all m cs) exF exW) × Valid (after-all m cs .mesh) (after-all m cs .places)
   last [] m v = (refl, v)

@@ -1,7 +1,9 @@
--- The words as a reading of some layers sees them are those of a store that holds only its places. Assumes nothing.
+-- Words in which some places are emptied are those of a store that holds only the others; so are the words as a reading of
+-- some layers sees them. Assumes nothing.
 use mathlib.Core.Path.{_≡_, refl, sym, ap, subst, _∙_}
 use mathlib.Core.Bool.{Bool, true, false, cond}
-use mathlib.Core.List.{List, [], _∷_, _++_, map-append, append-assoc, append-nil}
+use mathlib.Core.Logic.{_⊎_, inl, inr}
+use mathlib.Core.List.{List, [], _∷_, _++_, map, map-append, append-assoc, append-nil}
 use Prim.Native.Nat.{ℕ, zero, suc, _+_, _*_, _/_, _%_, _^_, _≤_, _<_}
 use native.Mathlib.Nat.{pow-succ', div-one, div-div-eq-div-mul}
 use native.Mathlib.Omega.{arith}
@@ -51,83 +53,82 @@ none-seen [] = refl
 none-seen (empty ∷ ss) = none-seen ss
 none-seen (full k fit p l ∷ ss) = rw (none-among l) (none-seen ss)
 
--- ---- the places that are seen
-module _ (layers : ℕ) where
-  -- what is seen at a place is there
-  seen-is : (s : Place) (k : Kernel) (fit : Pieces) (p l : ℕ) → seenPlace layers s ≡ full k fit p l → s ≡ full k fit p l
-  seen-is empty k fit p l e = e
-  seen-is (full j was q n) k fit p l e = go (among n layers) e
+-- ---- some places are emptied: f leaves each as it is or empties it
+abbrev pub Emptying : (Place → Place) → Type 0
+Emptying f = (s : Place) → (f s ≡ s) ⊎ (f s ≡ empty)
+
+module _ (f : Place → Place) (one : Emptying f) where
+  -- what is then in a place was there
+  was-there : (s : Place) (k : Kernel) (fit : Pieces) (p l : ℕ) → f s ≡ full k fit p l → s ≡ full k fit p l
+  was-there s k fit p l e = go (one s)
     where
-      go : (b : Bool) → cond b (full j was q n) empty ≡ full k fit p l → full j was q n ≡ full k fit p l
-      go true z = z
-      go false z = absurd (let y : _≡_ {A = ℕ} 0 1 = ap (λ (s : Place). length (kernelOf s)) z in omega arith)
+      go : (f s ≡ s) ⊎ (f s ≡ empty) → s ≡ full k fit p l
+      go (inl z) = sym z ∙ e
+      go (inr z) = absurd (let y : _≡_ {A = ℕ} 0 1 = ap (λ (s : Place). length (kernelOf s)) (sym z ∙ e) in omega arith)
 
-  within-seen : (m : Mesh) (s : Place) → Within m s → Within m (seenPlace layers s)
-  within-seen m empty w = w
-  within-seen m (full k fit p l) w = go (among l layers)
+  still-within : (m : Mesh) (s : Place) → Within m s → Within m (f s)
+  still-within m s w = go (one s)
     where
-      go : (b : Bool) → Within m (cond b (full k fit p l) empty)
-      go true = w
-      go false = tt {0}
+      go : (f s ≡ s) ⊎ (f s ≡ empty) → Within m (f s)
+      go (inl z) = subst (Within m) (sym z) w
+      go (inr z) = subst (Within m) (sym z) (tt {0})
 
-  seen-at : (ss : List Place) (i : ℕ) → getD (seenPlaces layers ss) i empty ≡ seenPlace layers (getD ss i empty)
-  seen-at ss i = List·getD-map (seenPlace layers) ss i empty
+  none-stays : f empty ≡ empty
+  none-stays = go (one empty)
+    where
+      go : (f empty ≡ empty) ⊎ (f empty ≡ empty) → f empty ≡ empty
+      go (inl z) = z
+      go (inr z) = z
 
-  pub seen-there : (ss : List Place) (i : ℕ) (k : Kernel) (fit : Pieces) (p l : ℕ)
-      → getD (seenPlaces layers ss) i empty ≡ full k fit p l → getD ss i empty ≡ full k fit p l
-  seen-there ss i k fit p l e = seen-is (getD ss i empty) k fit p l (sym (seen-at ss i) ∙ e)
+  pub emptied-at : (ss : List Place) (i : ℕ) → getD (map f ss) i empty ≡ f (getD ss i empty)
+  emptied-at ss i = ap (getD (map f ss) i) (sym none-stays) ∙ List·getD-map f ss i empty
 
-  pub seen-valid : (m : Mesh) (ss : List Place) → Valid m ss → Valid m (seenPlaces layers ss)
-  seen-valid m ss v =
+  pub emptied-there : (ss : List Place) (i : ℕ) (k : Kernel) (fit : Pieces) (p l : ℕ)
+      → getD (map f ss) i empty ≡ full k fit p l → getD ss i empty ≡ full k fit p l
+  emptied-there ss i k fit p l e = was-there (getD ss i empty) k fit p l (sym (emptied-at ss i) ∙ e)
+
+  pub emptied-valid : (m : Mesh) (ss : List Place) → Valid m ss → Valid m (map f ss)
+  emptied-valid m ss v =
       record {
         mesh = v .mesh;
-        places = length-map ss (seenPlace layers) ∙ v .places;
-        within = λ i. subst (Within m) (sym (seen-at ss i)) (within-seen m (getD ss i empty) (v .within i));
+        places = length-map ss f ∙ v .places;
+        within = λ i. subst (Within m) (sym (emptied-at ss i)) (still-within m (getD ss i empty) (v .within i));
       }
 
-  -- ---- the words
-  module _ (wd : ℕ) (fm : Width wd) (m : Mesh) (ss : List Place) (hs : length ss ≡ 32) (ys : List ℕ) where
-    abbrev WS : List ℕ
-    WS = wordsOf m ss ys
-
-    -- the first k places as they are seen, the others as they are
+  -- ---- the words, by a test that says which places stay
+  module _
+      (wd : ℕ) (fm : Width wd) (m : Mesh) (ss : List Place) (hs : length ss ≡ 32) (ys : List ℕ) (test : ℕ → Bool)
+      (by : (i : ℕ) → i < 32 → cond (test i) (getD ss i empty) empty ≡ f (getD ss i empty)) where
+    -- the first k places as f leaves them, the others as they are
     abbrev partly : ℕ → List Place
-    partly k = seenPlaces layers (take k ss) ++ drop k ss
+    partly k = map f (take k ss) ++ drop k ss
 
-    split : (k : ℕ) → k < 32 → partly k ≡ seenPlaces layers (take k ss) ++ (getD ss k empty ∷ drop (suc k) ss)
-    split k h = ap (λ (t : List Place). seenPlaces layers (take k ss) ++ t) (drop-cons ss k empty (rw hs h))
+    split : (k : ℕ) → k < 32 → partly k ≡ map f (take k ss) ++ (getD ss k empty ∷ drop (suc k) ss)
+    split k h = ap (λ (t : List Place). map f (take k ss) ++ t) (drop-cons ss k empty (rw hs h))
 
-    head-long : (k : ℕ) → k ≤ 32 → length (seenPlaces layers (take k ss)) ≡ k
-    head-long k h = length-map (take k ss) (seenPlace layers) ∙ length-take-le k ss (rw hs h)
+    head-long : (k : ℕ) → k ≤ 32 → length (map f (take k ss)) ≡ k
+    head-long k h = length-map (take k ss) f ∙ length-take-le k ss (rw hs h)
 
     long : (k : ℕ) → k < 32 → length (partly k) ≡ 32
     long k h =
-        length-append (seenPlaces layers (take k ss)) (drop k ss)
+        length-append (map f (take k ss)) (drop k ss)
         ∙ rw (head-long k (omega arith), length-drop k ss, hs) (omega arith)
 
     at : (k : ℕ) → k < 32 → getD (partly k) k empty ≡ getD ss k empty
     at k h =
         ap (λ (t : List Place). getD t k empty) (split k h)
-        ∙ getD-at (seenPlaces layers (take k ss)) (getD ss k empty) (drop (suc k) ss) empty k (head-long k (omega arith))
+        ∙ getD-at (map f (take k ss)) (getD ss k empty) (drop (suc k) ss) empty k (head-long k (omega arith))
 
-    next : (k : ℕ) → k < 32 → set (partly k) k (seenPlace layers (getD ss k empty)) ≡ partly (suc k)
+    next : (k : ℕ) → k < 32 → set (partly k) k (f (getD ss k empty)) ≡ partly (suc k)
     next k h =
         let s = getD ss k empty in
         rw (
           split k h,
-          set-at (seenPlaces layers (take k ss)) s (drop (suc k) ss) (seenPlace layers s) k (head-long k (omega arith)),
+          set-at (map f (take k ss)) s (drop (suc k) ss) (f s) k (head-long k (omega arith)),
           take-suc ss k empty (rw hs h),
-          map-append (seenPlace layers) (take k ss) (s ∷ []),
+          map-append f (take k ss) (s ∷ []),
           append-assoc,
         ) refl
-
-    seen-by : (s : Place) → cond (inSet layers (getD (placeRow m s) 3 0)) s empty ≡ seenPlace layers s
-    seen-by empty = go (inSet layers 0)
-      where
-        go : (b : Bool) → cond b empty empty ≡ empty
-        go true = refl
-        go false = refl
-    seen-by (full k fit p l) = rw (same-set l layers) refl
 
     one-hidden : (k : ℕ) → k < 32 → (b : Bool)
         → cond b (wordsOf m (partly k) ys) (write (wordsOf m (partly k) ys) (2 + wd * k) (replicate wd 0))
@@ -137,19 +138,42 @@ module _ (layers : ℕ) where
         (sym (ap (set (partly k) k) (sym (at k h)) ∙ set-getD (partly k) k empty))
     one-hidden k h false = rw (zeros-row wd fm m) (write-words wd fm m (partly k) (long k h) ys k h empty)
 
-    hidden : (k : ℕ) → k ≤ 32
-        → hiding wd (λ i. inSet layers (layerOf wd WS i)) WS k ≡ wordsOf m (partly k) ys
+    hidden : (k : ℕ) → k ≤ 32 → hiding wd test (wordsOf m ss ys) k ≡ wordsOf m (partly k) ys
     unfolding hiding
     hidden zero h = refl
     hidden (suc k) h =
-        let s = getD ss k empty in
-        rw (hidden k (omega arith), layer-held wd fm m ss hs ys k h)
-        (one-hidden k h (inSet layers (getD (placeRow m s) 3 0))
-        ∙ ap (λ (t : List Place). wordsOf m t ys) (ap (set (partly k) k) (seen-by s) ∙ next k h))
+        rw (hidden k (omega arith))
+        (one-hidden k h (test k)
+        ∙ ap (λ (t : List Place). wordsOf m t ys) (ap (set (partly k) k) (by k h) ∙ next k h))
 
-    pub layers-held : inLayers wd layers WS ≡ wordsOf m (seenPlaces layers ss) ys
-    unfolding inLayers
-    layers-held =
+    pub words-emptied : hiding wd test (wordsOf m ss ys) 32 ≡ wordsOf m (map f ss) ys
+    words-emptied =
         let t : take 32 ss ≡ ss = take-all 32 ss (rw hs (omega arith)) in
         let d : drop 32 ss ≡ [] = drop-of-length-le ss {i = 32} (rw hs (omega arith)) in
         hidden 32 (omega arith) ∙ rw (t, d, append-nil) refl
+
+-- ---- the places that are seen
+module _ (layers : ℕ) where
+  pub seen-or-none : Emptying (seenPlace layers)
+  seen-or-none empty = inl refl
+  seen-or-none (full k fit p l) = go (among l layers)
+    where
+      go : (b : Bool) → (cond b (full k fit p l) empty ≡ full k fit p l) ⊎ (cond b (full k fit p l) empty ≡ empty)
+      go true = inl refl
+      go false = inr refl
+
+  module _ (wd : ℕ) (fm : Width wd) (m : Mesh) (ss : List Place) (hs : length ss ≡ 32) (ys : List ℕ) where
+    seen-by : (s : Place) → cond (inSet layers (getD (placeRow m s) 3 0)) s empty ≡ seenPlace layers s
+    seen-by empty = go (inSet layers 0)
+      where
+        go : (b : Bool) → cond b empty empty ≡ empty
+        go true = refl
+        go false = refl
+    seen-by (full k fit p l) = rw (same-set l layers) refl
+
+    pub layers-held : inLayers wd layers (wordsOf m ss ys) ≡ wordsOf m (seenPlaces layers ss) ys
+    unfolding inLayers
+    layers-held =
+        words-emptied (seenPlace layers) seen-or-none wd fm m ss hs ys
+        (λ i. inSet layers (layerOf wd (wordsOf m ss ys) i))
+        (λ i h. rw (layer-held wd fm m ss hs ys i h) (seen-by (getD ss i empty)))

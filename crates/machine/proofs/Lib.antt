@@ -9,6 +9,7 @@ pub mod Parts
 pub mod Read
 pub mod Afresh
 pub mod Look
+pub mod Finished
 pub mod Pages
 pub mod Slim
 pub mod Squeezing

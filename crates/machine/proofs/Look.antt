@@ -24,7 +24,7 @@ use Rattle.layout.specs.Left.{held, leftOf}
 use Rattle.layout.specs.Layers.{layersCheck}
 use Rattle.base.specs.Answers.{Outcome, outcome}
 use Rattle.readings.specs.Readings.{Reading, density, report, list, track, byMass, needsWork, Part, bare, densityAt, rawMass, origin, applied, rescaled, Seen, seeing, listing, tracking, answerOf, refusing, readingOf, heldFilled, heldWorst, heldSeen, guardedRead, readStep}
-use Rattle.machine.specs.Machine.{Mesh, Place, empty, full, leftSum, seenPlaces}
+use Rattle.machine.specs.Machine.{Mesh, Place, empty, full, leftSum, seenPlace, seenPlaces}
 use Rattle.machine.specs.Holding.{triangles, placeRow, wordsOf}
 use Rattle.machine.specs.Fresh.{kernelOf, kernelsOf, worstFrom, workedAfresh}
 use Rattle.machine.specs.Calls.{byTarget, needs}
@@ -35,7 +35,7 @@ use Rattle.machine.proofs.Held.{get7, status-held, coords-held, corners
 use Rattle.machine.proofs.Sane.{no-fault}
 use Rattle.machine.proofs.Sweep.{left-held}
 use Rattle.machine.proofs.Read.{There, bare-all, whole-all}
-use Rattle.machine.proofs.Layers.{seen-there, seen-valid, layers-held}
+use Rattle.machine.proofs.Layers.{seen-or-none, emptied-there, emptied-valid, layers-held}
 use Rattle.machine.proofs.Parts.{freshSeen}
 use Rattle.machine.proofs.Afresh.{joined}
 use Rattle.machine.proofs.Listed.{worst-append}
@@ -154,12 +154,14 @@ module _
   body-held : bodyVolume (held wd FS WS (vertsOf WS) (facesOf WS)) (facesOf WS) ≡ bodyVolume (triangles m) (m .faces)
   body-held = rw (verts-held, faces-held, coords-held wd fm m ss hs xs (v .mesh .coords), corners-held wd fm m ts (v .places) ys (v .mesh .corners)) refl
 
+  pub filled-held : heldFilled wd WS 32 ≡ length (kernelsOf ts)
+  filled-held = filled-to 32 (omega arith) ∙ ap (λ (l : List Place). length (kernelsOf l)) all
+
   -- with nothing left a reading sees what is worked afresh
-  whole-seen : leftSum m ts ≡ 0 → heldSeen wd FS WS ≡ freshSeen m ts
+  pub whole-seen : leftSum m ts ≡ 0 → heldSeen wd FS WS ≡ freshSeen m ts
   unfolding heldSeen freshSeen
   whole-seen z =
-      same-seen (whole-all wd fm m ss ts hs v there xs ys z) body-held
-      (filled-to 32 (omega arith) ∙ ap (λ (l : List Place). length (kernelsOf l)) all)
+      same-seen (whole-all wd fm m ss ts hs v there xs ys z) body-held filled-held
       (worst-to 32 (omega arith) ∙ ap (λ (l : List Place). worstFrom (m .radius) +0 (kernelsOf l)) all)
 
   bare-seen : map bare (heldSeen wd FS WS .parts) ≡ map bare (freshSeen m ts .parts)
@@ -208,7 +210,10 @@ module _
       rw (no-fault wd fm m ss v xs ys, layers-held layers wd fm m ss (v .places) ys) (go (decLt layers 65536))
     where
       held : byFields ≡ byMachine
-      held = seen-held wd fm m ss seen (v .places) (seen-valid layers m ss v) (seen-there layers ss) xs ys r
+      held =
+          let f = seenPlace layers in
+          let o = seen-or-none layers in
+          seen-held wd fm m ss seen (v .places) (emptied-valid f o m ss v) (emptied-there f o ss) xs ys r
 
       go : Dec (layers < 65536) → guardedRead (cond (ltb layers 65536) Passed (Failed NoLayer)) r byFields
           ≡ cond (leb (2 ^ 16) layers) (refusing r NoLayer) byMachine

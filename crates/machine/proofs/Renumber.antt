@@ -21,7 +21,7 @@ use Rattle.store.specs.Marks.{Below}
 use Rattle.store.specs.TriangleLaws.{corner-used, rank-lt}
 use Rattle.machine.specs.Machine.{Mesh, Machine, turn, freedBy, opened, openRow}
 use Rattle.machine.specs.Holding.{excessF, excessW}
-use Rattle.machine.specs.Calls.{Call, put, clear, reweigh, advance, squeeze, read, page, machine, Store, holding, Heard}
+use Rattle.machine.specs.Calls.{Call, put, clear, reweigh, advance, squeeze, read, finished, page, machine, Store, holding, Heard}
 use Rattle.machine.specs.Demands.{leaving}
 use Rattle.machine.specs.Renumbering.{Renumbered, answers, Renumbering}
 use Rattle.machine.specs.Valid.{Valid}
@@ -29,7 +29,7 @@ use Rattle.machine.proofs.Rows.{width4, map-getD}
 use Rattle.machine.proofs.Slim.{thinned, slim-is, freed-is}
 use Rattle.machine.proofs.Squeezing.{remesh}
 use Rattle.machine.proofs.Claim.{one-call, kept}
-use Rattle.machine.proofs.Unaltered.{remade, Alike, told, corners-below, squeezed-alike, Goes, put-goes, clear-goes, reweigh-goes, advance-goes, read-goes, page-goes}
+use Rattle.machine.proofs.Unaltered.{remade, Alike, told, corners-below, squeezed-alike, Goes, put-goes, clear-goes, reweigh-goes, advance-goes, read-goes, finished-goes, page-goes}
 use Rattle.machine.proofs.Opened.{opens, opened-valid}
 use Rattle.machine.proofs.Demand.{passed, holds}
 
@@ -202,6 +202,9 @@ same-told (squeeze ∷ cs) m xs ks w g a =
 same-told (read ls r ∷ cs) m xs ks w g a =
     one-told m (read ls r) cs xs ks w g (read-goes m xs ks w g (a .alike) ls r) a
     (same-told cs (machine m (read ls r) .next) xs ks w g)
+same-told (finished ls cv ∷ cs) m xs ks w g a =
+    one-told m (finished ls cv) cs xs ks w g (finished-goes m xs ks w g (a .alike) ls cv) a
+    (same-told cs (machine m (finished ls cv) .next) xs ks w g)
 same-told (page bs ∷ cs) m xs ks w g a =
     one-told m (page bs) cs xs ks w g (page-goes m xs ks w g (a .alike) bs) a
     (same-told cs (machine m (page bs) .next) xs ks w g)

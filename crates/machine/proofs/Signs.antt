@@ -42,11 +42,11 @@ use Rattle.readings.specs.AlongLaws.{stretch-same}
 use Rattle.readings.specs.Readings.{Reading, density, report, list, track, noKernel, origin, rescaled, six, sixes, trackCheck, refusing}
 use Rattle.readings.specs.SixLaws.{whole, sixes-length, at-whole, list-sound, count-of}
 use Rattle.page.specs.Page.{Row, row, pageAnswer}
-use Rattle.machine.specs.Machine.{Mesh, Place, empty, full, among, seenPlace, seenPlaces, leftPlace, leftSum, adv, bump, Machine, Turn, turn, stepsOf, putTurn, clearTurn, weighed, reweighTurn, opened}
+use Rattle.machine.specs.Machine.{Mesh, Place, empty, full, among, seenPlace, seenPlaces, isComplete, completePlace, completePlaces, passedPlaces, leftPlace, leftSum, adv, bump, Machine, Turn, turn, stepsOf, putTurn, clearTurn, weighed, reweighTurn, opened}
 use Rattle.machine.specs.Holding.{triangles, cells, excessF, excessW}
 use Rattle.machine.specs.Valid.{Valid}
-use Rattle.machine.specs.Fresh.{kernelsOf, piecesOf, allPieces, worstFrom, valueOf, massOf, originOf, scaledList, readingOn, workedAfresh, freshRow, freshRows, pageAfresh}
-use Rattle.machine.specs.Calls.{Call, put, clear, reweigh, advance, squeeze, read, page, needs, machine, Store, after-all, holding, past, Heard}
+use Rattle.machine.specs.Fresh.{kernelsOf, piecesOf, allPieces, worstFrom, valueOf, massOf, originOf, scaledList, readingOn, workedAfresh, finishedAfresh, freshRow, freshRows, pageAfresh}
+use Rattle.machine.specs.Calls.{Call, put, clear, reweigh, advance, squeeze, read, finished, page, needs, machine, Store, after-all, holding, past, Heard}
 use Rattle.machine.specs.Signs.{unsigned, unsignedCall, unsignedRun, unsignedRead, unsignedHeard, said, SameSaid, SignsUnseen}
 use Rattle.machine.proofs.Rows.{width4, map-set, map-getD}
 use Rattle.machine.proofs.Sixteen.{sixteen, laid-out}
@@ -297,6 +297,30 @@ module _ (m : Mesh) where
   left-sum-same [] = refl
   left-sum-same (s ∷ ss) = rw (left-same s, left-sum-same ss) refl
 
+  -- the places that have nothing left
+  complete-one : (s : Place) → completePlace m (unsignedPlace s) ≡ unsignedPlace (completePlace m s)
+  complete-one s = rw (left-same s) (go (isComplete m s))
+    where
+      go : (b : Bool) → cond b (unsignedPlace s) empty ≡ unsignedPlace (cond b s empty)
+      go true = refl
+      go false = refl
+
+  complete-same : (ss : List Place)
+      → completePlaces m (map unsignedPlace ss) ≡ map unsignedPlace (completePlaces m ss)
+  complete-same [] = refl
+  complete-same (s ∷ ss) = rw (complete-one s, complete-same ss) refl
+
+  passed-same : (ss : List Place) → passedPlaces m (map unsignedPlace ss) ≡ passedPlaces m ss
+  passed-same [] = refl
+  passed-same (s ∷ ss) = rw (left-same s, passed-same ss) refl
+
+  finished-same : (ss : List Place) (v : Convention)
+      → finishedAfresh m (map unsignedPlace ss) v ≡ finishedAfresh m ss v
+  unfolding finishedAfresh
+  finished-same ss v =
+      let e = ap (λ (o : Heard). o .reply) (afresh-same (completePlaces m ss) (report v)) in
+      rw (complete-same ss, passed-same ss, e) refl
+
   adv-same : (u : ℕ) (s : Place) → adv u (unsignedPlace s) ≡ unsignedPlace (adv u s)
   adv-same u empty = refl
   adv-same u (full k fit p l) = refl
@@ -441,6 +465,9 @@ unseen m (read ls r) =
           (refused-same r b no x y (afresh-same (m .mesh) ss r)));
       next = refl;
     }
+unseen m (finished ls v) =
+    by-turn m (finished ls v) (λ o. refl)
+    (rw (seen-same ls (m .places), finished-same (m .mesh) (seenPlaces ls (m .places)) v) refl)
 unseen m (page bs) =
     by-turn m (page bs) (λ o. refl) (rw (left-sum-same (m .mesh) (m .places), page-same (m .mesh) (m .places) bs) refl)
 

@@ -20,7 +20,7 @@ use Rattle.kernel.specs.declared.kernel.Kernel.{Kernel}
 use Rattle.pieces.specs.declared.pieces.Pieces.{Pieces}
 use Rattle.advance.specs.Steps.{Work, work, oneFace}
 use Rattle.machine.specs.Machine.{Mesh, Place, empty, full, need}
-use Rattle.machine.specs.Holding.{triangles, finished, cells}
+use Rattle.machine.specs.Holding.{triangles, piecesFinished, cells}
 use Rattle.machine.proofs.Sixteen.{laidOut}
 use Rattle.machine.proofs.Rows.{Width, set-append-add}
 use Rattle.machine.proofs.Held.{get48, set-piece}
@@ -108,7 +108,7 @@ module _ (wd : ℕ) (fm : Width wd) where
         go (suc f) e = omega arith
 
     pub one-step : (q n : ℕ) → getD ss i empty ≡ full k fit q ly → q < need m fit → 0 < n
-        → stepAt (work (laidOut m ss xs) (finished m fit q) (q % m .faces) n) ≡ work (laidOut m (set ss i (full k fit (q + 1) ly)) xs) (finished m fit (q + 1)) ((q + 1) % m .faces) (n - 1)
+        → stepAt (work (laidOut m ss xs) (piecesFinished m fit q) (q % m .faces) n) ≡ work (laidOut m (set ss i (full k fit (q + 1) ly)) xs) (piecesFinished m fit (q + 1)) ((q + 1) % m .faces) (n - 1)
     unfolding oneFace
     one-step q n e l hn =
         let f = m .faces in
@@ -135,7 +135,7 @@ module _ (wd : ℕ) (fm : Width wd) where
         (ap (λ (t : List Float). work t ((q + 1) / f) ((q + 1) % f) (n - 1))
         (set-piece wd fm m ss hs xs i h (full k fit (q + 1) ly) (j + 2) _ (omega arith) (rw e (cells-step m k fit hf 16 0 q low)) (rw e refl)))
 
-    finished-all : finished m fit (need m fit) ≡ fit .count
+    finished-all : piecesFinished m fit (need m fit) ≡ fit .count
     finished-all = go (eqb (m .faces) 0) refl
       where
         go : (b : Bool) → eqb (m .faces) 0 ≡ b → cond b (fit .count) (need m fit / m .faces) ≡ fit .count
@@ -144,9 +144,9 @@ module _ (wd : ℕ) (fm : Width wd) where
 
   module _ (m : Mesh) (ss : List Place) (hs : length ss ≡ 32) (xs : List Float) (i : ℕ) (h : i < 32) (k : Kernel) (fit : Pieces) (p ly : ℕ) (e : getD ss i empty ≡ full k fit p ly) (fw : fit .count ≤ 16) (hp : p ≤ need m fit) (n : ℕ) where
     abbrev at : ℕ → Work
-    at u = work (laidOut m (set ss i (full k fit (p + u) ly)) xs) (finished m fit (p + u)) ((p + u) % m .faces) (n - u)
+    at u = work (laidOut m (set ss i (full k fit (p + u) ly)) xs) (piecesFinished m fit (p + u)) ((p + u) % m .faces) (n - u)
 
-    at-zero : work (laidOut m ss xs) (finished m fit p) (p % m .faces) n ≡ at 0
+    at-zero : work (laidOut m ss xs) (piecesFinished m fit p) (p % m .faces) n ≡ at 0
     at-zero =
         let z : set ss i (full k fit p ly) ≡ ss = ap (set ss i) (sym e) ∙ set-getD ss i empty in
         let s : n - 0 ≡ n = omega arith in
@@ -169,7 +169,7 @@ module _ (wd : ℕ) (fm : Width wd) where
         let q : p + (need m fit - p) ≡ need m fit = omega arith in
         rw (q, finished-all m ss hs xs i h k fit ly fw, le-ltb (fit .count) (fit .count) (omega arith)) refl
 
-    pub run-steps : (t : ℕ) → t ≤ n → iterate stepK t (work (laidOut m ss xs) (finished m fit p) (p % m .faces) n) ≡ at (min t (need m fit - p))
+    pub run-steps : (t : ℕ) → t ≤ n → iterate stepK t (work (laidOut m ss xs) (piecesFinished m fit p) (p % m .faces) n) ≡ at (min t (need m fit - p))
     run-steps zero ht = let z : min 0 (need m fit - p) ≡ 0 = omega arith in rw z at-zero
     run-steps (suc t) ht = ap stepK (run-steps t (omega arith)) ∙ go (decLt t (need m fit - p))
       where

@@ -20,7 +20,7 @@ use Rattle.advance.specs.Steps.{work, Whole, whole, placeWork, stored, placesRu
 use Rattle.layout.specs.Left.{leftOf}
 use Rattle.advance.proofs.Steps.{idle}
 use Rattle.machine.specs.Machine.{Mesh, Place, empty, full, need, leftPlace, leftSum, adv, bump}
-use Rattle.machine.specs.Holding.{triangles, finished, placeRow, wordsOf}
+use Rattle.machine.specs.Holding.{triangles, piecesFinished, placeRow, wordsOf}
 use Rattle.machine.specs.Valid.{Within, Valid}
 use Rattle.machine.proofs.Rows.{Width}
 use Rattle.machine.proofs.Held.{get7, status-held, finished-held, done-held, two-words}
@@ -76,7 +76,7 @@ module _ (wd : ℕ) (fm : Width wd) where
           e,
           sn,
           run-steps wd fm m ss hs xs i h k fit p l e (w .few) (w .steps) n n (le-refl n),
-          two-words wd fm m ss hs ys i h (full k fit (p + u) l) (finished m fit (p + u)) ((p + u) % m .faces) (rw e refl),
+          two-words wd fm m ss hs ys i h (full k fit (p + u) l) (piecesFinished m fit (p + u)) ((p + u) % m .faces) (rw e refl),
           d,
         ) refl
 

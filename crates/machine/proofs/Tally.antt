@@ -21,7 +21,7 @@ use Rattle.pieces.specs.Pieces.{decomposed}
 use Rattle.pieces.specs.PieceLaws.{same-pieces}
 use Rattle.machine.specs.Machine.{Mesh, Place, empty, full, among, seenPlace, seenPlaces, leftPlace, adv, bump, stepsOf, Machine, Turn, turn, clearTurn, weighed, reweighTurn, slim}
 use Rattle.machine.specs.Fresh.{kernelOf, kernelsOf, piecesOf, allPieces}
-use Rattle.machine.specs.Calls.{Call, put, clear, reweigh, advance, squeeze, read, page, machine, after-all, holding, chargedBy, chargedIn}
+use Rattle.machine.specs.Calls.{Call, put, clear, reweigh, advance, squeeze, read, finished, page, machine, after-all, holding, chargedBy, chargedIn}
 use Rattle.machine.specs.Valid.{Valid}
 use Rattle.machine.specs.Bills.{Reordered, none, keep, swap, then, Every, putBy, putIn, placeBy, placesIn, InStore, layerBy, layersIn, InSixteen, Apart}
 use Rattle.machine.proofs.Rows.{Width}
@@ -202,7 +202,7 @@ module _ (m : Machine) (hs : length (m .places) ≡ 32) where
         still = λ j s v. u j v;
       }
 
-  -- a refused clear or reweigh, and a reading, change nothing
+  -- a refused clear or reweigh, a reading and a report of what is finished change nothing
   idle : (c : Call) → putBy c ≡ [] → (t : Turn) → t .next ≡ m → chargedBy c (t .reply) ≡ 0 → Step m c t
   idle c e t n z =
       quiet c e t (ap (λ (x : Machine). x .mesh .radius) n) (ap (λ (x : Machine). x .mesh .faces) n) z
@@ -262,6 +262,7 @@ module _ (m : Machine) (hs : length (m .places) ≡ 32) where
       (empty-work R (m .mesh) (m .places) u)
   step squeeze = quiet squeeze refl (machine m squeeze) refl refl refl refl (λ j v. v)
   step (read ls r) = idle (read ls r) refl (machine m (read ls r)) refl refl
+  step (finished ls cv) = idle (finished ls cv) refl (machine m (finished ls cv)) refl refl
   step (page bs) = idle (page bs) refl (machine m (page bs)) refl refl
 
 -- ---- places of a list, each of which is apart from the others

@@ -21,15 +21,16 @@ use Rattle.pieces.specs.declared.fit.Fit.{Fit}
 use Rattle.pieces.specs.Pieces.{decomposed}
 use Rattle.pieces.specs.FitEnd.{fitOf}
 use Rattle.layout.specs.Layout.{placeLimit}
-use Rattle.readings.specs.Readings.{Reading, rawMass, answerOf}
+use Rattle.density.specs.declared.convention.Convention.{Convention}
+use Rattle.readings.specs.Readings.{Reading, report, rawMass, answerOf}
 use Rattle.page.specs.Page.{Row, row, pageAnswer}
 use Rattle.store.specs.Squeeze.{rank, renumbered, keptTo}
 use Rattle.store.specs.Marks.{Below}
 use Rattle.store.specs.TriangleLaws.{same-triangle}
-use Rattle.machine.specs.Machine.{Mesh, Place, empty, full, seenPlaces, bump, Machine, Turn, turn, freedBy, stepsOf, putTurn, clearTurn, reweighTurn}
+use Rattle.machine.specs.Machine.{Mesh, Place, empty, full, seenPlaces, completePlaces, passedPlaces, bump, Machine, Turn, turn, freedBy, stepsOf, putTurn, clearTurn, reweighTurn}
 use Rattle.machine.specs.Holding.{triangles}
-use Rattle.machine.specs.Fresh.{freshRow, freshRows, workedAfresh, pageAfresh}
-use Rattle.machine.specs.Calls.{Call, put, clear, reweigh, advance, squeeze, read, page, machine, holding, without, Heard, others, heard}
+use Rattle.machine.specs.Fresh.{freshRow, freshRows, workedAfresh, finishedAfresh, pageAfresh}
+use Rattle.machine.specs.Calls.{Call, put, clear, reweigh, advance, squeeze, read, finished, page, machine, holding, without, Heard, others, heard}
 use Rattle.machine.specs.Valid.{Shape, Valid}
 use Rattle.machine.proofs.Rows.{Width}
 use Rattle.machine.proofs.Parts.{freshPart, freshAt, freshPlace, freshAll, freshSeen}
@@ -51,6 +52,14 @@ module _ (m : Mesh) (xs : List Float) (ks : List ℕ) (w : ℕ) where
   bumps-same : (k : ℕ) (ss : List Place) → iterate (bump n) k ss ≡ iterate (bump m) k ss
   bumps-same zero ss = refl
   bumps-same (suc k) ss = ap (bump n) (bumps-same k ss) ∙ bump-same (iterate (bump m) k ss)
+
+  complete-same : (ss : List Place) → completePlaces n ss ≡ completePlaces m ss
+  complete-same [] = refl
+  complete-same (s ∷ ss) = rw (left-same m xs ks w s, complete-same ss) refl
+
+  passed-same : (ss : List Place) → passedPlaces n ss ≡ passedPlaces m ss
+  passed-same [] = refl
+  passed-same (s ∷ ss) = rw (left-same m xs ks w s, passed-same ss) refl
 
   module _ (same : (f : ℕ) → f < m .faces → triangleAt xs ks f ≡ triangles m f) where
     part-same : (k : Kernel) (fit : Pieces) (j : ℕ) → freshPart n k fit j ≡ freshPart m k fit j
@@ -76,6 +85,11 @@ module _ (m : Mesh) (xs : List Float) (ks : List ℕ) (w : ℕ) where
     afresh-same g h ss r = sym (joined n g ss r) ∙ (ap (answerOf r) (seen-same ss) ∙ joined m h ss r)
 
     module _ (g : Shape n) (h : Shape m) where
+      pub finished-same : (ss : List Place) (cv : Convention) → finishedAfresh n ss cv ≡ finishedAfresh m ss cv
+      unfolding finishedAfresh
+      finished-same ss cv =
+          rw (passed-same ss, complete-same ss, afresh-same g h (completePlaces m ss) (report cv)) refl
+
       row-same : (i : ℕ) (s : Place) → freshRow n i s ≡ freshRow m i s
       row-same i empty = refl
       row-same i (full k fit p l) =
@@ -176,6 +190,12 @@ module _ (m : Machine) (xs : List Float) (ks : List ℕ) (w g : ℕ) where
       let f = afresh-same (m .mesh) xs ks w (a .same) (a .shape) (a .was) ss r in
       record { lift = rw (left-sum-same (m .mesh) xs ks w ss, f) refl; mesh = refl }
 
+  pub finished-goes : Alike (m .mesh) xs ks w → (ls : ℕ) (cv : Convention) → Goes m (finished ls cv) xs ks w g
+  unfolding machine
+  finished-goes a ls cv =
+      let ss = seenPlaces ls (m .places) in
+      record { lift = rw (finished-same (m .mesh) xs ks w (a .same) (a .shape) (a .was) ss cv) refl; mesh = refl }
+
   pub page-goes : Alike (m .mesh) xs ks w → (bs : List ℕ) → Goes m (page bs) xs ks w g
   unfolding machine
   page-goes a bs = record { lift = rw (left-sum-same (m .mesh) xs ks w (m .places), page-same (m .mesh) xs ks w (a .same) (a .shape) (a .was) (m .places) bs) refl; mesh = refl }
@@ -221,6 +241,9 @@ same-heard (squeeze ∷ cs) m xs ks w g a =
     let n = remesh (m .mesh) xs ks w in
     rw (slim-is n (corners-below n (a .shape))) (same-heard cs m (keptTo ks xs w) (renumbered ks) (rank ks w) (freedBy n + g) (squeezed-alike (m .mesh) xs ks w a))
 same-heard (read ls r ∷ cs) m xs ks w g a = one-heard m (read ls r) cs xs ks w g (read-goes m xs ks w g a ls r) a (same-heard cs (machine m (read ls r) .next) xs ks w g)
+same-heard (finished ls cv ∷ cs) m xs ks w g a =
+    one-heard m (finished ls cv) cs xs ks w g (finished-goes m xs ks w g a ls cv) a
+    (same-heard cs (machine m (finished ls cv) .next) xs ks w g)
 same-heard (page bs ∷ cs) m xs ks w g a = one-heard m (page bs) cs xs ks w g (page-goes m xs ks w g a bs) a (same-heard cs (machine m (page bs) .next) xs ks w g)
 
 -- ---- a reading of the machine's mesh is one of the mesh opened
@@ -242,6 +265,7 @@ from-next o m squeeze f =
     rw (slim-is (m .mesh) (corners-below (remesh o (m .mesh .coords) (m .mesh .corners) (m .mesh .verts)) (f .alike .shape)))
     (record { radius = f .radius; faces = f .faces; alike = squeezed-alike o (m .mesh .coords) (m .mesh .corners) (m .mesh .verts) (f .alike) })
 from-next o m (read ls r) f = f
+from-next o m (finished ls cv) f = f
 from-next o m (page bs) f = f
 
 module _ (o m : Mesh) (f : From o m) where
@@ -254,6 +278,11 @@ module _ (o m : Mesh) (f : From o m) where
   on-opened ss r =
       ap (λ (x : Mesh). workedAfresh x ss r) mesh-is
       ∙ afresh-same o (m .coords) (m .corners) (m .verts) (f .alike .same) (f .alike .shape) (f .alike .was) ss r
+
+  pub finished-opened : (ss : List Place) (cv : Convention) → finishedAfresh m ss cv ≡ finishedAfresh o ss cv
+  finished-opened ss cv =
+      ap (λ (x : Mesh). finishedAfresh x ss cv) mesh-is
+      ∙ finished-same o (m .coords) (m .corners) (m .verts) (f .alike .same) (f .alike .shape) (f .alike .was) ss cv
 
   pub page-opened : (ss : List Place) (bs : List ℕ) → pageAfresh m ss bs ≡ pageAfresh o ss bs
   page-opened ss bs =

@@ -20,12 +20,12 @@ use Rattle.store.specs.Puts.{putStep}
 use Rattle.density.specs.declared.convention.Convention.{Convention}
 use Rattle.density.specs.declared.convention.Convention.the-variants.{Raw, Rho0, Mass}
 use Rattle.readings.specs.Readings.{Reading, density, report, list, track, refusing, readStep}
-use Rattle.readings.specs.Finished.{beside, finishedStep}
+use Rattle.readings.specs.Finished.{finishedStep}
 use Rattle.page.specs.Page.{Paged, paged, pageStep}
 use Rattle.store.specs.Squeeze.{squeezeStep}
-use Rattle.machine.specs.Machine.{empty, Machine, leftSum, seenPlaces, completePlaces, passedPlaces, workLeft, Turn, turn, putTurn, clearTurn, reweighTurn, advanceTurn, squeezeTurn}
+use Rattle.machine.specs.Machine.{empty, Machine, leftSum, seenPlaces, workLeft, Turn, turn, putTurn, clearTurn, reweighTurn, advanceTurn, squeezeTurn}
 use Rattle.machine.specs.Holding.{floatsOf, wordsOf}
-use Rattle.machine.specs.Fresh.{workedAfresh, pageAfresh}
+use Rattle.machine.specs.Fresh.{workedAfresh, finishedAfresh, pageAfresh}
 
 -- the calls of demand 3's list
 pub data Call : Type 0 where
@@ -76,13 +76,10 @@ readTurn m layers r =
     (cond (needs r && ltb 0 (workSeen m layers)) (refusing r Unfinished)
     (workedAfresh (m .mesh) (seenPlaces layers (m .places)) r))
 
--- 02, L7: "It equals the ordinary report of a store holding just those places, and demand 3 takes only those for it. It is
--- never refused as unfinished": worked afresh on the places of its layers that have nothing left
+-- 02, L7, of the places that it sees: "It is never refused as unfinished"; like a reading it changes nothing
 abbrev pub finishedTurn : Machine → ℕ → Convention → Answer
 finishedTurn m layers v =
-    let seen = seenPlaces layers (m .places) in
-    cond (leb (2 ^ 16) layers) (refused NoLayer)
-    (beside (passedPlaces (m .mesh) seen) (workedAfresh (m .mesh) (completePlaces (m .mesh) seen) (report v) .reply))
+    cond (leb (2 ^ 16) layers) (refused NoLayer) (finishedAfresh (m .mesh) (seenPlaces layers (m .places)) v)
 
 abbrev pub given : Machine → Outcome → Turn
 given m a = record { next = m; reply = a .reply; out = a .out; page = [] }

@@ -19,10 +19,10 @@ use Rattle.store.specs.Calls.{openStep}
 use Rattle.readings.specs.Readings.{Reading, report, sixes}
 use Rattle.readings.specs.Finished.{beside}
 use Rattle.density.specs.declared.convention.Convention.{Convention}
-use Rattle.machine.specs.Machine.{Mesh, Machine, seenPlaces, completePlaces, passedPlaces, workLeft, opened, openRow}
+use Rattle.machine.specs.Machine.{Mesh, Machine, seenPlaces, completePlaces, passedPlaces, workLeft, with-places, opened, openRow}
 use Rattle.machine.specs.Holding.{excessF, excessW}
 use Rattle.machine.specs.Valid.{Valid}
-use Rattle.machine.specs.Fresh.{kernelsOf, allPieces, worstFrom, workedAfresh, pageAfresh}
+use Rattle.machine.specs.Fresh.{kernelsOf, allPieces, worstFrom, workedAfresh, finishedAfresh, pageAfresh}
 use Rattle.machine.specs.Calls.{Call, advance, read, finished, page, needs, workSeen, machine, Store, store, leaves, after-all, holding, leftIn, chargedIn, doneIn, without, heard}
 
 -- ---- one call c: the store s beside the machine m, which "gets that opening and the same calls"; exF and exW are the
@@ -67,16 +67,27 @@ pub record Read (q : ℕ) (mesh : Mesh) (m : Machine) (s : Store) (layers : ℕ)
   pub kept : store q s (read layers r) .runs ≡ s
 
 -- ---- 02, L7: a report of what is finished, of a set of layers, anywhere in a list
-pub record Partly (q : ℕ) (mesh : Mesh) (m : Machine) (s : Store) (layers : ℕ) (v : Convention) : Type 0 where
+
+-- the machine holding just "the places whose steps are complete", of these layers: its other places are empty
+abbrev pub onlyComplete : Machine → ℕ → Machine
+onlyComplete m layers = with-places m (completePlaces (m .mesh) (seenPlaces layers (m .places))) 0 0
+
+pub record Partly
+    (q : ℕ) (exF : List Float) (exW : List ℕ) (mesh : Mesh) (m : Machine) (s : Store) (layers : ℕ) (v : Convention)
+    : Type 0 where
   pub no-layer : 2 ^ 16 ≤ layers → store q s (finished layers v) .reply ≡ refused NoLayer
-  -- "It is never refused as unfinished"; any other answers what demand 2's functions give, worked afresh on the mesh opened
-  -- and the kernels in those places of its layers that have nothing left: "demand 3 takes only those for it"; beside it
-  -- how many others of its layers are filled
-  pub afresh : layers < 2 ^ 16 → store q s (finished layers v) .reply
-      ≡ beside (passedPlaces mesh (seenPlaces layers (m .places)))
-      (workedAfresh mesh (completePlaces mesh (seenPlaces layers (m .places))) (report v) .reply)
-  -- "It equals the ordinary report of a store holding just those places": with nothing left in its layers it passes over none,
-  -- and is the ordinary report
+  -- "It is never refused as unfinished", whatever the machine has left
+  pub never : store q s (finished layers v) .reply ≡ refused Unfinished → ⊥
+  -- "demand 3 takes only those for it": it answers what demand 2's functions give, worked afresh on the mesh opened and the
+  -- kernels in those places of its layers that have nothing left, and beside it how many others of its layers are filled
+  pub afresh : layers < 2 ^ 16
+      → store q s (finished layers v) .reply ≡ finishedAfresh mesh (seenPlaces layers (m .places)) v
+  -- "It equals the ordinary report of a store holding just those places"
+  pub alone : layers < 2 ^ 16
+      → store q s (finished layers v) .reply
+      ≡ beside (passedPlaces (m .mesh) (seenPlaces layers (m .places)))
+      (store q (holding (onlyComplete m layers) exF exW) (read 65535 (report v)) .reply)
+  -- so with nothing left in its layers it is the ordinary report of this store, and passes over none
   pub whole : layers < 2 ^ 16 → workSeen m layers ≡ 0
       → store q s (finished layers v) .reply ≡ beside 0 (store q s (read layers (report v)) .reply)
   pub kept : store q s (finished layers v) .runs ≡ s
@@ -101,7 +112,8 @@ pub data Each (q : ℕ) (exF : List Float) (exW : List ℕ) (mesh : Mesh) : Mach
   end : {m : Machine} {s : Store} → Each q exF exW mesh m s []
   next : {m : Machine} {s : Store} {c : Call} {cs : List Call}
       → Same q exF exW m s c
-      → ((layers : ℕ) (r : Reading) → Read q mesh m s layers r) → ((layers : ℕ) (v : Convention) → Partly q mesh m s layers v)
+      → ((layers : ℕ) (r : Reading) → Read q mesh m s layers r)
+      → ((layers : ℕ) (v : Convention) → Partly q exF exW mesh m s layers v)
       → ((bs : List ℕ) → Post q mesh m s bs)
       → Each q exF exW mesh (machine m c .next) (store q s c .runs) cs → Each q exF exW mesh m s (c ∷ cs)
 
@@ -115,8 +127,8 @@ pub record Decomposed (radius : Float) (ks : List Kernel) : Type 0 where
 
 -- ---- a list of calls, from the store s that an opening left and the machine m that it opened
 pub record Follows (q : ℕ) (exF : List Float) (exW : List ℕ) (m : Machine) (s : Store) (cs : List Call) : Type 0 where
-  -- "For every list of puts, clears, reweighs, advances and readings, refused ones among them", and of pages (02, L8) and
-  -- squeezes: "Demand 3's list may hold it" (02, L12)
+  -- "For every list of puts, clears, reweighs, advances and readings, refused ones among them", and of reports of what is
+  -- finished (02, L7), pages (02, L8) and squeezes: "Demand 3's list may hold it" (02, L12)
   pub calls : Each q exF exW (m .mesh) m s cs
   -- the machine after the list, and so after each part of it: the pieces in its places, which the runs hold, are those
   -- of its kernels, and no place has more steps than its need

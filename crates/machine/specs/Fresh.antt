@@ -20,8 +20,9 @@ use Rattle.density.specs.Conventions.{bulkOf, rho0Scale, appliedScale}
 use Rattle.density.specs.Reports.{reportOf}
 use Rattle.readings.specs.Along.{along}
 use Rattle.readings.specs.Readings.{Reading, density, report, list, track, origin, rescaled, sixes, reported, trackCheck}
+use Rattle.readings.specs.Finished.{beside}
 use Rattle.page.specs.Page.{Row, row, Paged, pageAnswer}
-use Rattle.machine.specs.Machine.{Mesh, Place, empty, full}
+use Rattle.machine.specs.Machine.{Mesh, Place, empty, full, completePlaces, passedPlaces}
 
 -- ---- "the machine's filled places in order": their kernels
 abbrev pub kernelOf : Place → List Kernel
@@ -87,6 +88,11 @@ unfoldable pub workedAfresh : Mesh → List Place → Reading → Outcome
 workedAfresh m ss r =
     let ks = kernelsOf ss in
     readingOn m (allPieces (m .radius) ks) (length ks) (worstFrom (m .radius) +0 ks) r
+
+-- ---- 02, L7: "It covers only the places whose steps are complete, and says how many filled places of its layers it passed
+-- over": the report worked afresh on those of the places ss that have nothing left, and beside it how many have some
+unfoldable pub finishedAfresh : Mesh → List Place → Convention → Answer
+finishedAfresh m ss v = beside (passedPlaces m ss) (workedAfresh m (completePlaces m ss) (report v) .reply)
 
 -- ---- 02, L8, the wall page: "One line per filled place shows its number [..], its pieces [..] and its raw mass"; "The mass
 -- is the place's own field mass": `kernel_field_mass` of its pieces alone. Place i, and the places from i on

@@ -55,12 +55,12 @@ floatsOf m ss xs = m .radius ∷ (flat (map floats7 ss) ++ (flat (map (floats48 
 
 -- "status (0 empty, else 1 + pieces), pieces finished, faces done in the current piece"; "with F = 0 all are finished",
 -- and p is 0, so p % 0 is 0 too. 02, L5: "four, with the layer last, 0 for an empty place"
-abbrev pub finished : Mesh → Pieces → ℕ → ℕ
-finished m fit p = cond (eqb (m .faces) 0) (fit .count) (p / m .faces)
+abbrev pub piecesFinished : Mesh → Pieces → ℕ → ℕ
+piecesFinished m fit p = cond (eqb (m .faces) 0) (fit .count) (p / m .faces)
 
 abbrev pub placeRow : Mesh → Place → List ℕ
 placeRow m empty = 0 ∷ 0 ∷ 0 ∷ 0 ∷ []
-placeRow m (full k fit p l) = (1 + fit .count) ∷ finished m fit p ∷ p % m .faces ∷ l ∷ []
+placeRow m (full k fit p l) = (1 + fit .count) ∷ piecesFinished m fit p ∷ p % m .faces ∷ l ∷ []
 
 -- "V, F; from 2+3i [2+4i] ..; from 98 [130] corners", then what lies past the store's own words
 unfoldable pub wordsOf : Mesh → List Place → List ℕ → List ℕ

@@ -177,15 +177,20 @@ seenPlaces layers ss = map (seenPlace layers) ss
 
 -- ---- 02, L7: "It covers only the places whose steps are complete, and says how many filled places of its layers it
 -- passed over": of the places that it sees, those with nothing left, and how many have something left
+
+-- nothing is left; so it is of a place without pieces, and of any place of a mesh without faces
+abbrev pub isComplete : Mesh → Place → Bool
+isComplete m s = eqb (leftPlace m s) 0
+
 abbrev pub completePlace : Mesh → Place → Place
-completePlace m s = cond (eqb (leftPlace m s) 0) s empty
+completePlace m s = cond (isComplete m s) s empty
 
 abbrev pub completePlaces : Mesh → List Place → List Place
 completePlaces m ss = map (completePlace m) ss
 
 abbrev pub passedPlaces : Mesh → List Place → ℕ
 passedPlaces m [] = 0
-passedPlaces m (s ∷ ss) = cond (eqb (leftPlace m s) 0) 0 1 + passedPlaces m ss
+passedPlaces m (s ∷ ss) = cond (isComplete m s) 0 1 + passedPlaces m ss
 
 -- ---- 02, L12, on the machine's mesh alone
 

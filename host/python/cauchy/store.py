@@ -240,8 +240,8 @@ class Store:
         over: what `report` gives of a store that holds just the places whose work is done.
 
         >>> store = Store(500, [0] * 9, [0, 1, 2])
-        >>> store.put(0, Kernel((0, 0, 0), 1, 2, 1)), store.put(1, Kernel((0, 0, 0), 1, 5, 1))
-        (Placed(pieces=1, need=1), Placed(pieces=1, need=1))
+        >>> store.put(0, Kernel((0, 0, 0), 1, 2, 1)).need, store.put(1, Kernel((0, 0, 0), 1, 5, 1)).need
+        (1, 1)
         >>> store.advance(1)
         Steps(done=1, left=1)
         >>> report, passed_over = store.finished(RAW)

@@ -2,7 +2,8 @@
 use crate::figures::{count, counted, rounded, short, whole};
 use crate::track::Track;
 use cauchy::{
-    Bill, Convention, Finished, Fit, Held, Kernel, LAYERS, Layers, MassReport, PLACES, Refusal, Store, StoreReport,
+    Bill, Convention, Finished, Fit, Held, Kernel, LAYERS, Layers, MassReport, PLACES, Refusal, Store,
+    StoreReport,
 };
 use std::fmt::Write;
 use std::path::Path;
