@@ -275,7 +275,7 @@ fn what_is_finished_is_told_and_what_is_not_is_named() {
             && some.contains("1 kernel, 1 piece"),
         "{some}"
     );
-    assert!(some.contains("NOT the mass of the store: 2 kernels with work left are not in it"), "{some}");
+    assert!(some.contains("NOT the mass of the store: it is without 2 kernels with work left"), "{some}");
     assert!(some.contains(&format!("not in it: place 1, in layer 7, {} steps left", faces - 1)), "{some}");
     assert!(some.contains("not in it: place 2, in layer 7, ") && !some.contains("Mass report"), "{some}");
     folder.fails("run a.obj k.txt --raw --steps 5", 2, "give --snapshot FILE or --so-far too");

@@ -184,7 +184,7 @@ pub fn so_far(by: Convention, layers: Layers, told: &Finished, closed: bool) -> 
     }
     let passed = counted(u64::from(told.passed_over), "kernel");
     let _ =
-        writeln!(text, "  Note: this is NOT the mass of the store: {passed} with work left are not in it");
+        writeln!(text, "  Note: this is NOT the mass of the store: it is without {passed} with work left");
     text
 }
 
