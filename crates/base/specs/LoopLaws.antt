@@ -1,12 +1,14 @@
 -- Laws of counting loops: the turns that are left, done on the state as it is, give the loop's result w. Assumes nothing.
 use mathlib.Core.Path.{_≡_, refl, ap, subst⁻¹}
+use mathlib.Core.Bool.{Bool, true, false, _&&_, and-false, and-eq-true-iff}
 use Prim.Native.Nat.{ℕ, zero, suc, _+_, _-_, _≤_, _<_}
 use native.Mathlib.Numerals.{add-one}
 use mathlib.Core.List.{List}
 use lib.ListN.{set}
 use native.Mathlib.Omega.{arith}
+use native.Mathlib.Decide.{decLt}
 use native.Mathlib.Nat.{sub-zero, zero-add, add-zero, suc-add, add-suc}
-use Rattle.base.specs.Loops.{times, iterate, down}
+use Rattle.base.specs.Loops.{times, iterate, down, every}
 
 -- ---- counting up: at i, of n, with the state s
 pub record Left {S : Type 0} (f : ℕ → S → S) (n i : ℕ) (s w : S) : Type 0 where
@@ -110,3 +112,30 @@ module _ {S : Type 0} {f : ℕ → S → S} {k : ℕ} {s w : S} where
 -- ---- the same place of a list, set to equal values
 pub set-to : {A : Type 0} {x y : A} (l : List A) (i : ℕ) → x ≡ y → set l i x ≡ set l i y
 set-to l i e = ap (set l i) e
+
+-- ---- a test of each number below n
+pub every-at : (test : ℕ → Bool) (n k : ℕ) → k < n → every test n ≡ true → test k ≡ true
+unfolding every
+every-at test zero k h e = absurd (omega arith)
+every-at test (suc n) k h e = go (λ (l : k < n). every-at test n k l (both .0)) (decLt k n)
+  where
+    both : (every test n ≡ true) × (test n ≡ true)
+    both = and-eq-true-iff (every test n) (test n) .0 e
+
+    go : (k < n → test k ≡ true) → Dec (k < n) → test k ≡ true
+    go ih (yes l) = ih l
+    go ih (no l) = let q : k ≡ n = omega arith in rw q (both .1)
+
+pub every-not : (test : ℕ → Bool) (n k : ℕ) → k < n → test k ≡ false → every test n ≡ false
+unfolding every
+every-not test zero k h e = absurd (omega arith)
+every-not test (suc n) k h e = go (λ (l : k < n). every-not test n k l e) (decLt k n)
+  where
+    go : (k < n → every test n ≡ false) → Dec (k < n) → every test n && test n ≡ false
+    go ih (yes l) = rw (ih l) refl
+    go ih (no l) = let z : n ≡ k = omega arith in rw (z, e) (and-false (every test k))
+
+pub every-all : (test : ℕ → Bool) (n : ℕ) → ((i : ℕ) → i < n → test i ≡ true) → every test n ≡ true
+unfolding every
+every-all test zero h = refl
+every-all test (suc n) h = rw (every-all test n (λ i l. h i (omega arith)), h n (omega arith)) refl

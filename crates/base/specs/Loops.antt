@@ -1,4 +1,5 @@
 -- What a counting loop computes. Definitions only.
+use mathlib.Core.Bool.{Bool, true, _&&_}
 use Prim.Native.Nat.{ℕ, zero, suc}
 
 -- `f` at i, then at i + 1, and so on, k times in all
@@ -15,3 +16,8 @@ iterate f (suc n) s = f (iterate f n s)
 unfoldable pub down : {S : Type 0} → (ℕ → S → S) → ℕ → S → S
 down f zero s = s
 down f (suc k) s = down f k (f k s)
+
+-- each number below n passes
+unfoldable pub every : (ℕ → Bool) → ℕ → Bool
+every test zero = true
+every test (suc n) = every test n && test n

@@ -13,12 +13,14 @@ use lib.ListN.{length, getD, take, drop, replicate, length-replicate, getD-repli
 use lib.Seq.{getD-take, getD-drop, length-take-le}
 use lib.Ieee.{Float}
 use borrow.Author.Tests.{ltb-true}
+use Rattle.base.specs.Loops.{every}
+use Rattle.base.specs.LoopLaws.{every-at}
 use Rattle.base.specs.declared.refusal.Checked.the-variants.{Passed}
 use Rattle.layout.specs.Layout.{width, placeLimit, layerLimit, stateFrom, cornersFrom, vertsOf, facesOf, statusOf, finishedOf, doneOf, layerOf}
 use Rattle.layout.specs.Runs.{write}
 use Rattle.layout.specs.RunLaws.{length-write, write-before, write-at, write-past, write-rest, write-take}
-use Rattle.layout.specs.Soundness.{every, storeCheck}
-use Rattle.layout.specs.SoundLaws.{Ready, Worded, every-at, fine}
+use Rattle.layout.specs.Soundness.{storeCheck}
+use Rattle.layout.specs.SoundLaws.{Ready, Worded, fine}
 use Rattle.layout.specs.Left.{leftAt, leftOf}
 use Rattle.layout.specs.Layers.{inSet, allLayers, hiding, inLayers}
 

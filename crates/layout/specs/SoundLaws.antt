@@ -1,8 +1,8 @@
 -- What a store that passes its checks has; and that the offsets of 01 go together. Assumes nothing.
 use mathlib.Core.Path.{_≡_, refl}
-use mathlib.Core.Bool.{Bool, true, false, _&&_, cond, and-false, and-eq-true-iff}
+use mathlib.Core.Bool.{Bool, true, false, _&&_, cond, and-eq-true-iff}
 use mathlib.Core.List.{List}
-use Prim.Native.Nat.{ℕ, zero, suc, _+_, _*_, _-_, _≤_, _<_}
+use Prim.Native.Nat.{ℕ, suc, _+_, _*_, _-_, _≤_, _<_}
 use native.Mathlib.Omega.{arith}
 use native.Mathlib.Decide.{decLt}
 use lib.Dec.{ltb, leb, eqb}
@@ -11,6 +11,8 @@ use lib.ListN.{length, getD}
 use lib.Seq.{length-take-le, getD-take, getD-drop}
 use lib.ListN.{length-drop}
 use borrow.Author.Tests.{ltb-true, leb-true, eqb-true}
+use Rattle.base.specs.Loops.{every}
+use Rattle.base.specs.LoopLaws.{every-at}
 use Rattle.base.specs.Answers.{andThen}
 use Rattle.base.specs.declared.refusal.Refusal.the-variants.{ShortStore, Unsound, NoPlace, Vacant}
 use Rattle.base.specs.declared.refusal.Checked.{Checked}
@@ -18,7 +20,7 @@ use Rattle.base.specs.declared.refusal.Checked.the-variants.{Passed, Failed}
 use Rattle.mesh.specs.Checks.{vertexLimit, faceLimit}
 use Rattle.mesh.specs.CheckLaws.{below-each}
 use Rattle.layout.specs.Layout.{width, placeLimit, pieceLimit, kernelFrom, piecesFrom, pieceFrom, coordsFrom, stateFrom, cornersFrom, cornersOf, vertsOf, facesOf, statusOf, finishedOf, doneOf, layerLimit, layerOf}
-use Rattle.layout.specs.Soundness.{every, longEnough, placeSound, layerSound, placeSoundAt, sound, storeCheck, placeCheck, filledCheck}
+use Rattle.layout.specs.Soundness.{longEnough, placeSound, layerSound, placeSoundAt, sound, storeCheck, placeCheck, filledCheck}
 
 -- ---- 01's numbers: each part of a run begins where the one before it ends
 pub pieces-follow : piecesFrom 0 ≡ kernelFrom placeLimit
@@ -39,24 +41,6 @@ corners-are = refl
 -- ---- tests
 pub both : (a b : Bool) → a && b ≡ true → (a ≡ true) × (b ≡ true)
 both a b h = and-eq-true-iff a b .0 h
-
-pub every-at : (test : ℕ → Bool) (n k : ℕ) → k < n → every test n ≡ true → test k ≡ true
-unfolding every
-every-at test zero k h e = absurd (omega arith)
-every-at test (suc n) k h e = go (λ (l : k < n). every-at test n k l (both (every test n) (test n) e .0)) (decLt k n)
-  where
-    go : (k < n → test k ≡ true) → Dec (k < n) → test k ≡ true
-    go ih (yes l) = ih l
-    go ih (no l) = let q : k ≡ n = omega arith in rw q (both (every test n) (test n) e .1)
-
-pub every-not : (test : ℕ → Bool) (n k : ℕ) → k < n → test k ≡ false → every test n ≡ false
-unfolding every
-every-not test zero k h e = absurd (omega arith)
-every-not test (suc n) k h e = go (λ (l : k < n). every-not test n k l e) (decLt k n)
-  where
-    go : (k < n → every test n ≡ false) → Dec (k < n) → every test n && test n ≡ false
-    go ih (yes l) = rw (ih l) refl
-    go ih (no l) = let z : n ≡ k = omega arith in rw (z, e) (and-false (every test k))
 
 -- two checks, one after the other, that pass
 pub passed-both : (a b : Checked) → andThen a b ≡ Passed → (a ≡ Passed) × (b ≡ Passed)

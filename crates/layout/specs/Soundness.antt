@@ -1,21 +1,17 @@
 -- 01, "The store": when a store is sound, and the refusals 4 to 7 of a call on one. Definitions only.
-use mathlib.Core.Bool.{Bool, true, _&&_, cond}
+use mathlib.Core.Bool.{Bool, _&&_, cond}
 use mathlib.Core.List.{List}
-use Prim.Native.Nat.{ℕ, zero, suc, _+_, _*_, _-_}
+use Prim.Native.Nat.{ℕ, _+_, _*_, _-_}
 use lib.Dec.{ltb, leb, eqb}
 use lib.ListN.{length}
 use lib.Ieee.{Float}
+use Rattle.base.specs.Loops.{every}
 use Rattle.base.specs.Answers.{andThen}
 use Rattle.base.specs.declared.refusal.Refusal.the-variants.{ShortStore, Unsound, NoPlace, Vacant, NoLayer}
 use Rattle.base.specs.declared.refusal.Checked.{Checked}
 use Rattle.base.specs.declared.refusal.Checked.the-variants.{Passed, Failed}
 use Rattle.mesh.specs.Checks.{vertexLimit, faceLimit, allBelow}
 use Rattle.layout.specs.Layout.{placeLimit, pieceLimit, coordsFrom, cornersFrom, cornersOf, vertsOf, facesOf, statusOf, finishedOf, doneOf, layerLimit, layerOf}
-
--- each number below n passes
-unfoldable pub every : (ℕ → Bool) → ℕ → Bool
-every test zero = true
-every test (suc n) = every test n && test n
 
 -- "both lengths suffice"; a run of under 130 words is too short for any F, so also for the 0 that is read past its end
 unfoldable pub longEnough : ℕ → List Float → List ℕ → Bool

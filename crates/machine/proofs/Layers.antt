@@ -10,13 +10,13 @@ use native.Mathlib.Omega.{arith}
 use lib.ListN.{length, take, drop, getD, set, replicate, length-append, length-drop, length-map, drop-of-length-le, List·getD-map}
 use lib.Seq.{set-getD, take-suc, drop-cons, take-all, set-at, getD-at, length-take-le}
 use lib.Dec.{eqb}
+use Rattle.base.specs.Loops.{every}
+use Rattle.base.specs.LoopLaws.{every-at}
 use Rattle.kernel.specs.declared.kernel.Kernel.{Kernel}
 use Rattle.pieces.specs.declared.pieces.Pieces.{Pieces}
 use Rattle.layout.specs.Runs.{write}
 use Rattle.layout.specs.Layout.{layerOf}
 use Rattle.layout.specs.Layers.{inSet, hiding, inLayers}
-use Rattle.layout.specs.Soundness.{every}
-use Rattle.layout.specs.SoundLaws.{every-at}
 use Rattle.machine.specs.Machine.{Mesh, Place, empty, full, among, seenPlace, seenPlaces}
 use Rattle.machine.specs.Holding.{placeRow, wordsOf}
 use Rattle.machine.specs.Fresh.{kernelOf, kernelsOf}

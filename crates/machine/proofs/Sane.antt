@@ -9,10 +9,11 @@ use lib.ListN.{length, getD}
 use lib.Dec.{ltb, leb, eqb}
 use lib.Ieee.{Float}
 use borrow.Author.Tests.{lt-ltb, le-leb, eq-eqb, ne-eqb, eqb-true, eqb-false}
+use Rattle.base.specs.Loops.{every}
 use Rattle.base.specs.declared.refusal.Checked.the-variants.{Passed}
 use Rattle.mesh.specs.Checks.{vertexLimit, faceLimit}
 use Rattle.layout.specs.Layout.{coordsFrom, cornersFrom, facesOf}
-use Rattle.layout.specs.Soundness.{every, longEnough, placeSound, layerSound, placeSoundAt, sound, storeCheck}
+use Rattle.layout.specs.Soundness.{longEnough, placeSound, layerSound, placeSoundAt, sound, storeCheck}
 use Rattle.machine.specs.Machine.{Mesh, Place, empty, full}
 use Rattle.machine.specs.Holding.{placeRow, wordsOf}
 use Rattle.machine.specs.Valid.{Within, Valid}

@@ -10,11 +10,13 @@ use lib.IntN.{pos}
 use lib.Ieee.{Float, nan, inf, fin, binary64, up, down, lt, eq, add, sub, ofBits, ofInt, round, toUnsigned, fits}
 use lib.Ieee.Fits.{down-pos, and-l, and-r, round-fits}
 use lib.Ieee.Back.{round-whole, whole-unique}
+use Rattle.base.specs.Loops.{every}
+use Rattle.base.specs.LoopLaws.{every-at}
 use Rattle.base.specs.Floats.{_⊕_, _⊖_, bits, sign, abs, whole}
 use Rattle.base.specs.Constants.{twentyThree}
 use Rattle.powers.specs.Exp.{cut}
 use Rattle.powers.specs.Power.{smallWhole}
-use Rattle.powers.specs.TenLaws.{every, each, small-value}
+use Rattle.powers.specs.TenLaws.{small-value}
 
 -- k is none of the numbers below n; then it is past them
 abbrev pub NoneBelow : ℕ → ℕ → Type 0
@@ -85,13 +87,16 @@ shift = bits 0x4338_0000_0000_0000
 abbrev stays : Bool → ℕ → Bool
 stays s k = eq (round binary64 s k 1 ⊕ shift ⊖ shift) (round binary64 s k 1)
 
-all-stay : T (every (λ k. stays true k && stays false k) 23)
-unfolding eq add sub ofBits round
-all-stay = tt
+all-stay : every (λ k. stays true k && stays false k) 23 ≡ true
+unfolding every eq add sub ofBits round
+all-stay = refl
 
 stay : (s : Bool) (k : ℕ) → k ≤ 22 → T (stays s k)
-stay true k l = and-l (stays true k) (stays false k) (each (λ i. stays true i && stays false i) 23 k all-stay (omega arith))
-stay false k l = and-r (stays true k) (stays false k) (each (λ i. stays true i && stays false i) 23 k all-stay (omega arith))
+stay s k l = go s (subst T (sym (every-at (λ i. stays true i && stays false i) 23 k (omega arith) all-stay)) tt)
+  where
+    go : (s : Bool) → T (stays true k && stays false k) → T (stays s k)
+    go true h = and-l (stays true k) (stays false k) h
+    go false h = and-r (stays true k) (stays false k) h
 
 -- what is not itself after the sum is no such whole number
 pub has-digits : (y : Float) → T (fits binary64 y) → eq (y ⊕ shift ⊖ shift) y ≡ false → smallWhole y ≡ false

@@ -17,25 +17,14 @@ use lib.Ieee.Exact.{HasValue}
 use lib.Ieee.Back.{round-whole}
 use lib.Ieee.Positive.{first-pos}
 use lib.Ieee.Scale.{round-same}
+use Rattle.base.specs.Loops.{every}
+use Rattle.base.specs.LoopLaws.{every-at}
 use Rattle.base.specs.Floats.{_⊘_, decimal, +0, sign, abs, unitsIn}
 use Rattle.base.specs.Constants.{one, one-is}
 use Rattle.base.specs.UnitLaws.{units-of, shift-of, units-is, unique}
 use Rattle.root.specs.Nearest.{plain}
 use Rattle.powers.specs.Exp.{cut}
 use Rattle.powers.specs.Power.{tenSteps, wholeTen, smallWhole, tenTo}
-
--- ---- one computed test of every number below n is a test of each
-abbrev pub every : (ℕ → Bool) → ℕ → Bool
-every f zero = true
-every f (suc n) = f n && every f n
-
-pub each : (f : ℕ → Bool) (n k : ℕ) → T (every f n) → k < n → T (f k)
-each f zero k t h = absurd (omega (arith, h))
-each f (suc n) k t h = go (each f n k (and-r (f n) (every f n) t)) (decLt k n)
-  where
-    go : (k < n → T (f k)) → Dec (k < n) → T (f k)
-    go r (yes l) = r l
-    go r (no l) = let e : n ≡ k = omega arith in subst (λ (i : ℕ). T (f i)) e (and-l (f n) (every f n) t)
 
 -- ---- the floats 10^k are exact
 
@@ -52,13 +41,14 @@ value-of (inf s) a c t = absurd t
 value-of (fin true m e) a c t = absurd t
 value-of (fin false m e) a c t = (refl, eqb→eq (m * up e * c) (a * down e) t)
 
-all-exact : T (every (λ k. isFraction (wholeTen k) (10 ^ k) 1) 23)
-unfolding wholeTen ofInt round
-all-exact = tt
+-- one computed test of every such k is a test of each
+all-exact : every (λ k. isFraction (wholeTen k) (10 ^ k) 1) 23 ≡ true
+unfolding every wholeTen ofInt round
+all-exact = refl
 
 -- "the float 10^y, which is exact"
 pub ten-exact : (k : ℕ) → k ≤ 22 → HasValue (wholeTen k) false (10 ^ k) 1
-ten-exact k h = value-of (wholeTen k) (10 ^ k) 1 (each (λ i. isFraction (wholeTen i) (10 ^ i) 1) 23 k all-exact (omega arith))
+ten-exact k h = value-of (wholeTen k) (10 ^ k) 1 (subst T (sym (every-at (λ i. isFraction (wholeTen i) (10 ^ i) 1) 23 k (omega arith) all-exact)) tt)
 
 -- ---- y is whole: its part before the point, and the test
 module _ (s : Bool) (m : ℕ) (e : ℤ) (k : ℕ) where
@@ -195,9 +185,9 @@ last x = toBits binary64 x / 2 ^ 52 - 1
 abbrev isClose : ℕ → Float → Bool
 isClose k x = isFraction x (digits x * 2 ^ last x) (2 ^ 1074) && (ltb (2 ^ 52) (digits x) && ltb (2 * far k x) (2 ^ last x * 10 ^ k))
 
-all-close : T (every (λ k. isClose (suc k) (decimal 1 (suc k))) 22)
-unfolding unitsIn toBits round
-all-close = tt
+all-close : every (λ k. isClose (suc k) (decimal 1 (suc k))) 22 ≡ true
+unfolding every unitsIn toBits round
+all-close = refl
 
 -- another number of up to 53 digits, whatever the place of its last, is at least a unit of q's last place away
 unit-off : (q j p i : ℕ) → 2 ^ 52 < q → p < 2 ^ 53 → (p * 2 ^ i ≡ q * 2 ^ j → ⊥) → (q * 2 ^ j + 2 ^ j ≤ p * 2 ^ i) ⊎ (p * 2 ^ i + 2 ^ j ≤ q * 2 ^ j)
@@ -269,4 +259,4 @@ pub ten-nearest : (y : Float) (k : ℕ) → HasValue y true k 1 → 0 < k → k 
 ten-nearest y zero v p l z f g d = absurd (lt-irrefl 0 p)
 ten-nearest y (suc k) v p l z f g d =
     let e = ten-minus y (suc k) v l in
-    rw e (nearest (suc k) (decimal 1 (suc k)) z (each (λ i. isClose (suc i) (decimal 1 (suc i))) 22 k all-close (omega arith)) (round-fits binary64 false 1 (10 ^ suc k)) f g (λ h. d (h ∙ sym e)))
+    rw e (nearest (suc k) (decimal 1 (suc k)) z (subst T (sym (every-at (λ i. isClose (suc i) (decimal 1 (suc i))) 22 k (omega arith) all-close)) tt) (round-fits binary64 false 1 (10 ^ suc k)) f g (λ h. d (h ∙ sym e)))

@@ -1,7 +1,7 @@
 -- "Before an opening the store is all zeros, which is sound": it is what an opening of no vertices and faces with radius +0 leaves. Assumes nothing.
 use mathlib.Core.Path.{_≡_, refl, sym, ap, _∙_}
 use mathlib.Core.List.{List, [], _∷_, _++_, append-nil}
-use mathlib.Core.Bool.{Bool, true, false, _&&_, cond}
+use mathlib.Core.Bool.{Bool, true, false, cond}
 use Prim.Native.Nat.{ℕ, zero, suc, _+_, _-_, _*_, _≤_}
 use native.Mathlib.Omega.{arith}
 use lib.Dec.{ltb, lit≤}
@@ -9,12 +9,13 @@ use lib.ListN.{getD, replicate, length-replicate, replicate-append-replicate}
 use lib.Seq.{drop-append-seam}
 use borrow.Author.Tests.{le-leb}
 use Rattle.base.specs.Floats.{+0}
+use Rattle.base.specs.LoopLaws.{every-all}
 use Rattle.base.specs.Answers.{counted}
 use Rattle.base.specs.declared.refusal.Checked.the-variants.{Passed}
 use Rattle.layout.specs.Runs.{write}
 use Rattle.mesh.specs.Checks.{meshCheck, allBelow}
 use Rattle.layout.specs.Layout.{placeLimit, width, coordsFrom, cornersFrom, layerOf}
-use Rattle.layout.specs.Soundness.{every, longEnough, placeSound, layerSound, placeSoundAt, sound, storeCheck}
+use Rattle.layout.specs.Soundness.{longEnough, placeSound, layerSound, placeSoundAt, sound, storeCheck}
 use Rattle.layout.specs.After.{after}
 use Rattle.store.specs.Calls.{openCheck, openFloats, openWords, openStep}
 use Rattle.program.specs.Bench.{atFirst}
@@ -38,11 +39,6 @@ layer-zero q b i = go (ltb 3 q)
     go true = word-zero b (5 + q * i)
     go false = refl
 
-every-true : (test : ℕ → Bool) (n : ℕ) → ((k : ℕ) → test k ≡ true) → every test n ≡ true
-unfolding every
-every-true test zero h = refl
-every-true test (suc n) h = (λ i. every-true test n h i && h n i)
-
 -- runs of a floats and b words, q of these to a place
 module _ (q a b : ℕ) (long : coordsFrom ≤ a) (wide : cornersFrom q ≤ b) where
   pub zeros-opened : openStep q (replicate a +0) (replicate b 0) +0 [] [] ≡ after (counted (0 ∷ 0 ∷ [])) (replicate a +0) (replicate b 0)
@@ -62,7 +58,7 @@ module _ (q a b : ℕ) (long : coordsFrom ≤ a) (wide : cornersFrom q ≤ b) wh
   zeros-sound =
       let s : (i : ℕ) → placeSoundAt q (replicate b 0) i ≡ true =
       λ i. rw (word-zero b (2 + q * i), word-zero b (3 + q * i), word-zero b (4 + q * i), layer-zero q b i) in
-      rw (every-true (placeSoundAt q (replicate b 0)) placeLimit s, word-zero b 0, word-zero b 1, length-replicate a +0, length-replicate {A = ℕ} b 0, le-leb coordsFrom a long, le-leb (cornersFrom q + 0) b (omega arith))
+      rw (every-all (placeSoundAt q (replicate b 0)) placeLimit (λ k l. s k), word-zero b 0, word-zero b 1, length-replicate a +0, length-replicate {A = ℕ} b 0, le-leb coordsFrom a long, le-leb (cornersFrom q + 0) b (omega arith))
 
 -- ---- the program's first store
 pub first-opened : openStep width (atFirst .floats) (atFirst .words) +0 [] [] ≡ after (counted (0 ∷ 0 ∷ [])) (atFirst .floats) (atFirst .words)

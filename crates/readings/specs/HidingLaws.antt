@@ -8,12 +8,14 @@ use lib.Dec.{ltb, leb}
 use lib.ListN.{length, getD, drop}
 use lib.Ieee.{Float}
 use borrow.Author.Tests.{ltb-true}
+use Rattle.base.specs.Loops.{every}
+use Rattle.base.specs.LoopLaws.{every-at, every-all}
 use Rattle.base.specs.declared.refusal.Refusal.the-variants.{ShortStore, Unsound}
 use Rattle.base.specs.declared.refusal.Checked.the-variants.{Passed, Failed}
 use Rattle.mesh.specs.Checks.{vertexLimit, faceLimit, allBelow}
 use Rattle.layout.specs.Layout.{placeLimit, layerLimit, stateFrom, cornersFrom, cornersOf, vertsOf, facesOf, statusOf, finishedOf, doneOf, layerOf}
-use Rattle.layout.specs.Soundness.{every, longEnough, placeSound, layerSound, placeSoundAt, sound, storeCheck}
-use Rattle.layout.specs.SoundLaws.{Ready, Worded, both, every-at}
+use Rattle.layout.specs.Soundness.{longEnough, placeSound, layerSound, placeSoundAt, sound, storeCheck}
+use Rattle.layout.specs.SoundLaws.{Ready, Worded, both}
 use Rattle.layout.specs.Layers.{hiding}
 use Rattle.layout.specs.LayerLaws.{hiding-length, hiding-head, hiding-rest, hiding-at}
 
@@ -81,11 +83,6 @@ module _ (q : ℕ) (test : ℕ → Bool) (ws : List ℕ) (long : cornersFrom q �
       low l false h = omega arith
 
 -- ---- and the store is
-every-all : (test : ℕ → Bool) (n : ℕ) → ((i : ℕ) → i < n → test i ≡ true) → every test n ≡ true
-unfolding every
-every-all test zero h = refl
-every-all test (suc n) h = rw (every-all test n (λ i l. h i (omega arith)), h n (omega arith)) refl
-
 module _ (q : ℕ) (three : 3 ≤ q) (test : ℕ → Bool) (fs : List Float) (ws : List ℕ) (long : cornersFrom q ≤ length ws) where
   abbrev vs : List ℕ
   vs = hiding q test ws placeLimit

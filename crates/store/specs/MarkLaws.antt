@@ -13,8 +13,8 @@ use lib.Count.{ones, onesIn, ones-cat, ones-le}
 use lib.ListN.{length, getD, set, take, replicate, length-set, length-replicate, getD-replicate}
 use lib.Seq.{getD-set-same, getD-set-other, take-suc}
 use borrow.Author.Tests.{eq-eqb, ne-eqb, eqb-true, eqb-false}
-use Rattle.layout.specs.Soundness.{every}
-use Rattle.layout.specs.SoundLaws.{every-at}
+use Rattle.base.specs.Loops.{every}
+use Rattle.base.specs.LoopLaws.{every-at}
 use Rattle.store.specs.Squeeze.{used, rank}
 use Rattle.store.specs.Marks.{wordLimit, digit, Marked, onesTo, Ranked, Below, numberOf}
 

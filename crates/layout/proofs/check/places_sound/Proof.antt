@@ -4,9 +4,10 @@ use mathlib.Core.Bool.{true}
 use Prim.Native.Nat.{_-_, _≤_}
 use native.Mathlib.Numerals.{add-one}
 use native.Mathlib.Omega.{arith}
+use Rattle.base.specs.Loops.{every}
+use Rattle.base.specs.LoopLaws.{every-not}
 use Rattle.layout.specs.Layout.{width}
-use Rattle.layout.specs.Soundness.{every, placeSoundAt}
-use Rattle.layout.specs.SoundLaws.{every-not}
+use Rattle.layout.specs.Soundness.{placeSoundAt}
 use borrow.Author.Tests.{not-true, not-false}
 use borrow.Author.Needs.{needs}
 use Rattle.layout.proofs.check.places_sound.Statement.{statement}
