@@ -6,5 +6,6 @@ pub mod Left
 pub mod LeftLaws
 pub mod Runs
 pub mod RunLaws
+pub mod HidingLaws
 pub mod LayerLaws
 pub mod After

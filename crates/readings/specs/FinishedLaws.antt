@@ -18,12 +18,12 @@ use Rattle.layout.specs.Soundness.{storeCheck}
 use Rattle.layout.specs.SoundLaws.{Worded}
 use Rattle.layout.specs.Left.{held}
 use Rattle.layout.specs.Layers.{inSet, layersCheck, inLayers}
-use Rattle.layout.specs.LayerLaws.{seen-length, seen-verts, seen-faces, seen-corners, seen-status, seen-finished, front-status, front-worded}
+use Rattle.layout.specs.HidingLaws.{hid-verts, hid-faces, hid-corners, hid-status, hid-finished, hid-worded}
+use Rattle.layout.specs.LayerLaws.{seen-length, seen-verts, seen-faces, seen-corners, seen-status, front-status, front-worded}
 use Rattle.readings.specs.Readings.{Seen, report, answerOf, seenBy, heldAll, heldFilled, heldWorst, heldSeen}
 use Rattle.readings.specs.Finished.{completeAt, completeIn, passedOver, beside, finishedStep}
 use Rattle.readings.specs.Seeing.{shown, seenPlaces}
 use Rattle.readings.specs.SeenLaws.{same-held, same-filled, same-worst}
-use Rattle.readings.specs.HidingLaws.{hid-verts, hid-faces, hid-corners, hid-status, hid-finished, hid-worded}
 
 -- where some places are emptied, no more are filled
 pub fewer-filled : (q : ℕ) (us ws : List ℕ) (test : ℕ → Bool) (k : ℕ) → ((i : ℕ) → i < k → statusOf q us i ≡ cond (test i) (statusOf q ws i) 0)

@@ -11,7 +11,6 @@ pub mod Seeing
 pub mod ReadLaws
 pub mod SeenLaws
 pub mod Layered
-pub mod HidingLaws
 pub mod FinishedLaws
 pub mod Partial
 pub mod ReportAnswer

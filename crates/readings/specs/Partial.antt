@@ -23,12 +23,12 @@ use Rattle.layout.specs.SoundLaws.{Ready, Worded, fine}
 use Rattle.layout.specs.Left.{leftAt, leftOf}
 use Rattle.layout.specs.LeftLaws.{left-none}
 use Rattle.layout.specs.Layers.{inSet, allLayers, layersCheck, inLayers}
-use Rattle.layout.specs.LayerLaws.{seen-length, seen-faces, seen-status, seen-finished, seen-worded}
+use Rattle.layout.specs.HidingLaws.{hid-sound}
+use Rattle.layout.specs.LayerLaws.{seen-faces, seen-status, seen-finished, seen-worded}
 use Rattle.readings.specs.Readings.{Seen, report, answerOf, heldFilled, heldSeen, readStep}
 use Rattle.readings.specs.Finished.{completeAt, completeIn, passedOver, beside, finishedStep}
 use Rattle.readings.specs.SeenLaws.{same-held, same-filled, same-worst, seen-body}
 use Rattle.readings.specs.Layered.{reads-as-before}
-use Rattle.readings.specs.HidingLaws.{hid-sound}
 use Rattle.readings.specs.FinishedLaws.{long-seen, complete-faces, complete-body, complete-status, complete-finished}
 
 -- ---- work left, place by place

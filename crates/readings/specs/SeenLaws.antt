@@ -17,7 +17,8 @@ use Rattle.layout.specs.Left.{held, leftOf}
 use Rattle.layout.specs.Runs.{write}
 use Rattle.layout.specs.RunLaws.{length-write}
 use Rattle.layout.specs.Layers.{hiding, inLayers}
-use Rattle.layout.specs.LayerLaws.{seen-verts, seen-faces, seen-corners, seen-worded, front-status, front-worded, front-left, shown-next, hidden-next}
+use Rattle.layout.specs.HidingLaws.{shown-next, hidden-next}
+use Rattle.layout.specs.LayerLaws.{seen-verts, seen-faces, seen-corners, seen-worded, front-status, front-worded, front-left}
 use Rattle.readings.specs.Readings.{Reading, needsWork, answerOf, guardedRead, seenBy, heldAll, heldFilled, heldWorst, heldSeen, readStep}
 use Rattle.readings.specs.Checks.{readCheck}
 use Rattle.readings.specs.Seeing.{shown, seenPlaces}
