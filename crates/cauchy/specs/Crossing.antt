@@ -50,6 +50,10 @@ crossedKernel k default = fromFile (k .c, k .sigma) (k .w) (exponentOf (k .given
 abbrev pub fitCrossed : Fit → CauchyFit
 fitCrossed f = record { kind = kindOf f; column = columnOf f; pivot = pivotOf f }
 
+-- beside a refusal
+abbrev pub noFit : CauchyFit
+noFit = record { kind = 0; column = 0; pivot = +0 }
+
 -- and as an answer carries it: kind and column from count i on, the pivot at float j
 abbrev pub fitFrom : ℕ → ℕ → Answer → CauchyFit
 fitFrom i j a = record { kind = getD (a .counts) i 0; column = getD (a .counts) (i + 1) 0; pivot = getD (a .floats) j +0 }

@@ -4,7 +4,7 @@ ghost use mathlib.Core.Path.{_≡_};
 ghost use Rattle.solve.specs.Solve.{solution, solvedAs};
 ghost use Rattle.pieces.specs.Kernels.{decomposition, decomposedAs};
 ghost use Rattle.pieces.specs.Lists.{listDecomposition, listedAs};
-ghost use Rattle.cauchy.specs.Crossing.{lent, lentFrom, solvedFrom, exponentOf, crossedKernel, fitCrossed, piecesFrom, listPiecesFrom};
+ghost use Rattle.cauchy.specs.Crossing.{lent, lentFrom, solvedFrom, exponentOf, crossedKernel, fitCrossed, noFit, piecesFrom, listPiecesFrom};
 use base::refusal::Refusal;
 use base::refusal::refusal_number;
 use kernel::file::Exponent;
@@ -148,6 +148,17 @@ pub fn fit_of(f: Fit) -> CauchyFit
     }
 }
 
+// The fit of a call that is refused.
+pub fn no_fit() -> CauchyFit
+    ensures { λ r. ⌜ r ≡ noFit ⌝ }
+{
+    CauchyFit {
+        kind: 0,
+        column: 0,
+        pivot: 0.0,
+    }
+}
+
 fn pieces_of(d: Decomposed) -> CauchyPieces
     ensures { λ r. ⌜ r ≡ piecesFrom (decomposedAs d) ⌝ }
 {
@@ -158,16 +169,15 @@ fn pieces_of(d: Decomposed) -> CauchyPieces
             error: e,
             fit: fit_of(f),
         },
-        Decomposed::Refused(r) => CauchyPieces {
-            no: refusal_number(r),
-            pieces: 0,
-            error: 0.0,
-            fit: CauchyFit {
-                kind: 0,
-                column: 0,
-                pivot: 0.0,
-            },
-        },
+        Decomposed::Refused(r) => {
+            let fit = no_fit();
+            CauchyPieces {
+                no: refusal_number(r),
+                pieces: 0,
+                error: 0.0,
+                fit,
+            }
+        }
     }
 }
 

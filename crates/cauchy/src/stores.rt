@@ -31,6 +31,7 @@ ghost use Rattle.cauchy.specs.Crossing.{lent, lentFrom, numberFrom};
 ghost use Rattle.cauchy.specs.StoreCrossing.{crossed, across, openedFrom, placedFrom, stepsFrom, squeezedFrom, conventionOf, reportFrom, finishedFrom, listedFrom, trackFrom, bytesFrom, pinnedFrom};
 use crate::kernels::CauchyFit;
 use crate::kernels::fit_of;
+use crate::kernels::no_fit;
 use crate::volumes::CauchyValue;
 use crate::volumes::no_report;
 use crate::volumes::value_of;
@@ -136,16 +137,15 @@ fn placed_of(p: Placed) -> CauchyPlaced
             need,
             fit: fit_of(f),
         },
-        Placed::Refused(r) => CauchyPlaced {
-            no: refusal_number(r),
-            pieces: 0,
-            need: 0,
-            fit: CauchyFit {
-                kind: 0,
-                column: 0,
-                pivot: 0.0,
-            },
-        },
+        Placed::Refused(r) => {
+            let fit = no_fit();
+            CauchyPlaced {
+                no: refusal_number(r),
+                pieces: 0,
+                need: 0,
+                fit,
+            }
+        }
     }
 }
 

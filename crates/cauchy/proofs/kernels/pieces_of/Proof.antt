@@ -11,6 +11,7 @@ pieces-of-spec =
     (λ c. search needs)
     (λ c κs. search needs)
     (λ c. search needs)
+    (λ c. search needs)
     (λ c κs. search needs)
     (λ c. rw (c .before .before .d .given .1, c .fit-of .ensures) refl)
-    (λ c. rw (c .before .before .d2 .given .1, c .refusal-number .ensures) refl))
+    (λ c. rw (c .before .before .before .d2 .given .1, c .before .no-fit .ensures, c .refusal-number .ensures) refl))
