@@ -34,8 +34,8 @@ from .meshes import body_volume, closed, field_mass, homogeneous, kernel_volume,
 from .numbers import arc, exp, log, log10, power, radial_g, root, ten
 from .refusals import (
     REFUSALS, BadKernelLine, BadMatrix, BadTrack, Exponent, FlatPivot, FloatStateError, LoadersDiffer, LooseCorner,
-    ManyKernels, NoFigure, NoLayer, NoPlace, NotClosed, Oversize, Ragged, Refused, ShortList, ShortPage, ShortStore, Unfinished,
-    UnknownRefusal, Unsound, Vacant, check_float_state,
+    ManyKernels, NoFigure, NoLayer, NoPlace, NotClosed, Oversize, Ragged, Refused, ShortList, ShortPage, ShortStore,
+    Unfinished, UnknownRefusal, Unsound, Vacant, check_float_state,
 )
 from .snapshot import SnapshotError
 from .source import (

@@ -6,8 +6,8 @@ from . import arrays
 from .library import CauchyFileKernel, MAX_PIECES, SHORTEST_LINE, ask, call
 from .refusals import BadMatrix, FlatPivot, check
 from .values import (
-    Bill, Kernel, KernelList, Loader, Pieces, Solution, answered_fit, answered_kernel, crossing_kernel, crossing_loader, kernel_run, listed,
-    vector,
+    Bill, Kernel, KernelList, Loader, Pieces, Solution, answered_fit, answered_kernel, crossing_kernel,
+    crossing_loader, kernel_run, listed, vector,
 )
 
 

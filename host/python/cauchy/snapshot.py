@@ -18,8 +18,8 @@ _CHECKSUM = struct.Struct("<Q")
 
 class SnapshotError(ValueError):
     """Bytes were not taken as a snapshot. `fault` says why: "foreign" (they do not begin as one), "older" (they are
-    one of the form before layers), "length" (they are fewer or more than their counts say), "checksum" (it does not fit), or "refused" (they are whole, but hold no
-    store; the refusal is the `__cause__`).
+    one of the form before layers), "length" (they are fewer or more than their counts say), "checksum" (it does not
+    fit), or "refused" (they are whole, but hold no store; the refusal is the `__cause__`).
 
     >>> Store.from_bytes(b"v 0 0 0")
     Traceback (most recent call last):

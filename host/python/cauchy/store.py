@@ -7,7 +7,7 @@ from .library import (
     ALL_LAYERS, FLOATS_BEFORE_MESH, LAYERS, MAX_PIECES, MAX_TRACK, PAGE_LINE, PLACES, WORDS_BEFORE_MESH, call,
 )
 from .memory import Runs
-from .refusals import NoLayer, NoPlace, Refused, Unsound, check_float_state
+from .refusals import NoPlace, Refused, Unsound, check_float_state
 from .turns import Turns
 from .values import (
     Convention, Held, Kernel, Placed, Steps, StoreReport, answered_fit, crossing_convention, crossing_kernel, listed,
@@ -154,7 +154,7 @@ class Store:
             done, left = done + told.done, told.left
             yield Steps(done, left)
 
-    # ---- Readings. Each sees only the places in `layers`, a collection of numbers from 0 to 15; all where it is None --
+    # ---- Readings. Each sees only the places in `layers`, a collection of numbers from 0 to 15; all where it is None -
 
     @overload
     def density(self, convention: Convention, point: Tuple[float, float, float], layers: Layers = None) -> float:
@@ -268,10 +268,10 @@ class Store:
         return listed(out, answer.pieces)
 
     def page(self) -> str:
-        """The wall page, of every layer: a line of 64 characters for each filled place, in order, with its number in columns 1-2, its
-        pieces in 4-5 and its own field mass in 45-64, by the weight as entered and in whole kilograms, to the nearest
-        and ties to even; then a line with TOTAL and the sum of the printed masses. Each line ends in a newline. It
-        needs all work done, and no mass that is NaN or exceeds 10^15 kg.
+        """The wall page, of every layer: a line of 64 characters for each filled place, in order, with its number in
+        columns 1-2, its pieces in 4-5 and its own field mass in 45-64, by the weight as entered and in whole kilograms,
+        to the nearest and ties to even; then a line with TOTAL and the sum of the printed masses. Each line ends in a
+        newline. It needs all work done, and no mass that is NaN or exceeds 10^15 kg.
 
         >>> store = Store(6, [0, 0, 0, 6, 0, 0, 0, 6, 0, 0, 0, 6], [0, 2, 1, 0, 1, 3, 0, 3, 2, 1, 2, 3])
         >>> store.put(7, Kernel((1, 1, 1), 0, 1000, 1)).need, store.put(12, Kernel((1, 1, 1), 0, -1, 1)).need
@@ -431,11 +431,9 @@ def _place(place: int) -> int:
 
 
 def _layer(layer: int) -> int:
-    """A layer as C takes it, by the same reasoning."""
+    """A layer as C takes it: any that there is not is the first one past the last, and C refuses it in its turn."""
     which = arrays.whole(layer, "layer")
-    if not 0 <= which < LAYERS:
-        raise NoLayer()
-    return which
+    return which if 0 <= which < LAYERS else LAYERS
 
 
 def _layers(layers: Layers) -> int:

@@ -368,6 +368,20 @@ class Refusals(unittest.TestCase):
         unseen = {cauchy.ShortStore, cauchy.Unsound, cauchy.ShortPage}
         self.assertEqual(set(cauchy.REFUSALS.values()) - set(told), unseen)
 
+    def test_in_the_library_s_order(self):
+        store, kernel = Store(500, *sphere(0)), Kernel((0, 0, 0), 1, 2, 1)
+        store.put(0, kernel)
+        for layer in (-1, 16, 2**40):
+            with self.subTest(layer=layer):
+                with self.assertRaises(cauchy.NoPlace):
+                    store.put(32, kernel, layer)
+                with self.assertRaises(cauchy.NoLayer):
+                    store.put(0, kernel, layer)
+                with self.assertRaises(cauchy.NoLayer):
+                    store.report(RAW, layers=[0, layer])
+        with self.assertRaises(cauchy.Unfinished):
+            store.report(RAW, layers=[0])
+
 
 def released():
     view = memoryview(bytearray(8))
