@@ -14,9 +14,10 @@
  *   store        floats and words: the store itself, which has no memory elsewhere
  * A run that a call only reads is const.
  *
- * Layers. A set of layers is a uint32_t, bit l for layer l: (1u << 2 | 1u << 5) is layers 2 and 5, CAUCHY_ALL_LAYERS all sixteen.
- * A bit from 16 on names a layer that there is not (16). A reading sees only the places whose layer is in its set, as if
- * all others were empty; the volume is that of the whole mesh. The set of no layer is good: nothing is seen.
+ * Layers. A set of layers is a uint32_t, bit l for layer l: (1u << 2 | 1u << 5) is layers 2 and 5,
+ * CAUCHY_ALL_LAYERS all sixteen. A bit from 16 on names a layer that there is not (16). A reading sees only the
+ * places whose layer is in its set, as if all others were empty; the volume is that of the whole mesh. The set
+ * of no layer is good: nothing is seen.
  *
  * Answers. The first field, `no`, is 0 where the call is accepted, else the number of the refusal. The
  * numbers before a declaration are the refusals that it may answer: the first of those listed that applies
@@ -334,11 +335,12 @@ CauchyTrack cauchy_store_track(const double *floats, size_t n_floats, const uint
                                CauchyConvention convention, uint32_t layers, const double *points, size_t n_points,
                                double *out, size_t n_out);
 
-/* Writes the wall page, of every layer; bytes past it stay. Each filled place has a line, in order: its number in columns 1-2, its
- * pieces in 4-5 and its own field mass in 45-64, by the weight as entered and in whole kilograms, to the nearest and
- * ties to even. All are right-aligned, with spaces elsewhere; a mass below 0 has a minus sign, and zero is 0. A last
- * line has TOTAL in columns 1-5 and the sum of the printed masses in 45-64. CAUCHY_PAGE_BYTES tells the length; that of
- * CAUCHY_PLACES is enough for any store.                              4 5 8 17 18; 8 while any work is left */
+/* Writes the wall page, of every layer; bytes past it stay. Each filled place has a line, in order: its number in
+ * columns 1-2, its pieces in 4-5 and its own field mass in 45-64, by the weight as entered and in whole kilograms,
+ * to the nearest and ties to even. All are right-aligned, with spaces elsewhere; a mass below 0 has a minus sign,
+ * and zero is 0. A last line has TOTAL in columns 1-5 and the sum of the printed masses in 45-64.
+ * CAUCHY_PAGE_BYTES tells the length; that of CAUCHY_PLACES is enough for any store.
+ *                                                             4 5 8 17 18; 8 while any work is left */
 CAUCHY_MUST_USE
 CauchyBytes cauchy_store_page(const double *floats, size_t n_floats, const uint32_t *words, size_t n_words,
                               uint8_t *page, size_t n_page);
@@ -367,7 +369,8 @@ CauchyPieces cauchy_decompose(CauchyKernel kernel, double radius, double *out, s
 /* Writes the pieces of all kernels of a list, in its order. 96 doubles for each kernel are always enough, and
  * spare the fits that count the pieces of a shorter run first.                                       9 */
 CAUCHY_MUST_USE
-CauchyListPieces cauchy_decompose_list(const double *kernels, size_t n_kernels, double radius, double *out, size_t n_out);
+CauchyListPieces cauchy_decompose_list(const double *kernels, size_t n_kernels, double radius, double *out,
+                                       size_t n_out);
 
 /* The bill before the work: what up to 32 kernels take on a mesh of so many vertices and faces, whatever its
  * radius. Puts of them charge at most so many steps, and a list of them needs at most so many doubles. Nothing
@@ -434,14 +437,15 @@ CauchyValue cauchy_source_enclosed_volume(const double *xyz, size_t n_xyz, const
 /* Writes a kernel list rescaled to a target mass inside the mesh.                           1 2 3 9 12 */
 CAUCHY_MUST_USE
 CauchyKernels cauchy_source_normalize(const double *xyz, size_t n_xyz, const uint32_t *faces, size_t n_faces,
-                                      const double *kernels, size_t n_kernels, double target, double *out, size_t n_out);
+                                      const double *kernels, size_t n_kernels, double target, double *out,
+                                      size_t n_out);
 
 /* Writes a kernel list stretched with its mesh and brought to its mass: `mean` density [kg/m^3] times the
  * mesh's volume, or `total` [kg] where `given` is 0.                                        1 2 3 9 12 */
 CAUCHY_MUST_USE
 CauchyKernels cauchy_source_calibrate(const double *xyz, size_t n_xyz, const uint32_t *faces, size_t n_faces,
-                                      const double *kernels, size_t n_kernels, double total, double mean, uint32_t given,
-                                      double *out, size_t n_out);
+                                      const double *kernels, size_t n_kernels, double total, double mean,
+                                      uint32_t given, double *out, size_t n_out);
 
 /* ---- Roots and powers of 01, and its radial factor, never refused --------------------------------- */
 
@@ -450,7 +454,7 @@ double cauchy_arc(double t);             /* arc tangent */
 double cauchy_log(double b);             /* logarithm to base 2 */
 double cauchy_exp(double y);             /* 2 to the power y */
 double cauchy_power(double b, double y); /* b to the power y */
-double cauchy_ten(double y);             /* 10 to the power y; of whole y from 0 to 22 exact, from -22 to -1 rounded once */
+double cauchy_ten(double y);             /* 10 to the power y; of a whole y from -22 to 22 rounded once */
 double cauchy_log10(double b);           /* logarithm to base 10 */
 double cauchy_radial_g(double t);        /* (t - arc(t)) / t^3, which is 1/3 at 0 */
 
