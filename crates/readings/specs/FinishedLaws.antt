@@ -22,7 +22,7 @@ use Rattle.layout.specs.HidingLaws.{hid-verts, hid-faces, hid-corners, hid-stat
 use Rattle.layout.specs.LayerLaws.{seen-length, seen-verts, seen-faces, seen-corners, seen-status, front-status, front-worded}
 use Rattle.readings.specs.Readings.{Seen, report, answerOf, seenBy, heldAll, heldFilled, heldWorst, heldSeen}
 use Rattle.readings.specs.Finished.{completeAt, completeIn, passedOver, beside, finishedStep}
-use Rattle.readings.specs.Seeing.{shown, seenPlaces}
+use Rattle.readings.specs.Seeing.{shown, showing}
 use Rattle.readings.specs.SeenLaws.{same-held, same-filled, same-worst}
 
 -- where some places are emptied, no more are filled
@@ -46,7 +46,7 @@ module _ (q : ℕ) (three : 3 ≤ q) (layers : ℕ) (ws : List ℕ) (long : corn
   C = completeIn q layers ws
 
   abbrev T : List ℕ
-  T = seenPlaces q layers true ws
+  T = showing q layers true ws
 
   pub long-seen : cornersFrom q ≤ length S
   long-seen = let n = seen-length q layers ws long in omega arith
@@ -81,7 +81,7 @@ module _ (q : ℕ) (three : 3 ≤ q) (layers : ℕ) (ws : List ℕ) (long : corn
 
   -- both tests at once show the same places
   at-once : (i : ℕ) → i < 32 → statusOf q C i ≡ statusOf q (take (cornersFrom q) T) i
-  unfolding seenPlaces
+  unfolding showing
   at-once i h =
       complete-status i h
       ∙ (rw (seen-status q layers ws long three i h) (go (completeAt q ws i) (inSet layers (layerOf q ws i)) (statusOf q ws i))
@@ -105,21 +105,21 @@ module _ (q : ℕ) (three : 3 ≤ q) (layers : ℕ) (ws : List ℕ) (long : corn
       rw (complete-body fs, same-held q fs C t 32 at-once, same-filled q fs C t 32 at-once, same-worst q fs C t 32 at-once) refl
 
 -- the words that are covered are those of a store whose places are sound
-pub complete-ready : (layers : ℕ) (ws t : List ℕ) (m : ℕ) → t ≡ take (cornersFrom width) (seenPlaces width layers true ws) → Worded width ws m → Worded width t m
-unfolding seenPlaces
+pub complete-ready : (layers : ℕ) (ws t : List ℕ) (m : ℕ) → t ≡ take (cornersFrom width) (showing width layers true ws) → Worded width ws m → Worded width t m
+unfolding showing
 complete-ready layers ws t m e w =
     rw e
-    (front-worded width (omega arith) (seenPlaces width layers true ws) m
+    (front-worded width (omega arith) (showing width layers true ws) m
     (hid-worded width (λ i. shown width layers true ws i) ws (w .long) (omega arith) m w))
 
 -- ---- the call's two answers, and the subtraction that it makes
 module _ (fs : List Float) (ws : List ℕ) (layers : ℕ) where
-  pub covered-fewer : (s t : List ℕ) → cornersFrom width ≤ length ws → s ≡ take (cornersFrom width) (inLayers width layers ws) → t ≡ take (cornersFrom width) (seenPlaces width layers true ws)
+  pub covered-fewer : (s t : List ℕ) → cornersFrom width ≤ length ws → s ≡ take (cornersFrom width) (inLayers width layers ws) → t ≡ take (cornersFrom width) (showing width layers true ws)
       → heldFilled width t placeLimit ≤ heldFilled width s placeLimit
   covered-fewer s t long d e =
       rw (d, e, filled-at-once width (omega arith) layers ws long, filled-seen width (omega arith) layers ws long) (filled-complete width (omega arith) layers ws long)
 
-  pub passed-is : (s t : List ℕ) → cornersFrom width ≤ length ws → s ≡ take (cornersFrom width) (inLayers width layers ws) → t ≡ take (cornersFrom width) (seenPlaces width layers true ws)
+  pub passed-is : (s t : List ℕ) → cornersFrom width ≤ length ws → s ≡ take (cornersFrom width) (inLayers width layers ws) → t ≡ take (cornersFrom width) (showing width layers true ws)
       → heldFilled width s placeLimit - heldFilled width t placeLimit ≡ passedOver width layers ws
   unfolding passedOver
   passed-is s t long d e =
@@ -130,7 +130,7 @@ module _ (fs : List Float) (ws : List ℕ) (layers : ℕ) where
   finished-refused v r h = rw h refl
 
   pub finished-told : (v : Convention) → andThen (storeCheck width fs ws) (layersCheck layers) ≡ Passed → cornersFrom width ≤ length ws
-      → (t : List ℕ) → t ≡ take (cornersFrom width) (seenPlaces width layers true ws)
+      → (t : List ℕ) → t ≡ take (cornersFrom width) (showing width layers true ws)
       → (n : ℕ) → n ≡ passedOver width layers ws
       → (a : Answer) → outcome a [] ≡ answerOf (report v) (seenBy width fs t (bodyVolume (held width fs ws (vertsOf ws) (facesOf ws)) (facesOf ws)))
       → beside n a ≡ finishedStep width fs ws layers v

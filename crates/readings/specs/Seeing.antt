@@ -11,5 +11,5 @@ abbrev pub shown : ℕ → ℕ → Bool → List ℕ → ℕ → Bool
 shown q layers only ws i = cond only (completeAt q ws i) true && inSet layers (layerOf q ws i)
 
 -- the words with each other place empty
-unfoldable pub seenPlaces : ℕ → ℕ → Bool → List ℕ → List ℕ
-seenPlaces q layers only ws = hiding q (λ i. shown q layers only ws i) ws placeLimit
+unfoldable pub showing : ℕ → ℕ → Bool → List ℕ → List ℕ
+showing q layers only ws = hiding q (λ i. shown q layers only ws i) ws placeLimit

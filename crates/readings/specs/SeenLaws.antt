@@ -21,7 +21,7 @@ use Rattle.layout.specs.HidingLaws.{shown-next, hidden-next}
 use Rattle.layout.specs.LayerLaws.{seen-verts, seen-faces, seen-corners, seen-worded, front-status, front-worded, front-left}
 use Rattle.readings.specs.Readings.{Reading, needsWork, answerOf, guardedRead, seenBy, heldAll, heldFilled, heldWorst, heldSeen, readStep}
 use Rattle.readings.specs.Checks.{readCheck}
-use Rattle.readings.specs.Seeing.{shown, seenPlaces}
+use Rattle.readings.specs.Seeing.{shown, showing}
 use Rattle.readings.specs.ReadLaws.{read-as, read-passed}
 
 -- ---- what is held of a place is told by its status
@@ -108,6 +108,6 @@ module _ (layers : ℕ) (only : Bool) (ws : List ℕ) where
             same = r ∙ (ap (λ (l : List ℕ). write l (2 + 4 * k) (replicate 4 0)) (g .same) ∙ hidden-next width test ws long k h e);
           }
 
-  pub all-looked : (k : ℕ) {s : List ℕ} → Looked k s → 32 ≤ k → s ≡ take 130 (seenPlaces width layers only ws)
-  unfolding seenPlaces
+  pub all-looked : (k : ℕ) {s : List ℕ} → Looked k s → 32 ≤ k → s ≡ take 130 (showing width layers only ws)
+  unfolding showing
   all-looked k g h = let e : k ≡ 32 = omega (arith, g .low) in rw e at (g .same)

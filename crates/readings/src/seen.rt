@@ -8,7 +8,7 @@ ghost use lib.ListN.{length, take, replicate};
 ghost use Rattle.layout.specs.Layout.{width, placeLimit, layerLimit, stateFrom, cornersFrom, layerOf};
 ghost use Rattle.layout.specs.Layers.{inSet, layersCheck, inLayers};
 ghost use Rattle.readings.specs.Finished.{completeAt};
-ghost use Rattle.readings.specs.Seeing.{shown, seenPlaces};
+ghost use Rattle.readings.specs.Seeing.{shown, showing};
 ghost use Rattle.layout.specs.Left.{leftOf};
 ghost use Rattle.layout.specs.Runs.{write};
 ghost use Rattle.layout.specs.SoundLaws.{Worded};
@@ -83,7 +83,7 @@ fn look(seen: &mut [u32], words: &[u32], layers: u32, only: bool, i: usize)
 // a reading go over these words, so that they know of no layers.
 fn places(words: &[u32], layers: u32, only: bool, faces: usize) -> [u32; 130]
     requires { ⌜ Worded width (now words) faces ⌝ }
-    ensures { λ r. ⌜ r ≡ take (cornersFrom width) (seenPlaces width layers only (now (words .entry))) ⌝ }
+    ensures { λ r. ⌜ r ≡ take (cornersFrom width) (showing width layers only (now (words .entry))) ⌝ }
 {
     let mut seen = [0; 130];
     copy_words(&mut seen, 0, &words[..CORNERS]);
@@ -106,7 +106,7 @@ pub fn seen_places(words: &[u32], layers: u32, faces: usize) -> [u32; 130]
 // The words up to the corners, with the places outside the layers and those with work left empty.
 pub fn complete_places(words: &[u32], layers: u32, faces: usize) -> [u32; 130]
     requires { ⌜ Worded width (now words) faces ⌝ }
-    ensures { λ r. ⌜ r ≡ take (cornersFrom width) (seenPlaces width layers true (now (words .entry))) ⌝ }
+    ensures { λ r. ⌜ r ≡ take (cornersFrom width) (showing width layers true (now (words .entry))) ⌝ }
 {
     places(words, layers, true, faces)
 }
