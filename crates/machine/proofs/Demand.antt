@@ -114,6 +114,11 @@ finished-not : (n : ℕ) (x : Answer) → Answered (x .refusal) → (b : Bool)
 finished-not n x a true e = not-both (sym e)
 finished-not n x a false e = never a .0 (ap number e)
 
+finished-sixteen : (n : ℕ) (x : Answer) → Answered (x .refusal) → (b : Bool)
+    → cond b (refused NoLayer) (beside n x) ≡ refused NoLayer → b ≡ true
+finished-sixteen n x a true e = refl
+finished-sixteen n x a false e = absurd (never a .1 (ap number e))
+
 -- what a page answers is never 8
 paged-not : (rs : List Row) (bs : List ℕ) → pageAnswer rs bs .reply ≡ refused Unfinished → ⊥
 unfolding pageAnswer
@@ -199,6 +204,8 @@ module _ (wd : ℕ) (fm : Width wd) (exF : List Float) (exW : List ℕ) where
       let n = subst (λ (x : Outcome). Answered (x .reply .refusal)) j (answered (report cv) (freshSeen (m .mesh) cs)) in
       record {
         no-layer = λ h. er ∙ rw (le-leb (2 ^ 16) layers h) refl;
+        one-of-sixteen = λ z.
+            leb-true (2 ^ 16) layers (finished-sixteen (passedPlaces (m .mesh) ss) f n (leb (2 ^ 16) layers) (sym er ∙ z));
         never = λ z. finished-not (passedPlaces (m .mesh) ss) f n (leb (2 ^ 16) layers) (sym er ∙ z);
         afresh = λ h. er ∙ rw (lt-leb (2 ^ 16) layers h) (finished-opened o (m .mesh) g ss cv);
         alone = λ h.

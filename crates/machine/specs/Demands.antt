@@ -76,6 +76,7 @@ pub record Partly
     (q : ℕ) (exF : List Float) (exW : List ℕ) (mesh : Mesh) (m : Machine) (s : Store) (layers : ℕ) (v : Convention)
     : Type 0 where
   pub no-layer : 2 ^ 16 ≤ layers → store q s (finished layers v) .reply ≡ refused NoLayer
+  pub one-of-sixteen : store q s (finished layers v) .reply ≡ refused NoLayer → 2 ^ 16 ≤ layers
   -- "It is never refused as unfinished", whatever the machine has left
   pub never : store q s (finished layers v) .reply ≡ refused Unfinished → ⊥
   -- "demand 3 takes only those for it": it answers what demand 2's functions give, worked afresh on the mesh opened and the
