@@ -1,9 +1,9 @@
--- Demand 3. Assumes nothing.
+-- Demand 3 of every opening, and of the lists of calls on any valid machine. Assumes nothing.
 use mathlib.Core.Path.{_≡_, refl, sym, ap, subst, _∙_}
 use mathlib.Core.Bool.{Bool, true, false, _&&_, cond, and-eq-true-iff, true≢false}
 use mathlib.Core.Logic.{_⊎_, inl, inr}
 use mathlib.Core.List.{List, [], _∷_, map}
-use Prim.Native.Nat.{ℕ, _*_, _/_, _%_, _^_, _<_, min}
+use Prim.Native.Nat.{ℕ, _+_, _*_, _/_, _%_, _^_, _<_, min}
 use native.Mathlib.Omega.{arith}
 use lib.Dec.{ltb, leb, eqb}
 use lib.ListN.{length}
@@ -16,7 +16,6 @@ use Rattle.base.specs.declared.refusal.Checked.the-variants.{Passed, Failed}
 use Rattle.layout.specs.Runs.{write}
 use Rattle.readings.specs.Along.{along}
 use Rattle.density.specs.declared.convention.Convention.{Convention}
-use Rattle.layout.specs.Layout.{width}
 use Rattle.layout.specs.After.{After, after}
 use Rattle.store.specs.Calls.{openCheck, openStep}
 use Rattle.readings.specs.Readings.{Reading, density, report, list, track, bare, applied, rescaled, densityAt, sixes, Seen, trackLimit, trackCheck, answerOf, refusing}
@@ -26,9 +25,9 @@ use Rattle.machine.specs.Machine.{Mesh, Place, leftSum, seenPlaces, comp
 use Rattle.machine.specs.Holding.{excessF, excessW}
 use Rattle.machine.specs.Fresh.{kernelsOf, freshRows, workedAfresh, finishedAfresh, pageAfresh}
 use Rattle.machine.specs.Calls.{Call, advance, read, finished, page, needs, machine, Store, Result, store, leaves, after-all, holding, leftIn, without, heard}
-use Rattle.machine.specs.Demands.{Same, Read, onlyComplete, Partly, Post, Each, end, next, Follows, leaving, Accepted, refusedBy, Opens, Demand3}
+use Rattle.machine.specs.Demands.{Same, Read, onlyComplete, Partly, Post, Each, end, next, Follows, leaving, Accepted, refusedBy, Opens}
 use Rattle.machine.specs.Valid.{Valid}
-use Rattle.machine.proofs.Rows.{Width, width4}
+use Rattle.machine.proofs.Rows.{Width, Layered, formed}
 use Rattle.machine.proofs.Parts.{freshSeen}
 use Rattle.machine.proofs.Afresh.{joined}
 use Rattle.machine.proofs.Layers.{all-seen, none-seen}
@@ -138,14 +137,14 @@ module _ (o : Paged) (bs : List ℕ) where
   page-other true n = absurd (n refl)
   page-other false n = refl
 
-module _ (wd : ℕ) (fm : Width wd) (exF : List Float) (exW : List ℕ) where
-  same : (m : Machine) → Valid (m .mesh) (m .places) → (c : Call) → Same wd exF exW m (holding m exF exW) c
+module _ (wd : ℕ) (fm : Layered wd) (exF : List Float) (exW : List ℕ) where
+  same : (m : Machine) → Valid (m .mesh) (m .places) → (c : Call) → Same wd exF exW m (holding wd m exF exW) c
   same m v c =
       let e = one-call wd fm m v exF exW c in
       record { before = refl; reply = ap (λ (r : Result). r .reply) e; lent = ap (λ (r : Result). r .out) e; shown = ap (λ (r : Result). r .page) e; fields = ap (λ (r : Result). r .runs) e }
 
   reading : (o : Mesh) (m : Machine) → Valid (m .mesh) (m .places) → From o (m .mesh)
-      → (layers : ℕ) (r : Reading) → Read wd o m (holding m exF exW) layers r
+      → (layers : ℕ) (r : Reading) → Read wd o m (holding wd m exF exW) layers r
   unfolding machine
   reading o m v g layers r =
       let e = one-call wd fm m v exF exW (read layers r) in
@@ -176,7 +175,7 @@ module _ (wd : ℕ) (fm : Width wd) (exF : List Float) (exW : List ℕ) where
 
   -- the ordinary report of the store holding just the complete places
   only-complete : (m : Machine) → Valid (m .mesh) (m .places) → (layers : ℕ) (cv : Convention)
-      → store wd (holding (onlyComplete m layers) exF exW) (read 65535 (report cv)) .reply
+      → store wd (holding wd (onlyComplete m layers) exF exW) (read 65535 (report cv)) .reply
       ≡ workedAfresh (m .mesh) (completePlaces (m .mesh) (seenPlaces layers (m .places))) (report cv) .reply
   unfolding machine
   only-complete m v layers cv =
@@ -187,7 +186,7 @@ module _ (wd : ℕ) (fm : Width wd) (exF : List Float) (exW : List ℕ) where
       ∙ rw (all-seen (m .mesh) (completePlaces (m .mesh) ss) (w .within), nothing-left (m .mesh) ss) refl
 
   so-far : (o : Mesh) (m : Machine) → Valid (m .mesh) (m .places) → From o (m .mesh)
-      → (layers : ℕ) (cv : Convention) → Partly wd exF exW o m (holding m exF exW) layers cv
+      → (layers : ℕ) (cv : Convention) → Partly wd exF exW o m (holding wd m exF exW) layers cv
   unfolding machine finishedAfresh
   so-far o m v g layers cv =
       let e = one-call wd fm m v exF exW (finished layers cv) in
@@ -206,14 +205,14 @@ module _ (wd : ℕ) (fm : Width wd) (exF : List Float) (exW : List ℕ) where
             (ap (beside (passedPlaces (m .mesh) ss)) (sym (only-complete m v layers cv)));
         whole = λ h z.
             let r = ap (λ (x : Result). x .reply) (one-call wd fm m v exF exW (read layers (report cv))) in
-            let y : store wd (holding m exF exW) (read layers (report cv)) .reply
+            let y : store wd (holding wd m exF exW) (read layers (report cv)) .reply
             ≡ workedAfresh (m .mesh) ss (report cv) .reply
             = r ∙ rw (lt-leb (2 ^ 16) layers h, z) refl in
             er ∙ rw (lt-leb (2 ^ 16) layers h) (whole-afresh (m .mesh) ss cv z ∙ ap (beside 0) (sym y));
         kept = ap (λ (x : Result). x .runs) e;
       }
 
-  posting : (o : Mesh) (m : Machine) → Valid (m .mesh) (m .places) → From o (m .mesh) → (bs : List ℕ) → Post wd o m (holding m exF exW) bs
+  posting : (o : Mesh) (m : Machine) → Valid (m .mesh) (m .places) → From o (m .mesh) → (bs : List ℕ) → Post wd o m (holding wd m exF exW) bs
   unfolding machine
   posting o m v g bs =
       let e = one-call wd fm m v exF exW (page bs) in
@@ -230,31 +229,31 @@ module _ (wd : ℕ) (fm : Width wd) (exF : List Float) (exW : List ℕ) where
         kept = ap (λ (x : Result). x .runs) e;
       }
 
-  each : (o : Mesh) (cs : List Call) (m : Machine) → Valid (m .mesh) (m .places) → From o (m .mesh) → Each wd exF exW o m (holding m exF exW) cs
+  each : (o : Mesh) (cs : List Call) (m : Machine) → Valid (m .mesh) (m .places) → From o (m .mesh) → Each wd exF exW o m (holding wd m exF exW) cs
   each o [] m v g = end
   each o (c ∷ cs) m v g =
       let s = same m v c in
       next s (reading o m v g) (so-far o m v g) (posting o m v g) (subst (λ (t : Store). Each wd exF exW o (machine m c .next) t cs) (sym (s .fields)) (each o cs (machine m c .next) (kept m v c .valid) (from-next o m c g)))
 
-  pub last : (cs : List Call) (m : Machine) → Valid (m .mesh) (m .places) → (leaves wd (holding m exF exW) cs ≡ holding (after-all m cs) exF exW) × Valid (after-all m cs .mesh) (after-all m cs .places)
+  pub last : (cs : List Call) (m : Machine) → Valid (m .mesh) (m .places) → (leaves wd (holding wd m exF exW) cs ≡ holding wd (after-all m cs) exF exW) × Valid (after-all m cs .mesh) (after-all m cs .places)
   last [] m v = (refl, v)
   last (c ∷ cs) m v =
       let i = last cs (machine m c .next) (kept m v c .valid) in
       (ap (λ (t : Store). leaves wd t cs) (same m v c .fields) ∙ i .0, i .1)
 
-  left-asked : (m : Machine) → Valid (m .mesh) (m .places) → leftIn (store wd (holding m exF exW) (advance 0) .reply) ≡ leftSum (m .mesh) (m .places)
+  left-asked : (m : Machine) → Valid (m .mesh) (m .places) → leftIn (store wd (holding wd m exF exW) (advance 0) .reply) ≡ leftSum (m .mesh) (m .places)
   unfolding machine
   left-asked m v =
       let z : min 0 (leftSum (m .mesh) (m .places)) ≡ 0 = omega arith in
       ap (λ (x : Result). leftIn (x .reply)) (one-call wd fm m v exF exW (advance 0)) ∙ rw z refl
 
-  follows : (cs : List Call) (m : Machine) → Valid (m .mesh) (m .places) → leftSum (m .mesh) (m .places) ≡ 0 → m .dropped ≡ 0 → m .charged ≡ 0 → Follows wd exF exW m (holding m exF exW) cs
-  follows cs m v z d c =
+  pub follows : (cs : List Call) (m : Machine) → Valid (m .mesh) (m .places) → m .charged ≡ leftSum (m .mesh) (m .places) + m .dropped → Follows wd exF exW m (holding wd m exF exW) cs
+  follows cs m v z =
       let i = last cs m v in
-      let l : leftIn (store wd (leaves wd (holding m exF exW) cs) (advance 0) .reply) ≡ leftSum (after-all m cs .mesh) (after-all m cs .places)
+      let l : leftIn (store wd (leaves wd (holding wd m exF exW) cs) (advance 0) .reply) ≡ leftSum (after-all m cs .mesh) (after-all m cs .places)
       = ap (λ (t : Store). leftIn (store wd t (advance 0) .reply)) (i .0) ∙ left-asked (after-all m cs) (i .1) in
       let b = books wd fm cs m v exF exW in
-      record { calls = each (m .mesh) cs m v (from-start (m .mesh) (v .mesh)); valid = i .1; pieces = listed (m .mesh .radius) (kernelsOf (after-all m cs .places)); sums = omega arith; charged = omega (arith, charges wd fm cs m v exF exW) }
+      record { calls = each (m .mesh) cs m v (from-start (m .mesh) (v .mesh)); valid = i .1; pieces = listed (m .mesh .radius) (kernelsOf (after-all m cs .places)); sums = omega arith; charged = charges wd fm cs m v exF exW }
 
 -- ---- from an opening on
 module _ (wd : ℕ) (fm : Width wd) (r : Float) (xs : List Float) (ks : List ℕ) (fs : List Float) (ws : List ℕ) where
@@ -274,21 +273,28 @@ module _ (wd : ℕ) (fm : Width wd) (r : Float) (xs : List Float) (ks : List ℕ
   unfolding openStep
   refuses h = row wd xs ks (length fs) (length ws) .some h fs ws _
 
-  pub holds : n ≡ 0 → leaving (openStep wd fs ws r xs ks) ≡ holding (opened r xs ks) exF exW
+  pub holds : n ≡ 0 → leaving (openStep wd fs ws r xs ks) ≡ holding wd (opened r xs ks) exF exW
   holds h = ap leaving (opens wd fm r xs ks fs ws (passed h))
 
-  accepts : n ≡ 0 → Accepted wd r xs ks fs ws
+  -- the opened machine is valid
+  pub valid : n ≡ 0 → Valid (opened r xs ks .mesh) (opened r xs ks .places)
+  valid h = opened-valid wd fm r xs ks (length fs) (length ws) (passed h)
+
+module _ (wd : ℕ) (ly : Layered wd) (r : Float) (xs : List Float) (ks : List ℕ) (fs : List Float) (ws : List ℕ) where
+  accepts : openRow wd xs ks (length fs) (length ws) ≡ 0 → Accepted wd r xs ks fs ws
   accepts h =
-      let v = opened-valid wd fm r xs ks (length fs) (length ws) (passed h) in
+      let fm = formed ly in
+      let m = opened r xs ks in
+      let v = valid wd fm r xs ks fs ws h in
+      let e = holds wd fm r xs ks fs ws h in
+      let f = excessF xs fs in
+      let w = excessW wd ks ws in
       record {
-        reply = ap (λ (a : After). a .reply) (opens wd fm r xs ks fs ws (passed h));
-        holds = holds h;
-        every-list = λ cs. subst (λ (s : Store). Follows wd exF exW (opened r xs ks) s cs) (sym (holds h)) (follows wd fm exF exW cs (opened r xs ks) v refl refl refl);
-        unaltered = λ cs. subst (λ (s : Store). heard wd s cs ≡ heard wd s (without cs)) (sym (holds h)) (unaltered wd fm exF exW (opened r xs ks) v cs);
+        reply = ap (λ (a : After). a .reply) (opens wd fm r xs ks fs ws (passed wd fm r xs ks fs ws h));
+        holds = e;
+        every-list = λ cs. subst (λ (s : Store). Follows wd f w m s cs) (sym e) (follows wd ly f w cs m v refl);
+        unaltered = λ cs. subst (λ (s : Store). heard wd s cs ≡ heard wd s (without cs)) (sym e) (unaltered wd ly f w m v cs);
       }
 
-  opens-at : Opens wd r xs ks fs ws
-  opens-at = record { refused-as = refuses; accepted = accepts }
-
-pub demand3 : Demand3
-demand3 = opens-at width width4
+  pub opens-at : Opens wd r xs ks fs ws
+  opens-at = record { refused-as = refuses wd (formed ly) r xs ks fs ws; accepted = accepts }

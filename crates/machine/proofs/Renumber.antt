@@ -21,11 +21,11 @@ use Rattle.store.specs.Marks.{Below}
 use Rattle.store.specs.TriangleLaws.{corner-used, rank-lt}
 use Rattle.machine.specs.Machine.{Mesh, Machine, turn, freedBy, opened, openRow}
 use Rattle.machine.specs.Holding.{excessF, excessW}
-use Rattle.machine.specs.Calls.{Call, put, clear, reweigh, advance, squeeze, read, finished, page, machine, Store, holding, Heard}
+use Rattle.machine.specs.Calls.{Call, put, clear, reweigh, advance, squeeze, read, finished, page, machine, Store, holding, Heard, answers}
 use Rattle.machine.specs.Demands.{leaving}
-use Rattle.machine.specs.Renumbering.{Renumbered, answers, Renumbering}
+use Rattle.machine.specs.Renumbering.{Renumbered, Renumbering}
 use Rattle.machine.specs.Valid.{Valid}
-use Rattle.machine.proofs.Rows.{width4, map-getD}
+use Rattle.machine.proofs.Rows.{width4, layered4, map-getD}
 use Rattle.machine.proofs.Slim.{thinned, slim-is, freed-is}
 use Rattle.machine.proofs.Squeezing.{remesh}
 use Rattle.machine.proofs.Claim.{one-call, kept}
@@ -229,10 +229,10 @@ module _ (p q : ℕ → ℕ) (xs : List Float) (ks : List ℕ) (ys : List Float)
 
 -- ---- the store
 store-told : (exF : List Float) (exW : List ℕ) (cs : List Call) (m : Machine) → Valid (m .mesh) (m .places)
-    → answers width (holding m exF exW) cs ≡ toldBy m cs
+    → answers width (holding width m exF exW) cs ≡ toldBy m cs
 store-told exF exW [] m v = refl
 store-told exF exW (c ∷ cs) m v =
-    rw (one-call width width4 m v exF exW c)
+    rw (one-call width layered4 m v exF exW c)
     (ap (λ (os : List Heard). told (machine m c) ∷ os)
     (store-told exF exW cs (machine m c .next) (kept m v c .valid)))
 

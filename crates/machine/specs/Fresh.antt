@@ -62,12 +62,12 @@ piecesOf a = piecesTo (a .kernel) (a .fit) (a .fit .count)
 
 abbrev pub allPieces : List Worked → List Kernel
 allPieces [] = []
-allPieces (a ∷ as) = piecesOf a ++ allPieces as
+allPieces (a ∷ rest) = piecesOf a ++ allPieces rest
 
 -- "greatest error (+0 with no place filled)", from e on
 abbrev pub worstFrom : Float → List Worked → Float
 worstFrom e [] = e
-worstFrom e (a ∷ as) = worstFrom (greater e (a .fit .error)) as
+worstFrom e (a ∷ rest) = worstFrom (greater e (a .fit .error)) rest
 
 -- ---- "then the reading's functions by its convention", on a mesh m and pieces ks
 
@@ -105,8 +105,8 @@ readingOn m ks filled worst (track v points out) =
 
 unfoldable pub workedAfresh : Mesh → List Place → Reading → Outcome
 workedAfresh m ss r =
-    let as = workAll (m .radius) ss in
-    readingOn m (allPieces as) (length as) (worstFrom +0 as) r
+    let all = workAll (m .radius) ss in
+    readingOn m (allPieces all) (length all) (worstFrom +0 all) r
 
 -- ---- 02, L7: "It covers only the places whose steps are complete, and says how many filled places of its layers it passed
 -- over": the report worked afresh on those of the places ss that have nothing left, and beside it how many have some
