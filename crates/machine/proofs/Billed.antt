@@ -34,7 +34,7 @@ use Rattle.machine.proofs.Rows.{width4, Layered, layered4}
 use Rattle.machine.proofs.Layers.{all-seen}
 use Rattle.machine.proofs.Claim.{one-call}
 use Rattle.machine.proofs.Opened.{none-at, opened-valid}
-use Rattle.machine.proofs.Demand.{last, passed, holds}
+use Rattle.machine.proofs.Follow.{last, passed, holds}
 use Rattle.machine.proofs.Tally.{sumOf, sum-append, sum-reordered, fits, heldIn, pieces-held, seen-within, charged-within, charged-all, radius-after, held-within, held-all}
 
 -- ---- the pieces assumed are at least those of any radius

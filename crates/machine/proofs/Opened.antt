@@ -34,7 +34,7 @@ two-zeros z a b xs ex =
     append-assoc (replicate (a + b) z) xs ex
     ∙ (ap (λ (l : List _). l ++ (xs ++ ex)) (sym (replicate-append-replicate a b z)) ∙ append-assoc (replicate a z) (replicate b z) (xs ++ ex))
 
-write-front : {A : Type 0} (l vs : List A) (n : ℕ) → length vs ≡ n → write l 0 vs ≡ vs ++ drop n l
+pub write-front : {A : Type 0} (l vs : List A) (n : ℕ) → length vs ≡ n → write l 0 vs ≡ vs ++ drop n l
 unfolding write
 write-front l vs n e = rw e refl
 

@@ -84,15 +84,25 @@ module _ (wd : ℕ) (fm : Width wd) (m : Mesh) (ss : List Place) (v : Valid m ss
         layer-sound fm m (getD ss n empty) (v .within n),
       ) refl
 
-  pub no-fault : storeCheck wd (laidOut m ss xs) (wordsOf wd m ss ys) ≡ Passed
-  unfolding storeCheck longEnough sound wordsOf
-  no-fault =
+  pub long-enough : longEnough wd (laidOut m ss xs) (wordsOf wd m ss ys) ≡ true
+  unfolding longEnough wordsOf
+  long-enough =
       rw (
         le-leb (cornersFrom wd + 3 * m .faces) (length (wordsOf wd m ss ys)) (words-long wd fm m ss (v .places) ys (v .mesh .corners)),
         le-leb (coordsFrom + 3 * m .verts) (length (laidOut m ss xs)) (floats-long wd fm m ss (v .places) xs (v .mesh .coords)),
+      ) refl
+
+  pub is-sound : sound wd (wordsOf wd m ss ys) ≡ true
+  unfolding sound wordsOf
+  is-sound =
+      rw (
         le-leb (m .verts) vertexLimit (v .mesh .verts),
         le-leb (m .faces) faceLimit (v .mesh .faces),
         places-sound 32 (omega arith),
         corners-held wd fm m ss (v .places) ys (v .mesh .corners),
         v .mesh .below,
       ) refl
+
+  pub no-fault : storeCheck wd (laidOut m ss xs) (wordsOf wd m ss ys) ≡ Passed
+  unfolding storeCheck
+  no-fault = rw (long-enough, is-sound) refl

@@ -54,7 +54,7 @@ use Rattle.machine.proofs.Held.{get48}
 use Rattle.machine.proofs.Claim.{one-call, kept}
 use Rattle.machine.proofs.Unaltered.{told}
 use Rattle.machine.proofs.Opened.{opened-valid}
-use Rattle.machine.proofs.Demand.{last, passed, holds}
+use Rattle.machine.proofs.Follow.{last, passed, holds}
 
 abs-abs : (x : Float) → abs (abs x) ≡ abs x
 unfolding abs
