@@ -17,7 +17,7 @@ use Rattle.pieces.specs.FitEnd.{fitOf}
 use Rattle.layout.specs.Layout.{width, placeLimit}
 use Rattle.machine.specs.Machine.{Mesh, Provenance, own, Place, empty, full, leftPlace, adv, bump, stepsOf, Machine, Turn, turn, putInto, putTurn, clearTurn, weighed, reweighTurn}
 use Rattle.machine.specs.Holding.{placeRow, wordsOf}
-use Rattle.machine.specs.Calls.{Call, clear, reweigh, machine, Store, after-all, holding, Heard, answers}
+use Rattle.machine.specs.Calls.{Call, machine, Store, after-all, holding, answers}
 use Rattle.machine.specs.OldStore.{Fitter, Old, puts, clears, reweighs, advances, squeezes, reads, pages, nowadays, oldMachine, oldAfter}
 use Rattle.machine.specs.Demands.{carriedPlace, carriedOver}
 use Rattle.machine.specs.Valid.{Valid}

@@ -5,8 +5,8 @@ use mathlib.Core.Bool.{Bool, true, false, not, _&&_, _||_, cond}
 use mathlib.Core.List.{List, [], _∷_, _++_, map, map-append, append-assoc, append-nil}
 use Prim.Native.Nat.{ℕ, zero, suc, _+_, _*_, _≤_, _<_}
 use native.Mathlib.Omega.{arith}
-use lib.Dec.{ltb, leb}
-use lib.ListN.{length, take, drop, getD, length-append, length-map, List·getD-map}
+use lib.Dec.{ltb}
+use lib.ListN.{length, take, getD, length-append, length-map, List·getD-map}
 use lib.Seq.{take-suc, take-all, take-at}
 use lib.Ieee.{Float}
 use Rattle.base.specs.Answers.{counted}
@@ -14,12 +14,11 @@ use Rattle.base.specs.declared.refusal.Refusal.the-variants.{ShortStore}
 use Rattle.base.specs.declared.refusal.Checked.the-variants.{Passed, Failed}
 use Rattle.layout.specs.Runs.{write}
 use Rattle.layout.specs.Layout.{width, coordsFrom, cornersFrom, vertsOf, facesOf}
-use Rattle.layout.specs.After.{After, after}
-use Rattle.carry.specs.Carry.{oldWidth, carriedFloats, carriedRows, carriedWords, roomFor, carryCheck, carryStep}
-use Rattle.machine.specs.Machine.{Mesh, Place, empty, full, leftPlace, leftSum, Machine, shortRow}
+use Rattle.layout.specs.After.{after}
+use Rattle.carry.specs.Carry.{oldWidth, carriedFloats, carriedRows, carriedWords, carryCheck, carryStep}
+use Rattle.machine.specs.Machine.{Mesh, Place, empty, full, leftPlace, leftSum, shortRow}
 use Rattle.machine.specs.Holding.{flat, floats7, floats48, floatsOf, placeRow, wordsOf, excessF, excessW}
-use Rattle.machine.specs.Calls.{past, holding}
-use Rattle.machine.specs.Demands.{leaving, carriedPlace, carriedOver, refusedBy}
+use Rattle.machine.specs.Demands.{carriedPlace, refusedBy}
 use Rattle.machine.specs.Valid.{Within, Valid}
 use Rattle.machine.proofs.Rows.{width3, width4, flat-length}
 use Rattle.machine.proofs.Sixteen.{sixteen, laidOut, laid-out}

@@ -6,12 +6,12 @@ use Prim.Native.Nat.{ℕ, zero, suc, _+_, _*_, _-_, _≤_, _<_, min}
 use native.Mathlib.Nat.{zero-div, zero-mod}
 use native.Mathlib.Decide.{decLt}
 use native.Mathlib.Omega.{arith}
-use lib.ListN.{length, getD, set, replicate, length-set}
+use lib.ListN.{length, getD, set, length-set}
 use lib.Seq.{set-getD}
 use lib.Dec.{ltb}
 use lib.Ieee.{Float, nan}
 use borrow.Author.Tests.{lt-ltb, le-ltb, le-leb, lt-leb, ne-eqb}
-use Rattle.base.specs.Answers.{Answer, refused, counted, done, outcome}
+use Rattle.base.specs.Answers.{Answer, refused, done, outcome}
 use Rattle.base.specs.Floats.{+0}
 use Rattle.base.specs.Loops.{times}
 use Rattle.base.specs.declared.refusal.Refusal.{Refusal}

@@ -1,7 +1,7 @@
 -- Demand 3: of every opening, and of every carry. Assumes nothing.
 use mathlib.Core.Path.{_≡_, refl, sym, ap, subst, _∙_}
 use mathlib.Core.List.{List, [], _∷_, map}
-use Prim.Native.Nat.{ℕ, _+_, _<_}
+use Prim.Native.Nat.{ℕ, _<_}
 use native.Mathlib.Omega.{arith}
 use lib.ListN.{length}
 use lib.Ieee.{Float}
@@ -12,11 +12,11 @@ use Rattle.layout.specs.Layout.{width, vertsOf, facesOf}
 use Rattle.layout.specs.After.{After, after}
 use Rattle.store.specs.Calls.{openStep}
 use Rattle.carry.specs.Carry.{oldWidth, carryStep}
-use Rattle.machine.specs.Machine.{Provenance, own, carried, Machine, workLeft, opened, shortRow, openRow}
+use Rattle.machine.specs.Machine.{Provenance, own, carried, Machine, opened, shortRow, openRow}
 use Rattle.machine.specs.Holding.{wordsOf, excessF, excessW}
 use Rattle.machine.specs.Calls.{Call, Store, leaves, after-all, holding, without, heard, answers}
 use Rattle.machine.specs.OldStore.{Fitter, Fitting, Old, nowadays, oldLeaves, oldAfter}
-use Rattle.machine.specs.Demands.{Follows, leaving, refusedBy, carrying, carriedOver, Carried, Carries, Demand3}
+use Rattle.machine.specs.Demands.{Follows, leaving, refusedBy, carrying, carriedOver, Carries, Demand3}
 use Rattle.machine.specs.Valid.{Valid}
 use Rattle.machine.proofs.Rows.{width3, width4, layered4}
 use Rattle.machine.proofs.Opened.{none-at}
@@ -25,7 +25,7 @@ use Rattle.machine.proofs.Follow.{last, follows, holds, valid, opens-at
 use Rattle.machine.proofs.Renumber.{toldBy, store-told}
 use Rattle.machine.proofs.OldCalls.{Source, old-all}
 use Rattle.machine.proofs.Carrying.{left-same, carried-valid, refuses, carries}
-use Rattle.machine.proofs.Always.{Low, low-all, same-after, carried-told}
+use Rattle.machine.proofs.Always.{low-all, same-after, carried-told}
 
 -- ---- a carry of runs that hold the machine m, with the excess exF and exW
 module _ (m : Machine) (v : Valid (m .mesh) (m .places)) (exF : List Float) (exW : List ℕ) (gs : List Float) (us : List ℕ) where

@@ -15,7 +15,7 @@ use Rattle.pieces.specs.PieceLaws.{Clean}
 use Rattle.layout.specs.Layout.{placeLimit}
 use Rattle.carry.specs.Carry.{oldWidth}
 use Rattle.machine.specs.Machine.{Provenance, Machine, putInto}
-use Rattle.machine.specs.Calls.{clear, reweigh, advance, squeeze, machine, Store, Result, store, holding}
+use Rattle.machine.specs.Calls.{clear, reweigh, advance, squeeze, Store, Result, store, holding}
 use Rattle.machine.specs.OldStore.{Fitter, Old, puts, clears, reweighs, advances, squeezes, reads, pages, oldStore, oldLeaves, oldMachine, oldAfter}
 use Rattle.machine.specs.Valid.{FittedBy, Valid}
 use Rattle.machine.proofs.Rows.{width3}

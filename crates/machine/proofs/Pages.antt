@@ -14,7 +14,7 @@ use Rattle.base.specs.declared.refusal.Refusal.the-variants.{Unfinished}
 use Rattle.base.specs.declared.refusal.Checked.the-variants.{Passed, Failed}
 use Rattle.pieces.specs.declared.pieces.Pieces.{Pieces}
 use Rattle.layout.specs.Layout.{facesOf}
-use Rattle.readings.specs.Readings.{rawMass, heldAt}
+use Rattle.readings.specs.Readings.{rawMass}
 use Rattle.page.specs.Page.{Row, row, paged, pageAnswer, rowAt, heldRows, guardedPage, doneCheck, pageStep}
 use Rattle.machine.specs.Machine.{Mesh, Place, empty, full, leftSum}
 use Rattle.machine.specs.Holding.{placeRow, wordsOf}

@@ -30,7 +30,7 @@ use Rattle.density.specs.Densitize.{densityOf, densitizeOf, densitized}
 use Rattle.density.specs.EvenLaws.{density-abs}
 use Rattle.density.specs.Conventions.{bulkOf, rho0Scale, appliedScale}
 use Rattle.pieces.specs.declared.pieces.Pieces.{Pieces}
-use Rattle.pieces.specs.Pieces.{delta, stays, sizeOf, curveOf, itself, solvedBy, fitted, decomposed, pieceAlpha}
+use Rattle.pieces.specs.Pieces.{delta, stays, sizeOf, curveOf, itself, solvedBy, fitted, decomposed}
 use Rattle.pieces.specs.FitEnd.{endedFit, fitOf}
 use Rattle.pieces.specs.declared.fit.Fit.{Fit}
 use Rattle.pieces.specs.declared.fit.Fit.the-variants.{Kept, NoExponent}

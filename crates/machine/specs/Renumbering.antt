@@ -1,7 +1,7 @@
 -- 02, L14, one statement: `Renumbering`, at the end. "Tools number the same vertices differently, and navigators
 -- compare results across them." Definitions only.
 use mathlib.Core.Path.{_≡_}
-use mathlib.Core.List.{List, [], _∷_, map}
+use mathlib.Core.List.{List, map}
 use Prim.Native.Nat.{ℕ, _+_, _*_, _/_, _<_}
 use lib.ListN.{length, getD}
 use lib.Ieee.{Float, nan}
