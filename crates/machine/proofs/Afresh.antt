@@ -14,7 +14,6 @@ use Rattle.kernel.specs.Field.{centreOf, fieldCheck}
 use Rattle.volume.specs.Volume.{bodyVolume}
 use Rattle.kernel.specs.declared.kernel.Kernel.{Kernel}
 use Rattle.pieces.specs.declared.pieces.Pieces.{Pieces}
-use Rattle.pieces.specs.Pieces.{decomposed}
 use Rattle.pieces.specs.Kernels.{pieceAt}
 use Rattle.mass.specs.Total.{fieldMass}
 use Rattle.mass.specs.Calls.{bodyVolumeCall, fieldMassCall}
@@ -25,9 +24,9 @@ use Rattle.layout.specs.Runs.{write}
 use Rattle.readings.specs.AlongLaws.{stretch-same}
 use Rattle.readings.specs.Readings.{Reading, density, report, list, track, Part, bare, densityAt, rawMass, origin, applied, rescaled, sixes, trackCheck, seeing, answerOf}
 use Rattle.readings.specs.SixLaws.{whole, list-sound, sixes-whole, whole-rescaled, densitized-on, sized, mass-on}
-use Rattle.machine.specs.Machine.{Mesh, Place, empty, full}
+use Rattle.machine.specs.Machine.{Mesh, Provenance, Place, empty, full}
 use Rattle.machine.specs.Holding.{triangles}
-use Rattle.machine.specs.Fresh.{kernelsOf, piecesTo, piecesOf, allPieces, worstFrom, valueOf, massOf, originOf, scaledList, readingOn, workedAfresh}
+use Rattle.machine.specs.Fresh.{fitAfresh, workAll, piecesTo, piecesOf, allPieces, worstFrom, valueOf, massOf, originOf, scaledList, readingOn, workedAfresh}
 use Rattle.machine.proofs.Parts.{freshAt, freshPlace, freshAll, freshSeen}
 use Rattle.machine.specs.Valid.{Shape}
 
@@ -41,12 +40,13 @@ module _ (m : Mesh) where
   parts-to k fit zero = refl
   parts-to k fit (suc n) = rw (parts-to k fit n, map-append (partOf m) (piecesTo k fit n) (pieceAt k fit n ∷ [])) refl
 
-  parts-all : (ss : List Place) → freshAll m ss ≡ map (partOf m) (allPieces (m .radius) (kernelsOf ss))
+  parts-all : (ss : List Place) → freshAll m ss ≡ map (partOf m) (allPieces (workAll (m .radius) ss))
   parts-all [] = refl
   parts-all (empty ∷ ss) = parts-all ss
-  parts-all (full k fit p l ∷ ss) =
-      let f = decomposed k (m .radius) in
-      rw (parts-to k f (f .count), parts-all ss, map-append (partOf m) (piecesOf (m .radius) k) (allPieces (m .radius) (kernelsOf ss))) refl
+  parts-all (full k fit o p l ∷ ss) =
+      let f = fitAfresh (m .radius) k fit o in
+      let a = piecesOf (record { kernel = k; fit = f }) in
+      rw (parts-to k f (f .count), parts-all ss, map-append (partOf m) a (allPieces (workAll (m .radius) ss))) refl
 
   bare-parts : (ks : List Kernel) → map bare (map (partOf m) ks) ≡ map whole ks
   bare-parts [] = refl
@@ -100,13 +100,15 @@ module _ (m : Mesh) (g : Shape m) where
         (stretch-same (densityAt (map whole (map (rescaled s) ks))) (λ x. valueOf (densitized (scaledList v m ks) x)) (λ x. ap valueOf (sym (densitized-on (map (rescaled s) ks) x))) points 0 n))
 
   -- the mass of one place
-  pub place-mass : (k : Kernel) (fit : Pieces) (p l : ℕ) → rawMass (freshPlace m (full k fit p l)) ≡ massOf m (piecesOf (m .radius) k)
-  place-mass k fit p l =
-      let f = decomposed k (m .radius) in
-      ap rawMass (parts-to m k f (f .count)) ∙ raw-on (piecesOf (m .radius) k)
+  pub place-mass : (k : Kernel) (fit : Pieces) (o : Provenance) (p l : ℕ)
+      → rawMass (freshPlace m (full k fit o p l))
+      ≡ massOf m (piecesOf (record { kernel = k; fit = fitAfresh (m .radius) k fit o }))
+  place-mass k fit o p l =
+      let f = fitAfresh (m .radius) k fit o in
+      ap rawMass (parts-to m k f (f .count)) ∙ raw-on (piecesOf (record { kernel = k; fit = f }))
 
   pub joined : (ss : List Place) (r : Reading) → answerOf r (freshSeen m ss) ≡ workedAfresh m ss r
   unfolding freshSeen workedAfresh
   joined ss r =
-      let ks = kernelsOf ss in
-      rw (parts-all m ss) (answer-on (allPieces (m .radius) ks) (length ks) (worstFrom (m .radius) +0 ks) r)
+      let all = workAll (m .radius) ss in
+      rw (parts-all m ss) (answer-on (allPieces all) (length all) (worstFrom +0 all) r)

@@ -26,15 +26,15 @@ use Rattle.layout.specs.Layout.{width}
 use Rattle.readings.specs.Readings.{list, needsWork, refusing}
 use Rattle.machine.specs.Machine.{empty, seenPlaces, Machine, opened}
 use Rattle.machine.specs.Holding.{excessF, excessW}
-use Rattle.machine.specs.Fresh.{kernelsOf, allPieces, scaledList, workedAfresh}
+use Rattle.machine.specs.Fresh.{workAll, allPieces, scaledList, workedAfresh}
 use Rattle.machine.specs.Calls.{Call, read, workSeen, machine, Store, Result, store, after-all, holding, chargedIn}
 use Rattle.machine.specs.Valid.{Valid}
 use Rattle.machine.specs.Bills.{kernelsFrom, kernelsIn, Reordered, Exact, Every, putIn, placesIn, InStore, layersIn, InSixteen, Apart, listAfter, Due, BillBefore}
-use Rattle.machine.proofs.Rows.{Width, width4}
+use Rattle.machine.proofs.Rows.{width4, Layered, layered4}
 use Rattle.machine.proofs.Layers.{all-seen}
 use Rattle.machine.proofs.Claim.{one-call}
 use Rattle.machine.proofs.Opened.{none-at, opened-valid}
-use Rattle.machine.proofs.Demand.{last, passed, holds}
+use Rattle.machine.proofs.Follow.{last, passed, holds}
 use Rattle.machine.proofs.Tally.{sumOf, sum-append, sum-reordered, fits, heldIn, pieces-held, seen-within, charged-within, charged-all, radius-after, held-within, held-all}
 
 -- ---- the pieces assumed are at least those of any radius
@@ -82,14 +82,14 @@ granted-run : (c : Checked) (a : Answer) (run o : List Float) → guardedRun c r
 granted-run Passed a run o = refl
 granted-run (Failed r) a run o = refl
 
-module _ (wd : ℕ) (fm : Width wd) (exF : List Float) (exW : List ℕ) (m : Machine) where
+module _ (wd : ℕ) (fm : Layered wd) (exF : List Float) (exW : List ℕ) (m : Machine) where
   list-answer : Valid (m .mesh) (m .places) → (layers : ℕ) → layers < 2 ^ 16
       → (cv : Convention) (run : List Float) (n : ℕ) → heldIn (m .mesh .radius) (seenPlaces layers (m .places)) ≡ n
-      → Listing (store wd (holding m exF exW) (read layers (list cv run)) .reply) n (length run)
+      → Listing (store wd (holding wd m exF exW) (read layers (list cv run)) .reply) n (length run)
   unfolding machine workedAfresh
   list-answer v layers few cv run n e =
       let ss = seenPlaces layers (m .places) in
-      let ks = allPieces (m .mesh .radius) (kernelsOf ss) in
+      let ks = allPieces (workAll (m .mesh .radius) ss) in
       let c = roomCheck (6 * length ks) (length run) in
       let g = granted-run c (counted (length ks ∷ [])) run (write run 0 (scaledList cv (m .mesh) ks)) in
       let p = pieces-held (m .mesh .radius) ss ∙ e in
@@ -130,14 +130,14 @@ all-vacant n [] = tt {0}
 all-vacant n (i ∷ is) = (none-at n i, all-vacant n is)
 
 module _
-    (wd : ℕ) (fm : Width wd) (r : Float) (xs : List Float) (ks : List ℕ)
+    (wd : ℕ) (fm : Layered wd) (r : Float) (xs : List Float) (ks : List ℕ)
     (v : Valid (opened r xs ks .mesh) (opened r xs ks .places))
     (exF : List Float) (exW : List ℕ) (kernels : List Float) where
   abbrev M : Machine
   M = opened r xs ks
 
   abbrev S : Store
-  S = holding M exF exW
+  S = holding wd M exF exW
 
   abbrev F : ℕ
   F = length ks / 3
@@ -220,6 +220,6 @@ bill-before r xs ks fs ws h kernels =
       due = λ steps floats e.
           let d = due-is kernels (length xs / 3) (length ks / 3) steps floats e in
           subst (λ (s : Store). Due width s kernels steps floats) (sym (holds width width4 r xs ks fs ws h))
-          (holds-due width width4 r xs ks v (excessF xs fs) (excessW width ks ws) kernels steps floats
+          (holds-due width layered4 r xs ks v (excessF xs fs) (excessW width ks ws) kernels steps floats
           (d .0 ∙ ap (λ (n : ℕ). n * (length ks / 3)) g) (d .1 ∙ ap (λ (n : ℕ). 6 * n) g));
     }

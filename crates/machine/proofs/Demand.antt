@@ -1,301 +1,156 @@
--- Demand 3. Assumes nothing.
+-- Demand 3: of every opening, and of every carry. Assumes nothing.
 use mathlib.Core.Path.{_≡_, refl, sym, ap, subst, _∙_}
-use mathlib.Core.Bool.{Bool, true, false, _&&_, cond, and-eq-true-iff, true≢false}
-use mathlib.Core.Logic.{_⊎_, inl, inr}
 use mathlib.Core.List.{List, [], _∷_, map}
-use Prim.Native.Nat.{ℕ, _*_, _/_, _%_, _^_, _<_, min}
+use Prim.Native.Nat.{ℕ, _<_}
 use native.Mathlib.Omega.{arith}
-use lib.Dec.{ltb, leb, eqb}
 use lib.ListN.{length}
 use lib.Ieee.{Float}
-use borrow.Author.Tests.{lt-ltb, ltb-true, le-leb, lt-leb, leb-true, leb-false}
-use Rattle.base.specs.Answers.{Answer, refused, counted, Outcome, outcome, guardedRun, andThen}
-use Rattle.base.specs.declared.refusal.Refusal.{Refusal}
-use Rattle.base.specs.declared.refusal.Refusal.the-variants.{Unfinished, NoLayer, ShortList, BadTrack, NoFigure, ShortPage}
-use Rattle.base.specs.declared.refusal.Checked.the-variants.{Passed, Failed}
-use Rattle.layout.specs.Runs.{write}
-use Rattle.readings.specs.Along.{along}
-use Rattle.density.specs.declared.convention.Convention.{Convention}
-use Rattle.layout.specs.Layout.{width}
+use Rattle.kernel.specs.declared.kernel.Kernel.{Kernel}
+use Rattle.pieces.specs.Pieces.{decomposed}
+use Rattle.base.specs.Answers.{counted}
+use Rattle.layout.specs.Layout.{width, vertsOf, facesOf}
 use Rattle.layout.specs.After.{After, after}
-use Rattle.store.specs.Calls.{openCheck, openStep}
-use Rattle.readings.specs.Readings.{Reading, density, report, list, track, bare, applied, rescaled, densityAt, sixes, Seen, trackLimit, trackCheck, answerOf, refusing}
-use Rattle.readings.specs.Finished.{beside}
-use Rattle.page.specs.Page.{Row, Paged, paged, allPrintable, pageOf, guardedPage, pageAnswer}
-use Rattle.machine.specs.Machine.{Mesh, Place, leftSum, seenPlaces, completePlaces, passedPlaces, Machine, opened, openRow}
-use Rattle.machine.specs.Holding.{excessF, excessW}
-use Rattle.machine.specs.Fresh.{kernelsOf, freshRows, workedAfresh, finishedAfresh, pageAfresh}
-use Rattle.machine.specs.Calls.{Call, advance, read, finished, page, needs, machine, Store, Result, store, leaves, after-all, holding, leftIn, without, heard}
-use Rattle.machine.specs.Demands.{Same, Read, onlyComplete, Partly, Post, Each, end, next, Follows, leaving, Accepted, refusedBy, Opens, Demand3}
+use Rattle.store.specs.Calls.{openStep}
+use Rattle.carry.specs.Carry.{oldWidth, carryStep}
+use Rattle.machine.specs.Machine.{Provenance, own, carried, Machine, opened, shortRow, openRow}
+use Rattle.machine.specs.Holding.{wordsOf, excessF, excessW}
+use Rattle.machine.specs.Calls.{Call, Store, leaves, after-all, holding, without, heard, answers}
+use Rattle.machine.specs.OldStore.{Fitter, Fitting, Old, nowadays, oldLeaves, oldAfter}
+use Rattle.machine.specs.Demands.{Follows, leaving, refusedBy, carrying, carriedOver, Carries, Demand3}
 use Rattle.machine.specs.Valid.{Valid}
-use Rattle.machine.proofs.Rows.{Width, width4}
-use Rattle.machine.proofs.Parts.{freshSeen}
-use Rattle.machine.proofs.Afresh.{joined}
-use Rattle.machine.proofs.Layers.{all-seen, none-seen}
-use Rattle.machine.proofs.Finished.{nothing-left, whole-afresh, complete-valid}
-use Rattle.machine.proofs.Claim.{one-call, kept, books, charges}
-use Rattle.machine.proofs.Unaltered.{From, from-start, from-next, on-opened, finished-opened, page-opened, unaltered}
-use Rattle.machine.proofs.Listed.{listed}
-use Rattle.machine.proofs.Opened.{opens, opened-valid}
-use Rattle.machine.proofs.Refused.{row}
+use Rattle.machine.proofs.Rows.{width3, width4, layered4}
+use Rattle.machine.proofs.Opened.{none-at}
+use Rattle.machine.proofs.Unaltered.{unaltered}
+use Rattle.machine.proofs.Follow.{last, follows, holds, valid, opens-at}
+use Rattle.machine.proofs.Renumber.{toldBy, store-told}
+use Rattle.machine.proofs.OldCalls.{Source, old-all}
+use Rattle.machine.proofs.Carrying.{left-same, carried-valid, refuses, carries}
+use Rattle.machine.proofs.Always.{low-all, same-after, carried-told}
 
--- ---- what is answered is never 8 or 16: it is accepted, 9 of a list or 14 of a track
-abbrev Answered : ℕ → Type 0
-Answered n = (n ≡ 0) ⊎ ((n ≡ 9) ⊎ (n ≡ 14))
+-- ---- a carry of runs that hold the machine m, with the excess exF and exW
+module _ (m : Machine) (v : Valid (m .mesh) (m .places)) (exF : List Float) (exW : List ℕ) (gs : List Float) (us : List ℕ) where
+  abbrev ofRuns : Store → After
+  ofRuns s = carryStep (s .floats) (s .words) gs us
 
-listed-as : (b : Bool) (n : ℕ) (o out : List Float)
-    → Answered (guardedRun (cond b Passed (Failed ShortList)) out (outcome (counted (n ∷ [])) o) .reply .refusal)
-listed-as true n o out = inl refl
-listed-as false n o out = inr (inl refl)
+  abbrev short : ℕ
+  short = shortRow width (m .mesh .verts) (m .mesh .faces) (length gs) (length us)
 
-tracked-as : (a b n : ℕ) (o out : List Float)
-    → Answered (guardedRun (trackCheck a b) out (outcome (counted (n ∷ [])) o) .reply .refusal)
-unfolding trackCheck
-tracked-as a b n o out = go (eqb (a % 3) 0 && leb (a / 3) trackLimit && leb (a / 3) b)
-  where
-    go : (t : Bool)
-        → Answered (guardedRun (cond t Passed (Failed BadTrack)) out (outcome (counted (n ∷ [])) o) .reply .refusal)
-    go true = inl refl
-    go false = inr (inr refl)
+  abbrev newF : List Float
+  newF = excessF (m .mesh .coords) gs
 
-answered : (r : Reading) (s : Seen) → Answered (answerOf r s .reply .refusal)
-answered (density v x) s = inl refl
-answered (report v) s = inl refl
-answered (list v out) s =
-    let ks = map bare (s .parts) in
-    let js = map (rescaled (applied v (s .parts))) ks in
-    listed-as (leb (6 * length ks) (length out)) (length ks) (write out 0 (sixes js)) out
-answered (track v points out) s =
-    let n = length points / 3 in
-    let js = map (rescaled (applied v (s .parts))) (map bare (s .parts)) in
-    tracked-as (length points) (length out) n (write out 0 (along (densityAt js) points n)) out
+  abbrev newW : List ℕ
+  newW = excessW width (m .mesh .corners) us
 
-refuses-as : (r : Reading) (e : Refusal) → refusing r e .reply ≡ refused e
-refuses-as (density v x) e = refl
-refuses-as (report v) e = refl
-refuses-as (list v out) e = refl
-refuses-as (track v points out) e = refl
+  not-carried : 0 < short → ofRuns (holding oldWidth m exF exW) ≡ after (refusedBy short) gs us
+  not-carried h = refuses (m .mesh) (m .places) v _ exW gs us h
 
-never : {n : ℕ} → Answered n → (n ≡ 8 → ⊥) × (n ≡ 16 → ⊥)
-never (inl x) = (λ z. omega arith, λ z. omega arith)
-never (inr (inl x)) = (λ z. omega arith, λ z. omega arith)
-never (inr (inr x)) = (λ z. omega arith, λ z. omega arith)
+  carried-to : short ≡ 0
+      → (ofRuns (holding oldWidth m exF exW) .reply ≡ counted (m .mesh .verts ∷ m .mesh .faces ∷ []))
+      × (leaving (ofRuns (holding oldWidth m exF exW)) ≡ holding width (carriedOver m) newF newW)
+  carried-to h =
+      let e = carries (m .mesh) (m .places) v _ exW gs us h in
+      (ap (λ (a : After). a .reply) e, ap leaving e)
 
-abbrev number : Answer → ℕ
-number a = a .refusal
+  over-valid : Valid (carriedOver m .mesh) (carriedOver m .places)
+  over-valid = carried-valid (m .mesh) (m .places) v
 
-not-both : refused Unfinished ≡ refused NoLayer → ⊥
-not-both e = let z : _≡_ {A = ℕ} 8 16 = ap number e in omega arith
+  over-follows : (ds : List Call)
+      → Follows width newF newW (carriedOver m) (holding width (carriedOver m) newF newW) ds
+  over-follows ds =
+      follows width layered4 newF newW ds (carriedOver m) over-valid
+      (omega (arith, left-same (m .mesh) (m .places)))
 
--- 16, then 8, then what is worked afresh
-module _ (r : Reading) (o : Outcome) where
-  abbrev turned : Bool → Bool → Outcome
-  turned a b = cond a (refusing r NoLayer) (cond b (refusing r Unfinished) o)
+-- ---- from the opening of the old store on
+module _
+    (fitter : Fitter) (fitting : Fitting fitter) (r : Float) (xs : List Float) (ks : List ℕ) (fs : List Float)
+    (ws : List ℕ) (h : openRow oldWidth xs ks (length fs) (length ws) ≡ 0) (cs : List Old) (gs : List Float)
+    (us : List ℕ) where
+  abbrev M : Machine
+  M = opened r xs ks
 
-  when-sixteen : Answered (o .reply .refusal) → (a b : Bool) → turned a b .reply ≡ refused NoLayer → a ≡ true
-  when-sixteen n true b e = refl
-  when-sixteen n false true e = absurd (not-both (sym (refuses-as r Unfinished) ∙ e))
-  when-sixteen n false false e = absurd (never n .1 (ap number e))
-
-  when-eight : Answered (o .reply .refusal) → (a b : Bool) → turned a b .reply ≡ refused Unfinished
-      → (a ≡ false) × (b ≡ true)
-  when-eight n true b e = absurd (not-both (sym e ∙ refuses-as r NoLayer))
-  when-eight n false true e = (refl, refl)
-  when-eight n false false e = absurd (never n .0 (ap number e))
-
-  when-not : (a b : Bool) → a ≡ false → (turned a b .reply ≡ refused Unfinished → ⊥) → turned a b ≡ o
-  when-not true b h n = absurd (true≢false h)
-  when-not false true h n = absurd (n (refuses-as r Unfinished))
-  when-not false false h n = refl
-
--- a report of what is finished is refused by 16 alone
-finished-not : (n : ℕ) (x : Answer) → Answered (x .refusal) → (b : Bool)
-    → cond b (refused NoLayer) (beside n x) ≡ refused Unfinished → ⊥
-finished-not n x a true e = not-both (sym e)
-finished-not n x a false e = never a .0 (ap number e)
-
-finished-sixteen : (n : ℕ) (x : Answer) → Answered (x .refusal) → (b : Bool)
-    → cond b (refused NoLayer) (beside n x) ≡ refused NoLayer → b ≡ true
-finished-sixteen n x a true e = refl
-finished-sixteen n x a false e = absurd (never a .1 (ap number e))
-
--- what a page answers is never 8
-paged-not : (rs : List Row) (bs : List ℕ) → pageAnswer rs bs .reply ≡ refused Unfinished → ⊥
-unfolding pageAnswer
-paged-not rs bs e = go (allPrintable rs) (leb (length (pageOf rs)) (length bs)) (ap (λ (a : Answer). a .refusal) e)
-  where
-    go : (a b : Bool)
-        → guardedPage (andThen (cond a Passed (Failed NoFigure)) (cond b Passed (Failed ShortPage))) bs (paged (counted (length (pageOf rs) ∷ [])) (write bs 0 (pageOf rs))) .reply .refusal ≡ 8 → ⊥
-    go true true z = omega arith
-    go true false z = omega arith
-    go false b z = omega arith
-
-page-not : (m : Mesh) (ss : List Place) (bs : List ℕ) → pageAfresh m ss bs .reply ≡ refused Unfinished → ⊥
-unfolding pageAfresh
-page-not m ss bs = paged-not (freshRows m 0 ss) bs
-
-module _ (o : Paged) (bs : List ℕ) where
-  page-eight : (o .reply ≡ refused Unfinished → ⊥) → (b : Bool) → cond b (paged (refused Unfinished) bs) o .reply ≡ refused Unfinished → b ≡ true
-  page-eight n true e = refl
-  page-eight n false e = absurd (n e)
-
-  page-other : (b : Bool) → (cond b (paged (refused Unfinished) bs) o .reply ≡ refused Unfinished → ⊥) → cond b (paged (refused Unfinished) bs) o ≡ o
-  page-other true n = absurd (n refl)
-  page-other false n = refl
-
-module _ (wd : ℕ) (fm : Width wd) (exF : List Float) (exW : List ℕ) where
-  same : (m : Machine) → Valid (m .mesh) (m .places) → (c : Call) → Same wd exF exW m (holding m exF exW) c
-  same m v c =
-      let e = one-call wd fm m v exF exW c in
-      record { before = refl; reply = ap (λ (r : Result). r .reply) e; lent = ap (λ (r : Result). r .out) e; shown = ap (λ (r : Result). r .page) e; fields = ap (λ (r : Result). r .runs) e }
-
-  reading : (o : Mesh) (m : Machine) → Valid (m .mesh) (m .places) → From o (m .mesh)
-      → (layers : ℕ) (r : Reading) → Read wd o m (holding m exF exW) layers r
-  unfolding machine
-  reading o m v g layers r =
-      let e = one-call wd fm m v exF exW (read layers r) in
-      let er = ap (λ (x : Result). x .reply) e in
-      let eo = ap (λ (x : Result). x .out) e in
-      let ss = seenPlaces layers (m .places) in
-      let l = leftSum (m .mesh) ss in
-      let a = leb (2 ^ 16) layers in
-      let b = needs r && ltb 0 l in
-      let f = workedAfresh (m .mesh) ss r in
-      let j = joined (m .mesh) (v .mesh) ss r in
-      let n = subst (λ (x : Outcome). Answered (x .reply .refusal)) j (answered r (freshSeen (m .mesh) ss)) in
-      record {
-        no-layer = λ h. er ∙ rw (le-leb (2 ^ 16) layers h) (refuses-as r NoLayer);
-        one-of-sixteen = λ z. leb-true (2 ^ 16) layers (when-sixteen r f n a b (sym er ∙ z));
-        unfinished = λ h w p. er ∙ rw (lt-leb (2 ^ 16) layers h, w, lt-ltb 0 l p) (refuses-as r Unfinished);
-        only-then = λ z.
-            let t = when-eight r f n a b (sym er ∙ z) in
-            let u = and-eq-true-iff (needs r) (ltb 0 l) .0 (t .1) in
-            (leb-false (2 ^ 16) layers (t .0), (u .0, ltb-true 0 l (u .1)));
-        afresh = λ h z.
-            let t = when-not r f a b (lt-leb (2 ^ 16) layers h) (λ y. z (er ∙ y)) ∙ on-opened o (m .mesh) g ss r in
-            (er ∙ ap (λ (x : Outcome). x .reply) t, eo ∙ ap (λ (x : Outcome). x .out) t);
-        all-sixteen = all-seen (m .mesh) (m .places) (v .within);
-        none = none-seen (m .places);
-        kept = ap (λ (x : Result). x .runs) e;
-      }
-
-  -- the ordinary report of the store holding just the complete places
-  only-complete : (m : Machine) → Valid (m .mesh) (m .places) → (layers : ℕ) (cv : Convention)
-      → store wd (holding (onlyComplete m layers) exF exW) (read 65535 (report cv)) .reply
-      ≡ workedAfresh (m .mesh) (completePlaces (m .mesh) (seenPlaces layers (m .places))) (report cv) .reply
-  unfolding machine
-  only-complete m v layers cv =
-      let ss = seenPlaces layers (m .places) in
-      let w = complete-valid wd fm (m .mesh) (m .places) v exF exW layers in
-      let e = one-call wd fm (onlyComplete m layers) w exF exW (read 65535 (report cv)) in
-      ap (λ (x : Result). x .reply) e
-      ∙ rw (all-seen (m .mesh) (completePlaces (m .mesh) ss) (w .within), nothing-left (m .mesh) ss) refl
-
-  so-far : (o : Mesh) (m : Machine) → Valid (m .mesh) (m .places) → From o (m .mesh)
-      → (layers : ℕ) (cv : Convention) → Partly wd exF exW o m (holding m exF exW) layers cv
-  unfolding machine finishedAfresh
-  so-far o m v g layers cv =
-      let e = one-call wd fm m v exF exW (finished layers cv) in
-      let er = ap (λ (x : Result). x .reply) e in
-      let ss = seenPlaces layers (m .places) in
-      let cs = completePlaces (m .mesh) ss in
-      let f = workedAfresh (m .mesh) cs (report cv) .reply in
-      let j = joined (m .mesh) (v .mesh) cs (report cv) in
-      let n = subst (λ (x : Outcome). Answered (x .reply .refusal)) j (answered (report cv) (freshSeen (m .mesh) cs)) in
-      record {
-        no-layer = λ h. er ∙ rw (le-leb (2 ^ 16) layers h) refl;
-        one-of-sixteen = λ z.
-            leb-true (2 ^ 16) layers (finished-sixteen (passedPlaces (m .mesh) ss) f n (leb (2 ^ 16) layers) (sym er ∙ z));
-        never = λ z. finished-not (passedPlaces (m .mesh) ss) f n (leb (2 ^ 16) layers) (sym er ∙ z);
-        afresh = λ h. er ∙ rw (lt-leb (2 ^ 16) layers h) (finished-opened o (m .mesh) g ss cv);
-        alone = λ h.
-            er ∙ rw (lt-leb (2 ^ 16) layers h)
-            (ap (beside (passedPlaces (m .mesh) ss)) (sym (only-complete m v layers cv)));
-        whole = λ h z.
-            let r = ap (λ (x : Result). x .reply) (one-call wd fm m v exF exW (read layers (report cv))) in
-            let y : store wd (holding m exF exW) (read layers (report cv)) .reply
-            ≡ workedAfresh (m .mesh) ss (report cv) .reply
-            = r ∙ rw (lt-leb (2 ^ 16) layers h, z) refl in
-            er ∙ rw (lt-leb (2 ^ 16) layers h) (whole-afresh (m .mesh) ss cv z ∙ ap (beside 0) (sym y));
-        kept = ap (λ (x : Result). x .runs) e;
-      }
-
-  posting : (o : Mesh) (m : Machine) → Valid (m .mesh) (m .places) → From o (m .mesh) → (bs : List ℕ) → Post wd o m (holding m exF exW) bs
-  unfolding machine
-  posting o m v g bs =
-      let e = one-call wd fm m v exF exW (page bs) in
-      let er = ap (λ (x : Result). x .reply) e in
-      let ep = ap (λ (x : Result). x .page) e in
-      let l = leftSum (m .mesh) (m .places) in
-      let f = pageAfresh (m .mesh) (m .places) bs in
-      record {
-        unfinished = λ h. er ∙ rw (lt-ltb 0 l h) refl;
-        only-then = λ z. ltb-true 0 l (page-eight f bs (page-not (m .mesh) (m .places) bs) (ltb 0 l) (sym er ∙ z));
-        afresh = λ z.
-            let t = page-other f bs (ltb 0 l) (λ y. z (er ∙ y)) ∙ page-opened o (m .mesh) g (m .places) bs in
-            (er ∙ ap (λ (a : Paged). a .reply) t, ep ∙ ap (λ (a : Paged). a .page) t);
-        kept = ap (λ (x : Result). x .runs) e;
-      }
-
-  each : (o : Mesh) (cs : List Call) (m : Machine) → Valid (m .mesh) (m .places) → From o (m .mesh) → Each wd exF exW o m (holding m exF exW) cs
-  each o [] m v g = end
-  each o (c ∷ cs) m v g =
-      let s = same m v c in
-      next s (reading o m v g) (so-far o m v g) (posting o m v g) (subst (λ (t : Store). Each wd exF exW o (machine m c .next) t cs) (sym (s .fields)) (each o cs (machine m c .next) (kept m v c .valid) (from-next o m c g)))
-
-  pub last : (cs : List Call) (m : Machine) → Valid (m .mesh) (m .places) → (leaves wd (holding m exF exW) cs ≡ holding (after-all m cs) exF exW) × Valid (after-all m cs .mesh) (after-all m cs .places)
-  last [] m v = (refl, v)
-  last (c ∷ cs) m v =
-      let i = last cs (machine m c .next) (kept m v c .valid) in
-      (ap (λ (t : Store). leaves wd t cs) (same m v c .fields) ∙ i .0, i .1)
-
-  left-asked : (m : Machine) → Valid (m .mesh) (m .places) → leftIn (store wd (holding m exF exW) (advance 0) .reply) ≡ leftSum (m .mesh) (m .places)
-  unfolding machine
-  left-asked m v =
-      let z : min 0 (leftSum (m .mesh) (m .places)) ≡ 0 = omega arith in
-      ap (λ (x : Result). leftIn (x .reply)) (one-call wd fm m v exF exW (advance 0)) ∙ rw z refl
-
-  follows : (cs : List Call) (m : Machine) → Valid (m .mesh) (m .places) → leftSum (m .mesh) (m .places) ≡ 0 → m .dropped ≡ 0 → m .charged ≡ 0 → Follows wd exF exW m (holding m exF exW) cs
-  follows cs m v z d c =
-      let i = last cs m v in
-      let l : leftIn (store wd (leaves wd (holding m exF exW) cs) (advance 0) .reply) ≡ leftSum (after-all m cs .mesh) (after-all m cs .places)
-      = ap (λ (t : Store). leftIn (store wd t (advance 0) .reply)) (i .0) ∙ left-asked (after-all m cs) (i .1) in
-      let b = books wd fm cs m v exF exW in
-      record { calls = each (m .mesh) cs m v (from-start (m .mesh) (v .mesh)); valid = i .1; pieces = listed (m .mesh .radius) (kernelsOf (after-all m cs .places)); sums = omega arith; charged = omega (arith, charges wd fm cs m v exF exW) }
-
--- ---- from an opening on
-module _ (wd : ℕ) (fm : Width wd) (r : Float) (xs : List Float) (ks : List ℕ) (fs : List Float) (ws : List ℕ) where
-  abbrev n : ℕ
-  n = openRow wd xs ks (length fs) (length ws)
+  abbrev old : Store
+  old = oldLeaves fitter (leaving (openStep oldWidth fs ws r xs ks)) cs
 
   abbrev exF : List Float
   exF = excessF xs fs
 
   abbrev exW : List ℕ
-  exW = excessW wd ks ws
+  exW = excessW oldWidth ks ws
 
-  pub passed : n ≡ 0 → openCheck wd (length xs) ks (length fs) (length ws) ≡ Passed
-  passed = row wd xs ks (length fs) (length ws) .none
+  -- the machine that says o of all pieces
+  abbrev by : Provenance → Machine
+  by o = oldAfter fitter o M cs
 
-  refuses : 0 < n → openStep wd fs ws r xs ks ≡ after (refusedBy n) fs ws
-  unfolding openStep
-  refuses h = row wd xs ks (length fs) (length ws) .some h fs ws _
+  record Held (o : Provenance) : Type 0 where
+    runs : old ≡ holding oldWidth (by o) exF exW
+    sound : Valid (by o .mesh) (by o .places)
 
-  pub holds : n ≡ 0 → leaving (openStep wd fs ws r xs ks) ≡ holding (opened r xs ks) exF exW
-  holds h = ap leaving (opens wd fm r xs ks fs ws (passed h))
-
-  accepts : n ≡ 0 → Accepted wd r xs ks fs ws
-  accepts h =
-      let v = opened-valid wd fm r xs ks (length fs) (length ws) (passed h) in
+  held : (o : Provenance) → Source fitter o → Held o
+  held o s =
+      let i = old-all fitter o s cs M (valid oldWidth width3 r xs ks fs ws h) exF exW in
       record {
-        reply = ap (λ (a : After). a .reply) (opens wd fm r xs ks fs ws (passed h));
-        holds = holds h;
-        every-list = λ cs. subst (λ (s : Store). Follows wd exF exW (opened r xs ks) s cs) (sym (holds h)) (follows wd fm exF exW cs (opened r xs ks) v refl refl refl);
-        unaltered = λ cs. subst (λ (s : Store). heard wd s cs ≡ heard wd s (without cs)) (sym (holds h)) (unaltered wd fm exF exW (opened r xs ks) v cs);
+        runs = ap (λ (t : Store). oldLeaves fitter t cs) (holds oldWidth width3 r xs ks fs ws h) ∙ i .0;
+        sound = i .1;
       }
 
-  opens-at : Opens wd r xs ks fs ws
-  opens-at = record { refused-as = refuses; accepted = accepts }
+  brought : Held carried
+  brought = held carried (record { few = fitting .few; clean = fitting .clean; fitted = λ k radius. tt {0} })
+
+  -- ---- with today's fit
+  module _ (same : (k : Kernel) (radius : Float) → fitter k radius ≡ decomposed k radius) where
+    put : Held own
+    put = held own (record { few = fitting .few; clean = fitting .clean; fitted = same })
+
+    -- one pair of runs holds both machines
+    counts-same : (by carried .mesh .verts ≡ by own .mesh .verts) × (by carried .mesh .faces ≡ by own .mesh .faces)
+    unfolding wordsOf
+    counts-same =
+        let e = sym (brought .runs) ∙ put .runs in
+        (ap (λ (s : Store). vertsOf (s .words)) e, ap (λ (s : Store). facesOf (s .words)) e)
+
+    always : shortRow width (by carried .mesh .verts) (by carried .mesh .faces) (length gs) (length us) ≡ 0
+        → (hs : List Float) (vs : List ℕ) → openRow width xs ks (length hs) (length vs) ≡ 0 → (ds : List Call)
+        → answers width (leaving (carrying fitter r xs ks fs ws cs gs us)) ds
+        ≡ answers width (leaves width (leaving (openStep width hs vs r xs ks)) (map nowadays cs)) ds
+    always n hs vs g ds =
+        let m = by own in
+        let c = counts-same in
+        let z = rw (c .0, c .1) at n in
+        let low = low-all fitter own cs M (λ i. rw (none-at 32 i) refl) in
+        let new = ofRuns m (put .sound) exF exW gs us in
+        let a = ap (λ (s : Store). leaving (new s)) (put .runs) ∙ carried-to m (put .sound) exF exW gs us z .1 in
+        let l = last width layered4 (excessF xs hs) (excessW width ks vs) (map nowadays cs) M (valid width width4 r xs ks hs vs g) in
+        let b = ap (λ (s : Store). leaves width s (map nowadays cs)) (holds width width4 r xs ks hs vs g) ∙ l .0 in
+        ap (λ (s : Store). answers width s ds) a
+        ∙ (carried-told m (put .sound) low (excessF (m .mesh .coords) gs) (excessW width (m .mesh .corners) us) ds
+        ∙ (ap (λ (t : Machine). toldBy t ds) (same-after fitter same cs M)
+        ∙ sym (ap (λ (s : Store). answers width s ds) b
+        ∙ store-told (excessF xs hs) (excessW width ks vs) ds (after-all M (map nowadays cs)) (l .1))))
+
+  carry : Carries fitter r xs ks fs ws cs (by carried) gs us
+  carry =
+      let m = by carried in
+      let v = brought .sound in
+      let e = ap (ofRuns m v exF exW gs us) (brought .runs) in
+      record {
+        refused-as = λ n. e ∙ not-carried m v exF exW gs us n;
+        accepted = λ n.
+            let c = carried-to m v exF exW gs us n in
+            let s = ap leaving e ∙ c .1 in
+            let f = excessF (m .mesh .coords) gs in
+            let w = excessW width (m .mesh .corners) us in
+            record {
+              reply = ap (λ (a : After). a .reply) e ∙ c .0;
+              holds = s;
+              every-list = λ ds.
+                  subst (λ (t : Store). Follows width f w (carriedOver m) t ds) (sym s)
+                  (over-follows m v exF exW gs us ds);
+              unaltered = λ ds.
+                  subst (λ (t : Store). heard width t ds ≡ heard width t (without ds)) (sym s)
+                  (unaltered width layered4 f w (carriedOver m) (over-valid m v exF exW gs us) ds);
+              as-if-always = λ same hs vs g ds. always same n hs vs g ds;
+            };
+      }
 
 pub demand3 : Demand3
-demand3 = opens-at width width4
+demand3 = record { opening = opens-at width layered4; carry = carry }

@@ -21,9 +21,9 @@ use Rattle.readings.specs.Readings.{report, answerOf}
 use Rattle.readings.specs.Finished.{completeAt, completeIn, passedOver, beside, finishedStep}
 use Rattle.machine.specs.Machine.{Mesh, Place, empty, full, leftPlace, leftSum, seenPlace, seenPlaces, isComplete, completePlace, completePlaces, passedPlaces}
 use Rattle.machine.specs.Holding.{placeRow, wordsOf}
-use Rattle.machine.specs.Fresh.{kernelOf, kernelsOf, workedAfresh, finishedAfresh}
+use Rattle.machine.specs.Fresh.{workPlace, workAll, workedAfresh, finishedAfresh}
 use Rattle.machine.specs.Valid.{Within, Valid}
-use Rattle.machine.proofs.Rows.{Width}
+use Rattle.machine.proofs.Rows.{Width, Layered, formed}
 use Rattle.machine.proofs.Sixteen.{laidOut}
 use Rattle.machine.proofs.Held.{status-held, finished-held}
 use Rattle.machine.proofs.Sane.{no-fault}
@@ -59,10 +59,10 @@ module _ (n f p : ℕ) (h : p ≤ n * f) where
 
 -- ---- the places that have nothing left
 module _ (m : Mesh) where
-  place-complete : (s : Place) → Within m s
-      → eqb (getD (placeRow m s) 1 0) (getD (placeRow m s) 0 0 - 1) ≡ isComplete m s
-  place-complete empty w = refl
-  place-complete (full k fit p l) w = steps-complete (fit .count) (m .faces) p (w .steps)
+  place-complete : (wd : ℕ) (s : Place) → Within m s
+      → eqb (getD (placeRow wd m s) 1 0) (getD (placeRow wd m s) 0 0 - 1) ≡ isComplete m s
+  place-complete wd empty w = refl
+  place-complete wd (full k fit o p l) w = steps-complete (fit .count) (m .faces) p (w .steps)
 
   pub complete-or-none : Emptying (completePlace m)
   complete-or-none s = go (isComplete m s)
@@ -82,23 +82,26 @@ module _ (m : Mesh) where
   nothing-left [] = refl
   nothing-left (s ∷ ss) = omega (arith, one-left s, nothing-left ss)
 
+  abbrev R : Float
+  R = m .radius
+
   -- the filled places are these and those that are passed over
   one-passed : (s : Place)
-      → length (kernelOf s) ≡ length (kernelOf (completePlace m s)) + cond (isComplete m s) 0 1
+      → length (workPlace R s) ≡ length (workPlace R (completePlace m s)) + cond (isComplete m s) 0 1
   one-passed empty = refl
-  one-passed (full k fit p l) = go (isComplete m (full k fit p l))
+  one-passed (full k fit o p l) = go (isComplete m (full k fit o p l))
     where
-      go : (b : Bool) → 1 ≡ length (kernelOf (cond b (full k fit p l) empty)) + cond b 0 1
+      go : (b : Bool) → 1 ≡ length (workPlace R (cond b (full k fit o p l) empty)) + cond b 0 1
       go true = refl
       go false = refl
 
   all-passed : (ss : List Place)
-      → length (kernelsOf ss) ≡ length (kernelsOf (completePlaces m ss)) + passedPlaces m ss
+      → length (workAll R ss) ≡ length (workAll R (completePlaces m ss)) + passedPlaces m ss
   all-passed [] = refl
   all-passed (s ∷ ss) =
       rw (
-        length-append (kernelOf s) (kernelsOf ss),
-        length-append (kernelOf (completePlace m s)) (kernelsOf (completePlaces m ss)),
+        length-append (workPlace R s) (workAll R ss),
+        length-append (workPlace R (completePlace m s)) (workAll R (completePlaces m ss)),
       ) (omega (arith, one-passed s, all-passed ss))
 
   -- with nothing left none is passed over
@@ -116,13 +119,16 @@ module _ (m : Mesh) where
 
 -- ---- the report
 module _
-    (wd : ℕ) (fm : Width wd) (m : Mesh) (ss : List Place) (v : Valid m ss) (xs : List Float) (ys : List ℕ)
+    (wd : ℕ) (ly : Layered wd) (m : Mesh) (ss : List Place) (v : Valid m ss) (xs : List Float) (ys : List ℕ)
     (layers : ℕ) where
+  fm : Width wd
+  fm = formed ly
+
   abbrev FS : List Float
   FS = laidOut m ss xs
 
   abbrev WS : List ℕ
-  WS = wordsOf m ss ys
+  WS = wordsOf wd m ss ys
 
   abbrev seen : List Place
   seen = seenPlaces layers ss
@@ -140,14 +146,14 @@ module _
   complete-valid = emptied-valid (completePlace m) (complete-or-none m) m seen seen-valid
 
   complete-there : There complete ss
-  complete-there i k fit p l e =
-      seen-there i k fit p l (emptied-there (completePlace m) (complete-or-none m) seen i k fit p l e)
+  complete-there i k fit o p l e =
+      seen-there i k fit o p l (emptied-there (completePlace m) (complete-or-none m) seen i k fit o p l e)
 
   -- the words of a place say whether it is complete; one that is not seen is empty either way
   shown-by : (s : Place) → Within m s
-      → cond (eqb (getD (placeRow m s) 1 0) (getD (placeRow m s) 0 0 - 1)) (seenPlace layers s) empty
+      → cond (eqb (getD (placeRow wd m s) 1 0) (getD (placeRow wd m s) 0 0 - 1)) (seenPlace layers s) empty
       ≡ completePlace m (seenPlace layers s)
-  shown-by s w = rw (place-complete m s w) (go (seen-or-none layers s))
+  shown-by s w = rw (place-complete m wd s w) (go (seen-or-none layers s))
     where
       both : (b : Bool) → cond b empty empty ≡ empty
       both true = refl
@@ -170,10 +176,10 @@ module _
         emptied-at (seenPlace layers) (seen-or-none layers) ss i,
       ) (shown-by (getD ss i empty) (v .within i))
 
-  complete-held : completeIn wd layers WS ≡ wordsOf m complete ys
+  complete-held : completeIn wd layers WS ≡ wordsOf wd m complete ys
   unfolding completeIn
   complete-held =
-      rw (layers-held layers wd fm m ss (v .places) ys)
+      rw (layers-held layers wd ly m ss (v .places) ys)
       (words-emptied (completePlace m) (complete-or-none m) wd fm m seen (seen-valid .places) ys (completeAt wd WS)
       shown-at)
 
@@ -182,7 +188,7 @@ module _
   passed-held =
       rw (
         complete-held,
-        layers-held layers wd fm m ss (v .places) ys,
+        layers-held layers wd ly m ss (v .places) ys,
         filled-held wd fm m ss seen (v .places) seen-valid seen-there xs ys,
         filled-held wd fm m ss complete (v .places) complete-valid complete-there xs ys,
       ) (omega (arith, all-passed m seen))

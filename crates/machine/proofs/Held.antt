@@ -7,7 +7,6 @@ use native.Mathlib.Omega.{arith}
 use lib.ListN.{length, take, drop, getD, set, replicate, length-append, length-map, length-set}
 use lib.Seq.{getD-append-add, drop-at, take-at, set-set, set-getD, getD-set-same}
 use lib.Ieee.{Float, nan}
-use borrow.Author.Tests.{lt-ltb}
 use Rattle.layout.specs.Runs.{write}
 use Rattle.layout.specs.Layout.{cornersFrom, statusOf, finishedOf, doneOf, layerOf}
 use Rattle.kernel.specs.declared.kernel.Kernel.{Kernel}
@@ -15,48 +14,52 @@ use Rattle.pieces.specs.declared.pieces.Pieces.{Pieces}
 use Rattle.machine.specs.Machine.{Mesh, Place, empty, full}
 use Rattle.machine.specs.Holding.{placeRow, floats7, cells, flat, wordsOf}
 use Rattle.machine.proofs.Sixteen.{sixteen, laidOut}
-use Rattle.machine.proofs.Rows.{Width, width4, Each, row-get, row-set, row-write, flat-length, map-set, map-getD, each-map, set-append-add, write-append-add, each-set}
+use Rattle.machine.proofs.Rows.{Width, width3, width4, Each, row-get, row-set, row-write, flat-length, map-set, map-getD, each-map, set-append-add, write-append-add, each-set}
 
--- a form has at least four words per place
-pub at-least : {w : ℕ} → Width w → 4 ≤ w
+-- a form has at least three words per place
+at-least : {w : ℕ} → Width w → 3 ≤ w
+at-least width3 = omega arith
 at-least width4 = omega arith
 
 module _ (wd : ℕ) (fm : Width wd) where
-  four-in : 4 ≤ wd
-  four-in = at-least fm
+  three-in : 3 ≤ wd
+  three-in = at-least fm
 
   pub cells-length : (m : Mesh) (k : Kernel) (fit : Pieces) (n j t : ℕ) → length (cells m k fit n j t) ≡ 3 * n
   cells-length m k fit zero j t = refl
   cells-length m k fit (suc n) j t = rw mul-suc (omega (arith, cells-length m k fit n (suc j) (t - m .faces)))
 
   module _ (m : Mesh) where
-    pub len-row : (s : Place) → length (placeRow m s) ≡ wd
+    pub len-row : (s : Place) → length (placeRow wd m s) ≡ wd
     len-row empty = go fm
       where
-        go : {w : ℕ} → Width w → length (placeRow m empty) ≡ w
+        go : {w : ℕ} → Width w → length (placeRow w m empty) ≡ w
+        go width3 = refl
         go width4 = refl
-    len-row (full k fit p l) = go fm
+    len-row (full k fit o p l) = go fm
       where
-        go : {w : ℕ} → Width w → length (placeRow m (full k fit p l)) ≡ w
+        go : {w : ℕ} → Width w → length (placeRow w m (full k fit o p l)) ≡ w
+        go width3 = refl
         go width4 = refl
 
     -- an empty place's words, as a clear leaves them
-    pub zeros-row : replicate wd 0 ≡ placeRow m empty
+    pub zeros-row : replicate wd 0 ≡ placeRow wd m empty
     zeros-row = go fm
       where
-        go : {w : ℕ} → Width w → replicate w 0 ≡ placeRow m empty
+        go : {w : ℕ} → Width w → replicate w 0 ≡ placeRow w m empty
+        go width3 = refl
         go width4 = refl
 
     pub len7 : (s : Place) → length (floats7 s) ≡ 7
     len7 empty = refl
-    len7 (full k fit p l) = refl
+    len7 (full k fit o p l) = refl
 
     pub len48 : (s : Place) → length (sixteen m s) ≡ 48
     len48 empty = refl
-    len48 (full k fit p l) = cells-length m k fit 16 0 p
+    len48 (full k fit o p l) = cells-length m k fit 16 0 p
 
-    pub each-row : (ss : List Place) → Each wd (map (placeRow m) ss)
-    each-row ss = each-map wd (placeRow m) len-row ss
+    pub each-row : (ss : List Place) → Each wd (map (placeRow wd m) ss)
+    each-row ss = each-map wd (placeRow wd m) len-row ss
 
     pub each7 : (ss : List Place) → Each 7 (map floats7 ss)
     each7 ss = each-map 7 floats7 len7 ss
@@ -72,34 +75,42 @@ module _ (wd : ℕ) (fm : Width wd) where
         abbrev rest-row : List ℕ
         rest-row = m .corners ++ ys
 
-        pub get-word : (j : ℕ) → j < wd → getD (wordsOf m ss ys) (2 + (wd * i + j)) 0 ≡ getD (placeRow m (getD ss i empty)) j 0
+        pub get-word : (j : ℕ) → j < wd → getD (wordsOf wd m ss ys) (2 + (wd * i + j)) 0 ≡ getD (placeRow wd m (getD ss i empty)) j 0
         unfolding wordsOf
         get-word j hj =
-            getD-append-add (m .verts ∷ m .faces ∷ []) (flat (map (placeRow m) ss) ++ rest-row) (wd * i + j) 0
-            ∙ (row-get wd (map (placeRow m) ss) (each-row ss) rest-row i j 0 (in-map (placeRow m) i h) hj
-            ∙ ap (λ (r : List ℕ). getD r j 0) (map-getD (placeRow m) ss i empty [] (rw hs h)))
+            getD-append-add (m .verts ∷ m .faces ∷ []) (flat (map (placeRow wd m) ss) ++ rest-row) (wd * i + j) 0
+            ∙ (row-get wd (map (placeRow wd m) ss) (each-row ss) rest-row i j 0 (in-map (placeRow wd m) i h) hj
+            ∙ ap (λ (r : List ℕ). getD r j 0) (map-getD (placeRow wd m) ss i empty [] (rw hs h)))
 
-        pub status-held : statusOf wd (wordsOf m ss ys) i ≡ getD (placeRow m (getD ss i empty)) 0 0
-        status-held = let e : 2 + wd * i ≡ 2 + (wd * i + 0) = omega arith in rw e (get-word 0 (omega (arith, four-in)))
+        pub status-held : statusOf wd (wordsOf wd m ss ys) i ≡ getD (placeRow wd m (getD ss i empty)) 0 0
+        status-held = let e : 2 + wd * i ≡ 2 + (wd * i + 0) = omega arith in rw e (get-word 0 (omega (arith, three-in)))
 
-        pub finished-held : finishedOf wd (wordsOf m ss ys) i ≡ getD (placeRow m (getD ss i empty)) 1 0
-        finished-held = let e : 3 + wd * i ≡ 2 + (wd * i + 1) = omega arith in rw e (get-word 1 (omega (arith, four-in)))
+        pub finished-held : finishedOf wd (wordsOf wd m ss ys) i ≡ getD (placeRow wd m (getD ss i empty)) 1 0
+        finished-held = let e : 3 + wd * i ≡ 2 + (wd * i + 1) = omega arith in rw e (get-word 1 (omega (arith, three-in)))
 
-        pub done-held : doneOf wd (wordsOf m ss ys) i ≡ getD (placeRow m (getD ss i empty)) 2 0
-        done-held = let e : 4 + wd * i ≡ 2 + (wd * i + 2) = omega arith in rw e (get-word 2 (omega (arith, four-in)))
+        pub done-held : doneOf wd (wordsOf wd m ss ys) i ≡ getD (placeRow wd m (getD ss i empty)) 2 0
+        done-held = let e : 4 + wd * i ≡ 2 + (wd * i + 2) = omega arith in rw e (get-word 2 (omega (arith, three-in)))
 
-        pub layer-held : layerOf wd (wordsOf m ss ys) i ≡ getD (placeRow m (getD ss i empty)) 3 0
-        layer-held =
-            let e : 5 + wd * i ≡ 2 + (wd * i + 3) = omega arith in
-            rw (lt-ltb 3 wd four-in, e) (get-word 3 (omega (arith, four-in)))
+        -- without a word for the layer it is 0
+        pub layer-held : layerOf wd (wordsOf wd m ss ys) i ≡ getD (placeRow wd m (getD ss i empty)) 3 0
+        layer-held = go fm (wordsOf wd m ss ys) (getD ss i empty) (λ h. rw (five wd i) (get-word 3 h))
+          where
+            five : (w j : ℕ) → 5 + w * j ≡ 2 + (w * j + 3)
+            five w j = omega arith
 
-        pub write-words : (s : Place) → write (wordsOf m ss ys) (2 + wd * i) (placeRow m s) ≡ wordsOf m (set ss i s) ys
+            go : {w : ℕ} → Width w → (ws : List ℕ) (s : Place) → (3 < w → getD ws (5 + w * i) 0 ≡ getD (placeRow w m s) 3 0)
+                → layerOf w ws i ≡ getD (placeRow w m s) 3 0
+            go width3 ws empty e = refl
+            go width3 ws (full k fit o p l) e = refl
+            go width4 ws s e = e (omega arith)
+
+        pub write-words : (s : Place) → write (wordsOf wd m ss ys) (2 + wd * i) (placeRow wd m s) ≡ wordsOf wd m (set ss i s) ys
         unfolding wordsOf
         write-words s =
-            write-append-add (m .verts ∷ m .faces ∷ []) (flat (map (placeRow m) ss) ++ rest-row) (wd * i) (placeRow m s)
+            write-append-add (m .verts ∷ m .faces ∷ []) (flat (map (placeRow wd m) ss) ++ rest-row) (wd * i) (placeRow wd m s)
             ∙ ap (λ (l : List ℕ). m .verts ∷ m .faces ∷ l)
-            (row-write wd (map (placeRow m) ss) (each-row ss) rest-row i (placeRow m s) (in-map (placeRow m) i h) (len-row s)
-            ∙ ap (λ (r : List (List ℕ)). flat r ++ rest-row) (sym (map-set (placeRow m) ss i s)))
+            (row-write wd (map (placeRow wd m) ss) (each-row ss) rest-row i (placeRow wd m s) (in-map (placeRow wd m) i h) (len-row s)
+            ∙ ap (λ (r : List (List ℕ)). flat r ++ rest-row) (sym (map-set (placeRow wd m) ss i s)))
 
       module _ (xs : List Float) (i : ℕ) (h : i < 32) where
         abbrev rest48 : List Float
@@ -201,16 +212,16 @@ module _ (wd : ℕ) (fm : Width wd) where
         ap (λ (l : List Float). take (3 * m .verts) (drop 1761 l)) (sym (append-assoc (m .radius ∷ flat (map floats7 ss)) (flat (map (sixteen m) ss)) (m .coords ++ xs)))
         ∙ (ap (take (3 * m .verts)) (drop-at p (m .coords ++ xs) 1761 n) ∙ take-at (m .coords) xs (3 * m .verts) e)
 
-    pub corners-held : (ys : List ℕ) → length (m .corners) ≡ 3 * m .faces → take (3 * m .faces) (drop (cornersFrom wd) (wordsOf m ss ys)) ≡ m .corners
+    pub corners-held : (ys : List ℕ) → length (m .corners) ≡ 3 * m .faces → take (3 * m .faces) (drop (cornersFrom wd) (wordsOf wd m ss ys)) ≡ m .corners
     unfolding wordsOf
     corners-held ys e =
-        let p = m .verts ∷ m .faces ∷ flat (map (placeRow m) ss) in
-        let n : length p ≡ cornersFrom wd = rw (flat-length wd (map (placeRow m) ss) (each-row m ss), length-map, hs) (omega arith) in
+        let p = m .verts ∷ m .faces ∷ flat (map (placeRow wd m) ss) in
+        let n : length p ≡ cornersFrom wd = rw (flat-length wd (map (placeRow wd m) ss) (each-row m ss), length-map, hs) (omega arith) in
         ap (take (3 * m .faces)) (drop-at p (m .corners ++ ys) (cornersFrom wd) n) ∙ take-at (m .corners) ys (3 * m .faces) e
 
-    pub words-long : (ys : List ℕ) → length (m .corners) ≡ 3 * m .faces → cornersFrom wd + 3 * m .faces ≤ length (wordsOf m ss ys)
+    pub words-long : (ys : List ℕ) → length (m .corners) ≡ 3 * m .faces → cornersFrom wd + 3 * m .faces ≤ length (wordsOf wd m ss ys)
     unfolding wordsOf
-    words-long ys e = rw (length-append, flat-length wd (map (placeRow m) ss) (each-row m ss), length-map, hs, length-append) (omega arith)
+    words-long ys e = rw (length-append, flat-length wd (map (placeRow wd m) ss) (each-row m ss), length-map, hs, length-append) (omega arith)
 
     pub floats-long : (xs : List Float) → length (m .coords) ≡ 3 * m .verts → 1761 + 3 * m .verts ≤ length (laidOut m ss xs)
     unfolding laidOut
@@ -224,24 +235,24 @@ module _ (wd : ℕ) (fm : Width wd) where
         set-append-add (m .verts ∷ m .faces ∷ []) (flat a ++ (m .corners ++ ys)) (wd * i + j) v
         ∙ ap (λ (l : List ℕ). m .verts ∷ m .faces ∷ l) (row-set wd a ea (m .corners ++ ys) i j v (rw la h) hj)
 
-    pub two-words : (s : Place) (x y : ℕ) → set (set (placeRow m (getD ss i empty)) 1 x) 2 y ≡ placeRow m s → set (set (wordsOf m ss ys) (3 + wd * i) x) (4 + wd * i) y ≡ wordsOf m (set ss i s) ys
+    pub two-words : (s : Place) (x y : ℕ) → set (set (placeRow wd m (getD ss i empty)) 1 x) 2 y ≡ placeRow wd m s → set (set (wordsOf wd m ss ys) (3 + wd * i) x) (4 + wd * i) y ≡ wordsOf wd m (set ss i s) ys
     unfolding wordsOf
     two-words s x y e =
-        let a = map (placeRow m) ss in
+        let a = map (placeRow wd m) ss in
         let b = set a i (set (getD a i []) 1 x) in
-        let la : length a ≡ 32 = length-map ss (placeRow m) ∙ hs in
-        let g : getD a i [] ≡ placeRow m (getD ss i empty) = map-getD (placeRow m) ss i empty [] (rw hs h) in
+        let la : length a ≡ 32 = length-map ss (placeRow wd m) ∙ hs in
+        let g : getD a i [] ≡ placeRow wd m (getD ss i empty) = map-getD (placeRow wd m) ss i empty [] (rw hs h) in
         let lr : length (set (getD a i []) 1 x) ≡ wd = length-set (getD a i []) 1 x ∙ (ap length g ∙ len-row m (getD ss i empty)) in
         let i1 : 3 + wd * i ≡ 2 + (wd * i + 1) = omega arith in
         let i2 : 4 + wd * i ≡ 2 + (wd * i + 2) = omega arith in
         rw (
           i1,
           i2,
-          one-word a (each-row m ss) la 1 x (omega (arith, four-in)),
-          one-word b (each-set wd a (each-row m ss) i (set (getD a i []) 1 x) lr) (length-set a i (set (getD a i []) 1 x) ∙ la) 2 y (omega (arith, four-in)),
+          one-word a (each-row m ss) la 1 x (omega (arith, three-in)),
+          one-word b (each-set wd a (each-row m ss) i (set (getD a i []) 1 x) lr) (length-set a i (set (getD a i []) 1 x) ∙ la) 2 y (omega (arith, three-in)),
           getD-set-same a i (set (getD a i []) 1 x) [] (rw la h),
           set-set,
           g,
           e,
-          map-set (placeRow m) ss i s,
+          map-set (placeRow wd m) ss i s,
         ) refl

@@ -17,11 +17,11 @@ use Rattle.pieces.specs.declared.pieces.Pieces.{Pieces}
 use Rattle.layout.specs.Runs.{write}
 use Rattle.layout.specs.Layout.{layerOf}
 use Rattle.layout.specs.Layers.{inSet, hiding, inLayers}
-use Rattle.machine.specs.Machine.{Mesh, Place, empty, full, among, seenPlace, seenPlaces}
+use Rattle.machine.specs.Machine.{Mesh, Provenance, Place, empty, full, among, seenPlace, seenPlaces}
 use Rattle.machine.specs.Holding.{placeRow, wordsOf}
 use Rattle.machine.specs.Fresh.{kernelOf, kernelsOf}
 use Rattle.machine.specs.Valid.{Within, Valid}
-use Rattle.machine.proofs.Rows.{Width}
+use Rattle.machine.proofs.Rows.{Width, Layered, layered4, formed}
 use Rattle.machine.proofs.Held.{layer-held, write-words, zeros-row}
 
 -- ---- the sets of the store's words are those of the machine
@@ -40,8 +40,8 @@ all-among l h = every-at (λ i. among i 65535) 16 l h refl
 pub all-seen : (m : Mesh) (ss : List Place) → ((i : ℕ) → Within m (getD ss i empty)) → seenPlaces 65535 ss ≡ ss
 all-seen m [] w = refl
 all-seen m (empty ∷ ss) w = ap (λ (t : List Place). empty ∷ t) (all-seen m ss (λ i. w (suc i)))
-all-seen m (full k fit p l ∷ ss) w =
-    rw (all-among l (w zero .layer)) (ap (λ (t : List Place). full k fit p l ∷ t) (all-seen m ss (λ i. w (suc i))))
+all-seen m (full k fit o p l ∷ ss) w =
+    rw (all-among l (w zero .layer)) (ap (λ (t : List Place). full k fit o p l ∷ t) (all-seen m ss (λ i. w (suc i))))
 
 -- ---- with none no place is seen
 none-among : (l : ℕ) → among l 0 ≡ false
@@ -51,7 +51,7 @@ none-among (suc l) = none-among l
 pub none-seen : (ss : List Place) → kernelsOf (seenPlaces 0 ss) ≡ []
 none-seen [] = refl
 none-seen (empty ∷ ss) = none-seen ss
-none-seen (full k fit p l ∷ ss) = rw (none-among l) (none-seen ss)
+none-seen (full k fit o p l ∷ ss) = rw (none-among l) (none-seen ss)
 
 -- ---- some places are emptied: f leaves each as it is or empties it
 abbrev pub Emptying : (Place → Place) → Type 0
@@ -59,10 +59,10 @@ Emptying f = (s : Place) → (f s ≡ s) ⊎ (f s ≡ empty)
 
 module _ (f : Place → Place) (one : Emptying f) where
   -- what is then in a place was there
-  was-there : (s : Place) (k : Kernel) (fit : Pieces) (p l : ℕ) → f s ≡ full k fit p l → s ≡ full k fit p l
-  was-there s k fit p l e = go (one s)
+  was-there : (s : Place) (k : Kernel) (fit : Pieces) (o : Provenance) (p l : ℕ) → f s ≡ full k fit o p l → s ≡ full k fit o p l
+  was-there s k fit o p l e = go (one s)
     where
-      go : (f s ≡ s) ⊎ (f s ≡ empty) → s ≡ full k fit p l
+      go : (f s ≡ s) ⊎ (f s ≡ empty) → s ≡ full k fit o p l
       go (inl z) = sym z ∙ e
       go (inr z) = absurd (let y : _≡_ {A = ℕ} 0 1 = ap (λ (s : Place). length (kernelOf s)) (sym z ∙ e) in omega arith)
 
@@ -83,9 +83,9 @@ module _ (f : Place → Place) (one : Emptying f) where
   pub emptied-at : (ss : List Place) (i : ℕ) → getD (map f ss) i empty ≡ f (getD ss i empty)
   emptied-at ss i = ap (getD (map f ss) i) (sym none-stays) ∙ List·getD-map f ss i empty
 
-  pub emptied-there : (ss : List Place) (i : ℕ) (k : Kernel) (fit : Pieces) (p l : ℕ)
-      → getD (map f ss) i empty ≡ full k fit p l → getD ss i empty ≡ full k fit p l
-  emptied-there ss i k fit p l e = was-there (getD ss i empty) k fit p l (sym (emptied-at ss i) ∙ e)
+  pub emptied-there : (ss : List Place) (i : ℕ) (k : Kernel) (fit : Pieces) (o : Provenance) (p l : ℕ)
+      → getD (map f ss) i empty ≡ full k fit o p l → getD ss i empty ≡ full k fit o p l
+  emptied-there ss i k fit o p l e = was-there (getD ss i empty) k fit o p l (sym (emptied-at ss i) ∙ e)
 
   pub emptied-valid : (m : Mesh) (ss : List Place) → Valid m ss → Valid m (map f ss)
   emptied-valid m ss v =
@@ -131,22 +131,22 @@ module _ (f : Place → Place) (one : Emptying f) where
         ) refl
 
     one-hidden : (k : ℕ) → k < 32 → (b : Bool)
-        → cond b (wordsOf m (partly k) ys) (write (wordsOf m (partly k) ys) (2 + wd * k) (replicate wd 0))
-        ≡ wordsOf m (set (partly k) k (cond b (getD ss k empty) empty)) ys
+        → cond b (wordsOf wd m (partly k) ys) (write (wordsOf wd m (partly k) ys) (2 + wd * k) (replicate wd 0))
+        ≡ wordsOf wd m (set (partly k) k (cond b (getD ss k empty) empty)) ys
     one-hidden k h true =
-        ap (λ (t : List Place). wordsOf m t ys)
+        ap (λ (t : List Place). wordsOf wd m t ys)
         (sym (ap (set (partly k) k) (sym (at k h)) ∙ set-getD (partly k) k empty))
     one-hidden k h false = rw (zeros-row wd fm m) (write-words wd fm m (partly k) (long k h) ys k h empty)
 
-    hidden : (k : ℕ) → k ≤ 32 → hiding wd test (wordsOf m ss ys) k ≡ wordsOf m (partly k) ys
+    hidden : (k : ℕ) → k ≤ 32 → hiding wd test (wordsOf wd m ss ys) k ≡ wordsOf wd m (partly k) ys
     unfolding hiding
     hidden zero h = refl
     hidden (suc k) h =
         rw (hidden k (omega arith))
         (one-hidden k h (test k)
-        ∙ ap (λ (t : List Place). wordsOf m t ys) (ap (set (partly k) k) (by k h) ∙ next k h))
+        ∙ ap (λ (t : List Place). wordsOf wd m t ys) (ap (set (partly k) k) (by k h) ∙ next k h))
 
-    pub words-emptied : hiding wd test (wordsOf m ss ys) 32 ≡ wordsOf m (map f ss) ys
+    pub words-emptied : hiding wd test (wordsOf wd m ss ys) 32 ≡ wordsOf wd m (map f ss) ys
     words-emptied =
         let t : take 32 ss ≡ ss = take-all 32 ss (rw hs (omega arith)) in
         let d : drop 32 ss ≡ [] = drop-of-length-le ss {i = 32} (rw hs (omega arith)) in
@@ -156,24 +156,28 @@ module _ (f : Place → Place) (one : Emptying f) where
 module _ (layers : ℕ) where
   pub seen-or-none : Emptying (seenPlace layers)
   seen-or-none empty = inl refl
-  seen-or-none (full k fit p l) = go (among l layers)
+  seen-or-none (full k fit o p l) = go (among l layers)
     where
-      go : (b : Bool) → (cond b (full k fit p l) empty ≡ full k fit p l) ⊎ (cond b (full k fit p l) empty ≡ empty)
+      go : (b : Bool) → (cond b (full k fit o p l) empty ≡ full k fit o p l) ⊎ (cond b (full k fit o p l) empty ≡ empty)
       go true = inl refl
       go false = inr refl
 
-  module _ (wd : ℕ) (fm : Width wd) (m : Mesh) (ss : List Place) (hs : length ss ≡ 32) (ys : List ℕ) where
-    seen-by : (s : Place) → cond (inSet layers (getD (placeRow m s) 3 0)) s empty ≡ seenPlace layers s
-    seen-by empty = go (inSet layers 0)
-      where
-        go : (b : Bool) → cond b empty empty ≡ empty
-        go true = refl
-        go false = refl
-    seen-by (full k fit p l) = rw (same-set l layers) refl
+  seen-by : {wd : ℕ} → Layered wd → (m : Mesh) (s : Place)
+      → cond (inSet layers (getD (placeRow wd m s) 3 0)) s empty ≡ seenPlace layers s
+  seen-by layered4 m empty = go (inSet layers 0)
+    where
+      go : (b : Bool) → cond b empty empty ≡ empty
+      go true = refl
+      go false = refl
+  seen-by layered4 m (full k fit o p l) = rw (same-set l layers) refl
 
-    pub layers-held : inLayers wd layers (wordsOf m ss ys) ≡ wordsOf m (seenPlaces layers ss) ys
+  module _ (wd : ℕ) (ly : Layered wd) (m : Mesh) (ss : List Place) (hs : length ss ≡ 32) (ys : List ℕ) where
+    fm : Width wd
+    fm = formed ly
+
+    pub layers-held : inLayers wd layers (wordsOf wd m ss ys) ≡ wordsOf wd m (seenPlaces layers ss) ys
     unfolding inLayers
     layers-held =
         words-emptied (seenPlace layers) seen-or-none wd fm m ss hs ys
-        (λ i. inSet layers (layerOf wd (wordsOf m ss ys) i))
-        (λ i h. rw (layer-held wd fm m ss hs ys i h) (seen-by (getD ss i empty)))
+        (λ i. inSet layers (layerOf wd (wordsOf wd m ss ys) i))
+        (λ i h. rw (layer-held wd fm m ss hs ys i h) (seen-by ly m (getD ss i empty)))

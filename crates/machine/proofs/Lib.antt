@@ -18,8 +18,12 @@ pub mod Unaltered
 pub mod Opened
 pub mod Refused
 pub mod Listed
-pub mod Demand
+pub mod Follow
+pub mod OldCalls
+pub mod Carrying
 pub mod Tally
 pub mod Billed
 pub mod Renumber
 pub mod Signs
+pub mod Always
+pub mod Demand

@@ -1,6 +1,6 @@
 -- The pieces worked afresh are those that the call on a list of kernels writes. Assumes nothing.
 use mathlib.Core.Path.{_≡_, refl, sym, ap, _∙_}
-use mathlib.Core.List.{List, [], _∷_, _++_, append-assoc, append-nil}
+use mathlib.Core.List.{List, [], _∷_, _++_, map-append, append-assoc, append-nil}
 use Prim.Native.Nat.{ℕ, zero, suc, _+_, _*_, _≤_, _<_}
 use native.Mathlib.Nat.{zero-add}
 use native.Mathlib.Omega.{arith}
@@ -24,17 +24,19 @@ use Rattle.pieces.specs.Lists.{pieceCount, greatestError, spread, fittedAll, li
 use Rattle.readings.specs.Readings.{noKernel, six, sixes}
 use Rattle.readings.specs.Lists.{set6-write}
 use Rattle.readings.specs.SixLaws.{whole, sixes-length, at-whole, list-sound, count-of}
-use Rattle.machine.specs.Fresh.{piecesTo, piecesOf, allPieces, worstFrom}
-use Rattle.machine.specs.Demands.{Decomposed}
+use Rattle.machine.specs.Fresh.{Worked, piecesTo, piecesOf, allPieces, worstFrom}
+use Rattle.machine.specs.Demands.{decomposedAll, Decomposed}
 
 -- one kernel more, behind
-every-snoc : (r : Float) (ks : List Kernel) (k : Kernel) → allPieces r (ks ++ (k ∷ [])) ≡ allPieces r ks ++ piecesOf r k
-every-snoc r [] k = append-nil (piecesOf r k)
-every-snoc r (x ∷ ks) k = ap (λ (l : List Kernel). piecesOf r x ++ l) (every-snoc r ks k) ∙ sym (append-assoc (piecesOf r x) (allPieces r ks) (piecesOf r k))
+every-snoc : (xs : List Worked) (a : Worked) → allPieces (xs ++ (a ∷ [])) ≡ allPieces xs ++ piecesOf a
+every-snoc [] a = append-nil (piecesOf a)
+every-snoc (x ∷ xs) a =
+    ap (λ (l : List Kernel). piecesOf x ++ l) (every-snoc xs a)
+    ∙ sym (append-assoc (piecesOf x) (allPieces xs) (piecesOf a))
 
-pub worst-append : (r e : Float) (a b : List Kernel) → worstFrom r e (a ++ b) ≡ worstFrom r (worstFrom r e a) b
-worst-append r e [] b = refl
-worst-append r e (k ∷ a) b = worst-append r (greater e (decomposed k r .error)) a b
+pub worst-append : (e : Float) (a b : List Worked) → worstFrom e (a ++ b) ≡ worstFrom (worstFrom e a) b
+worst-append e [] b = refl
+worst-append e (x ∷ a) b = worst-append (greater e (x .fit .error)) a b
 
 sixes-append : (a b : List Kernel) → sixes (a ++ b) ≡ sixes a ++ sixes b
 sixes-append [] b = refl
@@ -84,31 +86,46 @@ module _ (ks : List Kernel) (r : Float) where
   fit-at : (n : ℕ) → n < length ks → decomposed (kernelAt L n) r ≡ decomposed (getD ks n noKernel) r
   fit-at n h = ap (λ (k : Kernel). decomposed k r) (at-whole ks n h) ∙ same-fit (getD ks n noKernel) r
 
-  every-more : (n : ℕ) → n < length ks → allPieces r (take (suc n) ks) ≡ allPieces r (take n ks) ++ piecesOf r (getD ks n noKernel)
-  every-more n h = ap (allPieces r) (take-suc ks n noKernel h) ∙ every-snoc r (take n ks) (getD ks n noKernel)
+  -- the kernel at n, and all below it
+  abbrev one : ℕ → Worked
+  one n = let k = getD ks n noKernel in record { kernel = k; fit = decomposed k r }
 
-  length-more : (n : ℕ) → n < length ks → length (allPieces r (take (suc n) ks)) ≡ length (allPieces r (take n ks)) + decomposed (getD ks n noKernel) r .count
+  abbrev first : ℕ → List Worked
+  first n = decomposedAll r (take n ks)
+
+  first-more : (n : ℕ) → n < length ks → first (suc n) ≡ first n ++ (one n ∷ [])
+  first-more n h =
+      ap (decomposedAll r) (take-suc ks n noKernel h)
+      ∙ map-append (λ k. record { kernel = k; fit = decomposed k r }) (take n ks) (getD ks n noKernel ∷ [])
+
+  every-more : (n : ℕ) → n < length ks → allPieces (first (suc n)) ≡ allPieces (first n) ++ piecesOf (one n)
+  every-more n h = ap allPieces (first-more n h) ∙ every-snoc (first n) (one n)
+
+  length-more : (n : ℕ) → n < length ks
+      → length (allPieces (first (suc n))) ≡ length (allPieces (first n)) + one n .fit .count
   length-more n h =
-      let k = getD ks n noKernel in
-      ap length (every-more n h) ∙ (length-append (allPieces r (take n ks)) (piecesOf r k) ∙ ap (λ (c : ℕ). length (allPieces r (take n ks)) + c) (pieces-length k (decomposed k r) (decomposed k r .count)))
+      ap length (every-more n h)
+      ∙ (length-append (allPieces (first n)) (piecesOf (one n))
+      ∙ ap (λ (c : ℕ). length (allPieces (first n)) + c) (pieces-length (one n .kernel) (one n .fit) (one n .fit .count)))
 
-  count-to : (n : ℕ) → n ≤ length ks → pieceCount L r n ≡ length (allPieces r (take n ks))
+  count-to : (n : ℕ) → n ≤ length ks → pieceCount L r n ≡ length (allPieces (first n))
   unfolding pieceCount
   count-to zero h = refl
   count-to (suc n) h = rw (count-to n (omega arith), fit-at n h) (sym (length-more n h))
 
-  error-to : (n : ℕ) → n ≤ length ks → greatestError L r n ≡ worstFrom r +0 (take n ks)
+  error-to : (n : ℕ) → n ≤ length ks → greatestError L r n ≡ worstFrom +0 (first n)
   unfolding greatestError
   error-to zero h = refl
-  error-to (suc n) h = rw (error-to n (omega arith), fit-at n h, take-suc ks n noKernel h) (sym (worst-append r +0 (take n ks) (getD ks n noKernel ∷ [])))
+  error-to (suc n) h = rw (error-to n (omega arith), fit-at n h, first-more n h) (sym (worst-append +0 (first n) (one n ∷ [])))
 
-  spread-to : (xs : List Float) (n : ℕ) → n ≤ length ks → 6 * length (allPieces r (take n ks)) ≤ length xs → spread L r n xs ≡ write xs 0 (sixes (allPieces r (take n ks)))
+  spread-to : (xs : List Float) (n : ℕ) → n ≤ length ks → 6 * length (allPieces (first n)) ≤ length xs
+      → spread L r n xs ≡ write xs 0 (sixes (allPieces (first n)))
   unfolding spread laid
   spread-to xs zero h room = sym (write-none xs 0)
   spread-to xs (suc n) h room =
       let k = getD ks n noKernel in
       let fit = decomposed k r in
-      let done = allPieces r (take n ks) in
+      let done = allPieces (first n) in
       let more = length-more n h in
       let l = sixes-length done in
       let ys = write xs 0 (sixes done) in
@@ -117,20 +134,28 @@ module _ (ks : List Kernel) (r : Float) where
       rw (count-to n (omega arith), fit-at n h, at-whole ks n h, spread-to xs n (omega arith) (omega arith))
       (lay-to (length done) (whole k) fit ys (fit .count) (omega arith)
       ∙ (ap (write ys (6 * length done)) (same-sixes k fit (fit .count))
-      ∙ (ap (λ (i : ℕ). write ys i (sixes (piecesOf r k))) e
-      ∙ (write-more xs 0 (sixes done) (sixes (piecesOf r k)) (omega arith)
-      ∙ ap (write xs 0) (sym (sixes-append done (piecesOf r k)) ∙ ap sixes (sym (every-more n h)))))))
+      ∙ (ap (λ (i : ℕ). write ys i (sixes (piecesOf (one n)))) e
+      ∙ (write-more xs 0 (sixes done) (sixes (piecesOf (one n))) (omega arith)
+      ∙ ap (write xs 0) (sym (sixes-append done (piecesOf (one n))) ∙ ap sixes (sym (every-more n h)))))))
 
-  all-listed : (xs : List Float) → 6 * length (allPieces r ks) ≤ length xs
-      → listDecomposition L r xs ≡ outcome (fittedAll (length ks) (length (allPieces r ks)) (worstFrom r +0 ks)) (write xs 0 (sixes (allPieces r ks)))
+  abbrev every : List Worked
+  every = decomposedAll r ks
+
+  all-listed : (xs : List Float) → 6 * length (allPieces every) ≤ length xs
+      → listDecomposition L r xs
+      ≡ outcome (fittedAll (length ks) (length (allPieces every)) (worstFrom +0 every)) (write xs 0 (sixes (allPieces every)))
   unfolding listDecomposition
   all-listed xs room =
       let n = length ks in
       let t : take n ks ≡ ks = take-all n ks (omega arith) in
-      let c : pieceCount L r n ≡ length (allPieces r ks) = count-to n (omega arith) ∙ ap (λ (l : List Kernel). length (allPieces r l)) t in
-      let e : greatestError L r n ≡ worstFrom r +0 ks = error-to n (omega arith) ∙ ap (worstFrom r +0) t in
-      let s : spread L r n xs ≡ write xs 0 (sixes (allPieces r ks)) = spread-to xs n (omega arith) (rw t room) ∙ ap (λ (l : List Kernel). write xs 0 (sixes (allPieces r l))) t in
-      rw (list-sound ks, count-of ks, c, e, s, le-leb (6 * length (allPieces r ks)) (length xs) room) refl
+      let c : pieceCount L r n ≡ length (allPieces every)
+      = count-to n (omega arith) ∙ ap (λ (l : List Kernel). length (allPieces (decomposedAll r l))) t in
+      let e : greatestError L r n ≡ worstFrom +0 every
+      = error-to n (omega arith) ∙ ap (λ (l : List Kernel). worstFrom +0 (decomposedAll r l)) t in
+      let s : spread L r n xs ≡ write xs 0 (sixes (allPieces every))
+      = spread-to xs n (omega arith) (rw t room)
+      ∙ ap (λ (l : List Kernel). write xs 0 (sixes (allPieces (decomposedAll r l)))) t in
+      rw (list-sound ks, count-of ks, c, e, s, le-leb (6 * length (allPieces every)) (length xs) room) refl
 
 pub listed : (r : Float) (ks : List Kernel) → Decomposed r ks
 listed r ks = record { listed = all-listed ks r }

@@ -26,15 +26,15 @@ use Rattle.base.specs.Answers.{Outcome, outcome}
 use Rattle.readings.specs.Readings.{Reading, density, report, list, track, byMass, needsWork, Part, bare, densityAt, rawMass, origin, applied, rescaled, Seen, seeing, listing, tracking, answerOf, refusing, readingOf, heldFilled, heldWorst, heldSeen, guardedRead, readStep}
 use Rattle.machine.specs.Machine.{Mesh, Place, empty, full, leftSum, seenPlace, seenPlaces}
 use Rattle.machine.specs.Holding.{triangles, placeRow, wordsOf}
-use Rattle.machine.specs.Fresh.{kernelOf, kernelsOf, worstFrom, workedAfresh}
+use Rattle.machine.specs.Fresh.{Worked, workPlace, workAll, worstFrom, workedAfresh}
 use Rattle.machine.specs.Calls.{byTarget, needs}
 use Rattle.machine.specs.Valid.{Within, Valid}
-use Rattle.machine.proofs.Rows.{Width}
+use Rattle.machine.proofs.Rows.{Width, Layered, formed}
 use Rattle.machine.proofs.Sixteen.{laidOut}
 use Rattle.machine.proofs.Held.{get7, status-held, coords-held, corners-held}
 use Rattle.machine.proofs.Sane.{no-fault}
 use Rattle.machine.proofs.Sweep.{left-held}
-use Rattle.machine.proofs.Read.{There, bare-all, whole-all}
+use Rattle.machine.proofs.Read.{fit-afresh, There, bare-all, whole-all}
 use Rattle.machine.proofs.Layers.{seen-or-none, emptied-there, emptied-valid, layers-held}
 use Rattle.machine.proofs.Parts.{freshSeen}
 use Rattle.machine.proofs.Afresh.{joined}
@@ -85,9 +85,11 @@ pub same-seen : {p p′ : List Part} {b b′ : Float} {n n′ : ℕ} {e e′ : F
 same-seen hp hb hn he = rw (hp, hb, hn, he) refl
 
 -- one place more, behind
-kernels-snoc : (l : List Place) (s : Place) → kernelsOf (l ++ (s ∷ [])) ≡ kernelsOf l ++ kernelOf s
-kernels-snoc [] s = append-nil (kernelOf s)
-kernels-snoc (x ∷ l) s = ap (λ (t : List Kernel). kernelOf x ++ t) (kernels-snoc l s) ∙ sym (append-assoc (kernelOf x) (kernelsOf l) (kernelOf s))
+work-snoc : (r : Float) (l : List Place) (s : Place) → workAll r (l ++ (s ∷ [])) ≡ workAll r l ++ workPlace r s
+work-snoc r [] s = append-nil (workPlace r s)
+work-snoc r (x ∷ l) s =
+    ap (λ (t : List Worked). workPlace r x ++ t) (work-snoc r l s)
+    ∙ sym (append-assoc (workPlace r x) (workAll r l) (workPlace r s))
 
 -- ---- the floats hold all places ss, the words only the places ts that a reading sees
 module _
@@ -97,23 +99,23 @@ module _
   FS = laidOut m ss xs
 
   abbrev WS : List ℕ
-  WS = wordsOf m ts ys
+  WS = wordsOf wd m ts ys
 
   -- ---- count and greatest error
   not-empty : (fit : Pieces) → eqb (1 + fit .count) 0 ≡ false
   not-empty fit = ne-eqb (1 + fit .count) 0 (λ e. omega arith)
 
-  filled-one : (s : Place) → cond (eqb (getD (placeRow m s) 0 0) 0) 0 1 ≡ length (kernelOf s)
+  filled-one : (s : Place) → cond (eqb (getD (placeRow wd m s) 0 0) 0) 0 1 ≡ length (workPlace (m .radius) s)
   filled-one empty = refl
-  filled-one (full k fit p l) = rw (not-empty fit) refl
+  filled-one (full k fit o p l) = rw (not-empty fit) refl
 
-  worst-one : (i : ℕ) → i < 32 → (e : Float) (s : Place) → getD ts i empty ≡ s → Within m s → cond (eqb (getD (placeRow m s) 0 0) 0) e (greater e (getD FS (7 + 7 * i) nan)) ≡ worstFrom (m .radius) e (kernelOf s)
+  worst-one : (i : ℕ) → i < 32 → (e : Float) (s : Place) → getD ts i empty ≡ s → Within m s → cond (eqb (getD (placeRow wd m s) 0 0) 0) e (greater e (getD FS (7 + 7 * i) nan)) ≡ worstFrom e (workPlace (m .radius) s)
   worst-one i h e empty q w = refl
-  worst-one i h e (full k fit p l) q w =
+  worst-one i h e (full k fit o p l) q w =
       let a : 7 + 7 * i ≡ 1 + (7 * i + 6) = omega arith in
-      rw (not-empty fit, a, get7 wd fm m ss hs xs i h 6 (omega arith), there i k fit p l q) (ap (λ (f : Pieces). greater e (f .error)) (w .fitted))
+      rw (not-empty fit, a, get7 wd fm m ss hs xs i h 6 (omega arith), there i k fit o p l q) (ap (λ (f : Pieces). greater e (f .error)) (fit-afresh (m .radius) k fit o (w .fitted)))
 
-  filled-to : (n : ℕ) → n ≤ 32 → heldFilled wd WS n ≡ length (kernelsOf (take n ts))
+  filled-to : (n : ℕ) → n ≤ 32 → heldFilled wd WS n ≡ length (workAll (m .radius) (take n ts))
   unfolding heldFilled
   filled-to zero h = refl
   filled-to (suc n) h =
@@ -122,22 +124,22 @@ module _
         filled-one (getD ts n empty),
         filled-to n (omega arith),
         take-suc ts n empty (rw (v .places) h),
-        kernels-snoc (take n ts) (getD ts n empty),
-        length-append (kernelsOf (take n ts)) (kernelOf (getD ts n empty)),
+        work-snoc (m .radius) (take n ts) (getD ts n empty),
+        length-append (workAll (m .radius) (take n ts)) (workPlace (m .radius) (getD ts n empty)),
       ) refl
 
-  worst-to : (n : ℕ) → n ≤ 32 → heldWorst wd FS WS n ≡ worstFrom (m .radius) +0 (kernelsOf (take n ts))
+  worst-to : (n : ℕ) → n ≤ 32 → heldWorst wd FS WS n ≡ worstFrom +0 (workAll (m .radius) (take n ts))
   unfolding heldWorst
   worst-to zero h = refl
   worst-to (suc n) h =
-      let ks = kernelsOf (take n ts) in
+      let all = workAll (m .radius) (take n ts) in
       rw (
         status-held wd fm m ts (v .places) ys n h,
         worst-to n (omega arith),
-        worst-one n h (worstFrom (m .radius) +0 ks) (getD ts n empty) refl (v .within n),
+        worst-one n h (worstFrom +0 all) (getD ts n empty) refl (v .within n),
         take-suc ts n empty (rw (v .places) h),
-        kernels-snoc (take n ts) (getD ts n empty),
-        worst-append (m .radius) +0 ks (kernelOf (getD ts n empty)),
+        work-snoc (m .radius) (take n ts) (getD ts n empty),
+        worst-append +0 all (workPlace (m .radius) (getD ts n empty)),
       ) refl
 
   all : take 32 ts ≡ ts
@@ -154,15 +156,15 @@ module _
   body-held : bodyVolume (held wd FS WS (vertsOf WS) (facesOf WS)) (facesOf WS) ≡ bodyVolume (triangles m) (m .faces)
   body-held = rw (verts-held, faces-held, coords-held wd fm m ss hs xs (v .mesh .coords), corners-held wd fm m ts (v .places) ys (v .mesh .corners)) refl
 
-  pub filled-held : heldFilled wd WS 32 ≡ length (kernelsOf ts)
-  filled-held = filled-to 32 (omega arith) ∙ ap (λ (l : List Place). length (kernelsOf l)) all
+  pub filled-held : heldFilled wd WS 32 ≡ length (workAll (m .radius) ts)
+  filled-held = filled-to 32 (omega arith) ∙ ap (λ (l : List Place). length (workAll (m .radius) l)) all
 
   -- with nothing left a reading sees what is worked afresh
   pub whole-seen : leftSum m ts ≡ 0 → heldSeen wd FS WS ≡ freshSeen m ts
   unfolding heldSeen freshSeen
   whole-seen z =
       same-seen (whole-all wd fm m ss ts hs v there xs ys z) body-held filled-held
-      (worst-to 32 (omega arith) ∙ ap (λ (l : List Place). worstFrom (m .radius) +0 (kernelsOf l)) all)
+      (worst-to 32 (omega arith) ∙ ap (λ (l : List Place). worstFrom +0 (workAll (m .radius) l)) all)
 
   bare-seen : map bare (heldSeen wd FS WS .parts) ≡ map bare (freshSeen m ts .parts)
   unfolding heldSeen freshSeen
@@ -189,7 +191,7 @@ module _
 
 -- ---- a reading of a set of layers
 module _
-    (wd : ℕ) (fm : Width wd) (m : Mesh) (ss : List Place) (v : Valid m ss) (xs : List Float) (ys : List ℕ)
+    (wd : ℕ) (ly : Layered wd) (m : Mesh) (ss : List Place) (v : Valid m ss) (xs : List Float) (ys : List ℕ)
     (layers : ℕ) (r : Reading) where
   abbrev seen : List Place
   seen = seenPlaces layers ss
@@ -197,23 +199,23 @@ module _
   -- of the places that are seen: by the fields held, and by the machine
   abbrev byFields : Outcome
   byFields =
-      let ws = wordsOf m seen ys in
+      let ws = wordsOf wd m seen ys in
       readingOf r (leftOf wd ws (facesOf ws) 32) (heldSeen wd (laidOut m ss xs) ws)
 
   abbrev byMachine : Outcome
   byMachine = cond (needs r && ltb 0 (leftSum m seen)) (refusing r Unfinished) (workedAfresh m seen r)
 
-  pub read-held : readStep wd (laidOut m ss xs) (wordsOf m ss ys) layers r
+  pub read-held : readStep wd (laidOut m ss xs) (wordsOf wd m ss ys) layers r
       ≡ cond (leb (2 ^ 16) layers) (refusing r NoLayer) byMachine
   unfolding readStep layersCheck
   read-held =
-      rw (no-fault wd fm m ss v xs ys, layers-held layers wd fm m ss (v .places) ys) (go (decLt layers 65536))
+      rw (no-fault wd (formed ly) m ss v xs ys, layers-held layers wd ly m ss (v .places) ys) (go (decLt layers 65536))
     where
       held : byFields ≡ byMachine
       held =
           let f = seenPlace layers in
           let o = seen-or-none layers in
-          seen-held wd fm m ss seen (v .places) (emptied-valid f o m ss v) (emptied-there f o ss) xs ys r
+          seen-held wd (formed ly) m ss seen (v .places) (emptied-valid f o m ss v) (emptied-there f o ss) xs ys r
 
       go : Dec (layers < 65536) → guardedRead (cond (ltb layers 65536) Passed (Failed NoLayer)) r byFields
           ≡ cond (leb (2 ^ 16) layers) (refusing r NoLayer) byMachine

@@ -34,7 +34,7 @@ two-zeros z a b xs ex =
     append-assoc (replicate (a + b) z) xs ex
     ∙ (ap (λ (l : List _). l ++ (xs ++ ex)) (sym (replicate-append-replicate a b z)) ∙ append-assoc (replicate a z) (replicate b z) (xs ++ ex))
 
-write-front : {A : Type 0} (l vs : List A) (n : ℕ) → length vs ≡ n → write l 0 vs ≡ vs ++ drop n l
+pub write-front : {A : Type 0} (l vs : List A) (n : ℕ) → length vs ≡ n → write l 0 vs ≡ vs ++ drop n l
 unfolding write
 write-front l vs n e = rw e refl
 
@@ -56,17 +56,17 @@ module _ (wd : ℕ) (fm : Width wd) (r : Float) (xs : List Float) (ks : List ℕ
       ∙ (ap (λ (l : List Float). r ∷ (l ++ (replicate (48 * 32) +0 ++ (xs ++ excessF xs fs)))) (sym (flat-same floats7 7 +0 refl 32))
       ∙ ap (λ (l : List Float). r ∷ (flat (map floats7 (replicate 32 empty)) ++ (l ++ (xs ++ excessF xs fs)))) (sym (flat-same (floats48 M) 48 +0 refl 32))))
 
-  words-opened : (ws : List ℕ) → write ws 0 (openWords wd (length xs / 3) (length ks / 3) ks) ≡ wordsOf M (replicate 32 empty) (excessW wd ks ws)
+  words-opened : (ws : List ℕ) → write ws 0 (openWords wd (length xs / 3) (length ks / 3) ks) ≡ wordsOf wd M (replicate 32 empty) (excessW wd ks ws)
   unfolding wordsOf
   words-opened ws =
       let z : List ℕ = replicate (wd * 32) 0 in
       let n : length (openWords wd (length xs / 3) (length ks / 3) ks) ≡ cornersFrom wd + length ks = rw (length-append z ks, length-replicate {A = ℕ} (wd * 32) 0) (omega arith) in
       write-front ws (openWords wd (length xs / 3) (length ks / 3) ks) (cornersFrom wd + length ks) n
       ∙ (ap (λ (l : List ℕ). length xs / 3 ∷ length ks / 3 ∷ l) (append-assoc z ks (excessW wd ks ws))
-      ∙ ap (λ (l : List ℕ). length xs / 3 ∷ length ks / 3 ∷ (l ++ (ks ++ excessW wd ks ws))) (sym (flat-same (placeRow M) wd 0 (sym (zeros-row wd fm M)) 32)))
+      ∙ ap (λ (l : List ℕ). length xs / 3 ∷ length ks / 3 ∷ (l ++ (ks ++ excessW wd ks ws))) (sym (flat-same (placeRow wd M) wd 0 (sym (zeros-row wd fm M)) 32)))
 
   pub opens : (fs : List Float) (ws : List ℕ) → openCheck wd (length xs) ks (length fs) (length ws) ≡ Passed
-      → openStep wd fs ws r xs ks ≡ after (counted (length xs / 3 ∷ length ks / 3 ∷ [])) (floatsOf M (replicate 32 empty) (excessF xs fs)) (wordsOf M (replicate 32 empty) (excessW wd ks ws))
+      → openStep wd fs ws r xs ks ≡ after (counted (length xs / 3 ∷ length ks / 3 ∷ [])) (floatsOf M (replicate 32 empty) (excessF xs fs)) (wordsOf wd M (replicate 32 empty) (excessW wd ks ws))
   unfolding openStep
   opens fs ws h =
       let a = counted (length xs / 3 ∷ length ks / 3 ∷ []) in

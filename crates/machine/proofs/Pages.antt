@@ -14,18 +14,18 @@ use Rattle.base.specs.declared.refusal.Refusal.the-variants.{Unfinished}
 use Rattle.base.specs.declared.refusal.Checked.the-variants.{Passed, Failed}
 use Rattle.pieces.specs.declared.pieces.Pieces.{Pieces}
 use Rattle.layout.specs.Layout.{facesOf}
-use Rattle.readings.specs.Readings.{rawMass, heldAt}
+use Rattle.readings.specs.Readings.{rawMass}
 use Rattle.page.specs.Page.{Row, row, paged, pageAnswer, rowAt, heldRows, guardedPage, doneCheck, pageStep}
 use Rattle.machine.specs.Machine.{Mesh, Place, empty, full, leftSum}
 use Rattle.machine.specs.Holding.{placeRow, wordsOf}
-use Rattle.machine.specs.Fresh.{massOf, piecesOf, freshRow, freshRows, pageAfresh}
+use Rattle.machine.specs.Fresh.{fitAfresh, massOf, piecesOf, freshRow, freshRows, pageAfresh}
 use Rattle.machine.specs.Valid.{Within, Valid}
 use Rattle.machine.proofs.Rows.{Width}
 use Rattle.machine.proofs.Sixteen.{laidOut}
 use Rattle.machine.proofs.Held.{status-held}
 use Rattle.machine.proofs.Sane.{no-fault}
 use Rattle.machine.proofs.Sweep.{left-held}
-use Rattle.machine.proofs.Read.{whole-place}
+use Rattle.machine.proofs.Read.{fit-afresh, whole-place}
 use Rattle.machine.proofs.Afresh.{place-mass}
 
 module _ (wd : ℕ) (fm : Width wd) (m : Mesh) (ss : List Place) (v : Valid m ss) (xs : List Float) (ys : List ℕ) where
@@ -33,7 +33,7 @@ module _ (wd : ℕ) (fm : Width wd) (m : Mesh) (ss : List Place) (v : Valid m ss
   FS = laidOut m ss xs
 
   abbrev WS : List ℕ
-  WS = wordsOf m ss ys
+  WS = wordsOf wd m ss ys
 
   -- one place more, behind
   rows-snoc : (i : ℕ) (l : List Place) (s : Place) → freshRows m i (l ++ (s ∷ [])) ≡ freshRows m i l ++ freshRow m (i + length l) s
@@ -44,13 +44,16 @@ module _ (wd : ℕ) (fm : Width wd) (m : Mesh) (ss : List Place) (v : Valid m ss
       ∙ sym (append-assoc (freshRow m i x) (freshRows m (suc i) l) (freshRow m (i + length (x ∷ l)) s))
 
   module _ (none : leftSum m ss ≡ 0) where
-    row-held : (i : ℕ) → i < 32 → (s : Place) → getD ss i empty ≡ s → Within m s → rowAt FS i (getD (placeRow m s) 0 0) ≡ freshRow m i s
+    row-held : (i : ℕ) → i < 32 → (s : Place) → getD ss i empty ≡ s → Within m s → rowAt FS i (getD (placeRow wd m s) 0 0) ≡ freshRow m i s
     row-held i h empty e w = refl
-    row-held i h (full k fit p l) e w =
+    row-held i h (full k fit o p l) e w =
         let n : eqb (1 + fit .count) 0 ≡ false = ne-eqb (1 + fit .count) 0 (λ z. omega arith) in
         let c : 1 + fit .count - 1 ≡ fit .count = omega arith in
-        let a = ap rawMass (whole-place wd fm m ss ss (v .places) v (λ j k fit p l e. e) xs ys none i h (full k fit p l) e w) ∙ place-mass m (v .mesh) k fit p l in
-        rw (n, a, c) (ap (λ (f : Pieces). row i (f .count) (massOf m (piecesOf (m .radius) k)) ∷ []) (w .fitted))
+        let a = ap rawMass (whole-place wd fm m ss ss (v .places) v (λ j k fit o p l e. e) xs ys none i h (full k fit o p l) e w) ∙ place-mass m (v .mesh) k fit o p l in
+        let g = fitAfresh (m .radius) k fit o in
+        rw (n, a, c)
+        (ap (λ (f : Pieces). row i (f .count) (massOf m (piecesOf (record { kernel = k; fit = g }))) ∷ [])
+        (fit-afresh (m .radius) k fit o (w .fitted)))
 
     rows-to : (n : ℕ) → n ≤ 32 → heldRows wd FS WS n ≡ freshRows m 0 (take n ss)
     unfolding heldRows

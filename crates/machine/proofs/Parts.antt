@@ -8,11 +8,11 @@ use Rattle.volume.specs.Volume.{kernelVolume, bodyVolume}
 use Rattle.kernel.specs.Field.{centreOf}
 use Rattle.kernel.specs.declared.kernel.Kernel.{Kernel}
 use Rattle.pieces.specs.declared.pieces.Pieces.{Pieces}
-use Rattle.pieces.specs.Pieces.{decomposed, pieceAlpha}
+use Rattle.pieces.specs.Pieces.{pieceAlpha}
 use Rattle.readings.specs.Readings.{Part, Seen, seeing}
 use Rattle.machine.specs.Machine.{Mesh, Place, empty, full}
 use Rattle.machine.specs.Holding.{triangles}
-use Rattle.machine.specs.Fresh.{kernelsOf, worstFrom}
+use Rattle.machine.specs.Fresh.{fitAfresh, workAll, worstFrom}
 
 -- piece j of a fit
 abbrev pub freshPart : Mesh → Kernel → Pieces → ℕ → Part
@@ -32,14 +32,14 @@ abbrev pub freshAt : Mesh → Kernel → Pieces → ℕ → List Part
 freshAt m k fit zero = []
 freshAt m k fit (suc n) = freshAt m k fit n ++ (freshPart m k fit n ∷ [])
 
--- a place, "decomposed"
+-- a place, "decomposed", or by the pieces that a carry brought
 abbrev pub freshPlace : Mesh → Place → List Part
 freshPlace m empty = []
-freshPlace m (full k fit p l) = freshAt m k (decomposed k (m .radius)) (decomposed k (m .radius) .count)
+freshPlace m (full k fit o p l) = let f = fitAfresh (m .radius) k fit o in freshAt m k f (f .count)
 
 abbrev pub freshAll : Mesh → List Place → List Part
 freshAll m [] = []
 freshAll m (s ∷ ss) = freshPlace m s ++ freshAll m ss
 
 unfoldable pub freshSeen : Mesh → List Place → Seen
-freshSeen m ss = seeing (freshAll m ss) (bodyVolume (triangles m) (m .faces)) (length (kernelsOf ss)) (worstFrom (m .radius) +0 (kernelsOf ss))
+freshSeen m ss = seeing (freshAll m ss) (bodyVolume (triangles m) (m .faces)) (length (workAll (m .radius) ss)) (worstFrom +0 (workAll (m .radius) ss))

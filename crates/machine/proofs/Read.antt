@@ -12,12 +12,13 @@ use Rattle.kernel.specs.Field.{centreOf}
 use Rattle.kernel.specs.declared.kernel.Kernel.{Kernel}
 use Rattle.pieces.specs.declared.pieces.Pieces.{Pieces}
 use Rattle.readings.specs.Readings.{Part, bare, heldPart, heldAt, heldAll}
-use Rattle.machine.specs.Machine.{Mesh, Place, empty, full, need, leftPlace, leftSum}
+use Rattle.machine.specs.Machine.{Mesh, Provenance, own, carried, Place, empty, full, need, leftPlace, leftSum}
 use Rattle.machine.specs.Holding.{triangles, cells, placeRow, wordsOf}
+use Rattle.machine.specs.Fresh.{fitAfresh}
 use Rattle.machine.proofs.Rows.{Width}
 use Rattle.machine.proofs.Sixteen.{laidOut}
 use Rattle.machine.proofs.Parts.{freshPart, freshAt, freshPlace, freshAll}
-use Rattle.machine.specs.Valid.{Within, Valid}
+use Rattle.machine.specs.Valid.{FittedBy, Within, Valid}
 use Rattle.machine.proofs.Held.{get7, get48, status-held}
 
 -- ---- a place's cells: n pieces from j on, with t steps; u counts from j
@@ -56,11 +57,17 @@ module _ (m : Mesh) (k : Kernel) (fit : Pieces) where
       rw (i, e) (getD-append-add (getD (fit .sigma) j nan ∷ getD (fit .coefficient) j nan ∷ volumeTo (triangles m) (centreOf k) (getD (fit .sigma) j nan) (min (m .faces) t) ∷ []) (cells m k fit n (suc j) (t - m .faces)) (3 * u + 2) nan
       ∙ cell-volume n (suc j) (t - m .faces) u (omega arith) (omega arith))
 
+-- the pieces of a valid place are those with which fresh working starts
+pub fit-afresh : (radius : Float) (k : Kernel) (fit : Pieces) (o : Provenance) → FittedBy radius k fit o
+    → fit ≡ fitAfresh radius k fit o
+fit-afresh radius k fit own f = f
+fit-afresh radius k fit carried f = refl
+
 -- the filled places of ts are so in ss
 abbrev pub There : List Place → List Place → Type 0
 There ts ss =
-    (i : ℕ) (k : Kernel) (fit : Pieces) (p l : ℕ)
-    → getD ts i empty ≡ full k fit p l → getD ss i empty ≡ full k fit p l
+    (i : ℕ) (k : Kernel) (fit : Pieces) (o : Provenance) (p l : ℕ)
+    → getD ts i empty ≡ full k fit o p l → getD ss i empty ≡ full k fit o p l
 
 -- ---- the floats hold all places ss, the words only the places ts that a reading sees
 module _
@@ -70,24 +77,24 @@ module _
   FS = laidOut m ss xs
 
   abbrev WS : List ℕ
-  WS = wordsOf m ts ys
+  WS = wordsOf wd m ts ys
 
-  module _ (i : ℕ) (h : i < 32) (k : Kernel) (fit : Pieces) (p l : ℕ) (e : getD ts i empty ≡ full k fit p l) where
+  module _ (i : ℕ) (h : i < 32) (k : Kernel) (fit : Pieces) (o : Provenance) (p l : ℕ) (e : getD ts i empty ≡ full k fit o p l) where
     few-in : fit .count ≤ 16
     few-in = subst (Within m) e (v .within i) .few
 
     seven-at : (j : ℕ) → j < 7 → getD FS (1 + (7 * i + j)) nan ≡ getD (getD (k .c) 0 nan ∷ getD (k .c) 1 nan ∷ getD (k .c) 2 nan ∷ k .sigma ∷ k .w ∷ k .alpha ∷ fit .error ∷ []) j nan
-    seven-at j hj = rw (get7 wd fm m ss hs xs i h j hj, there i k fit p l e) refl
+    seven-at j hj = rw (get7 wd fm m ss hs xs i h j hj, there i k fit o p l e) refl
 
     pub bare-held : (j : ℕ) → j < fit .count → bare (heldPart FS i j) ≡ bare (freshPart m k fit j)
     bare-held j hj =
         let z : 0 + j ≡ j = omega arith in
         let s0 : getD FS (225 + 48 * i + 3 * j) nan ≡ getD (fit .sigma) j nan
         = (let q : 225 + 48 * i + 3 * j ≡ 225 + (48 * i + 3 * j) = omega arith in
-        rw (q, get48 wd fm m ss hs xs i h (3 * j) (omega (arith, few-in)), there i k fit p l e) (rw z at (cell-sigma m k fit 16 0 p j (omega (arith, few-in))))) in
+        rw (q, get48 wd fm m ss hs xs i h (3 * j) (omega (arith, few-in)), there i k fit o p l e) (rw z at (cell-sigma m k fit 16 0 p j (omega (arith, few-in))))) in
         let s1 : getD FS (225 + 48 * i + 3 * j + 1) nan ≡ getD (fit .coefficient) j nan
         = (let q : 225 + 48 * i + 3 * j + 1 ≡ 225 + (48 * i + (3 * j + 1)) = omega arith in
-        rw (q, get48 wd fm m ss hs xs i h (3 * j + 1) (omega (arith, few-in)), there i k fit p l e) (rw z at (cell-coefficient m k fit 16 0 p j (omega (arith, few-in))))) in
+        rw (q, get48 wd fm m ss hs xs i h (3 * j + 1) (omega (arith, few-in)), there i k fit o p l e) (rw z at (cell-coefficient m k fit 16 0 p j (omega (arith, few-in))))) in
         let c0 : 1 + 7 * i ≡ 1 + (7 * i + 0) = omega arith in
         let c1 : 2 + 7 * i ≡ 1 + (7 * i + 1) = omega arith in
         let c2 : 3 + 7 * i ≡ 1 + (7 * i + 2) = omega arith in
@@ -100,21 +107,21 @@ module _
         let q : 225 + 48 * i + 3 * j + 2 ≡ 225 + (48 * i + (3 * j + 2)) = omega arith in
         let z : 0 + j ≡ j = omega arith in
         let reach : suc j * m .faces ≤ fit .count * m .faces = mul-le-mul hj (le-refl (m .faces)) in
-        rw (q, get48 wd fm m ss hs xs i h (3 * j + 2) (omega (arith, few-in)), there i k fit p l e) (rw z at (cell-volume m k fit 16 0 p j (omega (arith, few-in)) (omega arith)))
+        rw (q, get48 wd fm m ss hs xs i h (3 * j + 2) (omega (arith, few-in)), there i k fit o p l e) (rw z at (cell-volume m k fit 16 0 p j (omega (arith, few-in)) (omega arith)))
 
   -- by any function g of a part on which the two agree
-  module _ {B : Type 0} (g : Part → B) (ag : (i : ℕ) → i < 32 → (k : Kernel) (fit : Pieces) (p l : ℕ) → getD ts i empty ≡ full k fit p l → (j : ℕ) → j < fit .count → g (heldPart FS i j) ≡ g (freshPart m k fit j)) where
-    parts-to : (i : ℕ) → i < 32 → (k : Kernel) (fit : Pieces) (p l : ℕ) → getD ts i empty ≡ full k fit p l → (j : ℕ) → j ≤ fit .count → map g (heldAt FS i j) ≡ map g (freshAt m k fit j)
-    parts-to i h k fit p l e zero hj = refl
-    parts-to i h k fit p l e (suc j) hj =
-        rw (map-append g (heldAt FS i j) (heldPart FS i j ∷ []), parts-to i h k fit p l e j (omega arith), map-append g (freshAt m k fit j) (freshPart m k fit j ∷ []))
-        (ap (λ (b : B). map g (freshAt m k fit j) ++ (b ∷ [])) (ag i h k fit p l e j hj))
+  module _ {B : Type 0} (g : Part → B) (ag : (i : ℕ) → i < 32 → (k : Kernel) (fit : Pieces) (o : Provenance) (p l : ℕ) → getD ts i empty ≡ full k fit o p l → (j : ℕ) → j < fit .count → g (heldPart FS i j) ≡ g (freshPart m k fit j)) where
+    parts-to : (i : ℕ) → i < 32 → (k : Kernel) (fit : Pieces) (o : Provenance) (p l : ℕ) → getD ts i empty ≡ full k fit o p l → (j : ℕ) → j ≤ fit .count → map g (heldAt FS i j) ≡ map g (freshAt m k fit j)
+    parts-to i h k fit o p l e zero hj = refl
+    parts-to i h k fit o p l e (suc j) hj =
+        rw (map-append g (heldAt FS i j) (heldPart FS i j ∷ []), parts-to i h k fit o p l e j (omega arith), map-append g (freshAt m k fit j) (freshPart m k fit j ∷ []))
+        (ap (λ (b : B). map g (freshAt m k fit j) ++ (b ∷ [])) (ag i h k fit o p l e j hj))
 
-    place-held : (i : ℕ) → i < 32 → (s : Place) → getD ts i empty ≡ s → Within m s → map g (heldAt FS i (getD (placeRow m s) 0 0 - 1)) ≡ map g (freshPlace m s)
+    place-held : (i : ℕ) → i < 32 → (s : Place) → getD ts i empty ≡ s → Within m s → map g (heldAt FS i (getD (placeRow wd m s) 0 0 - 1)) ≡ map g (freshPlace m s)
     place-held i h empty e w = refl
-    place-held i h (full k fit p l) e w =
+    place-held i h (full k fit o p l) e w =
         let n : 1 + fit .count - 1 ≡ fit .count = omega arith in
-        rw n (parts-to i h k fit p l e (fit .count) (omega arith) ∙ ap (λ (f : Pieces). map g (freshAt m k f (f .count))) (w .fitted))
+        rw n (parts-to i h k fit o p l e (fit .count) (omega arith) ∙ ap (λ (f : Pieces). map g (freshAt m k f (f .count))) (fit-afresh (m .radius) k fit o (w .fitted)))
 
     fresh-snoc : (l : List Place) (s : Place) → freshAll m (l ++ (s ∷ [])) ≡ freshAll m l ++ freshPlace m s
     fresh-snoc [] s = append-nil (freshPlace m s)
@@ -126,7 +133,7 @@ module _
     held-to (suc n) h =
         rw (
           status-held wd fm m ts (v .places) ys n h,
-          map-append g (heldAll wd FS WS n) (heldAt FS n (getD (placeRow m (getD ts n empty)) 0 0 - 1)),
+          map-append g (heldAll wd FS WS n) (heldAt FS n (getD (placeRow wd m (getD ts n empty)) 0 0 - 1)),
           held-to n (omega arith),
           place-held n h (getD ts n empty) refl (v .within n),
           take-suc ts n empty (rw (v .places) h),
@@ -148,16 +155,16 @@ module _
 
   -- whole, with nothing left
   module _ (none : leftSum m ts ≡ 0) where
-    agree : (i : ℕ) → i < 32 → (k : Kernel) (fit : Pieces) (p l : ℕ) → getD ts i empty ≡ full k fit p l → (j : ℕ) → j < fit .count → heldPart FS i j ≡ freshPart m k fit j
-    agree i h k fit p l e j hj =
+    agree : (i : ℕ) → i < 32 → (k : Kernel) (fit : Pieces) (o : Provenance) (p l : ℕ) → getD ts i empty ≡ full k fit o p l → (j : ℕ) → j < fit .count → heldPart FS i j ≡ freshPart m k fit j
+    agree i h k fit o p l e j hj =
         let z : need m fit - p ≡ 0 = subst (λ (s : Place). leftPlace m s ≡ 0) e (none-left ts i none) in
         let y = subst (Within m) e (v .within i) .steps in
-        ap (λ (b : Kernel). record { kernel = b; volume = heldPart FS i j .volume }) (bare-held i h k fit p l e j hj)
-        ∙ ap (λ (x : Float). record { kernel = freshPart m k fit j .kernel; volume = x }) (volume-held i h k fit p l e (omega arith) j hj)
+        ap (λ (b : Kernel). record { kernel = b; volume = heldPart FS i j .volume }) (bare-held i h k fit o p l e j hj)
+        ∙ ap (λ (x : Float). record { kernel = freshPart m k fit j .kernel; volume = x }) (volume-held i h k fit o p l e (omega arith) j hj)
 
     pub whole-all : heldAll wd FS WS 32 ≡ freshAll m ts
     whole-all = sym (map-id (heldAll wd FS WS 32)) ∙ (held-all (λ (x : Part). x) agree ∙ map-id (freshAll m ts))
 
     -- place by place
-    pub whole-place : (i : ℕ) → i < 32 → (s : Place) → getD ts i empty ≡ s → Within m s → heldAt FS i (getD (placeRow m s) 0 0 - 1) ≡ freshPlace m s
-    whole-place i h s e w = sym (map-id (heldAt FS i (getD (placeRow m s) 0 0 - 1))) ∙ (place-held (λ (x : Part). x) agree i h s e w ∙ map-id (freshPlace m s))
+    pub whole-place : (i : ℕ) → i < 32 → (s : Place) → getD ts i empty ≡ s → Within m s → heldAt FS i (getD (placeRow wd m s) 0 0 - 1) ≡ freshPlace m s
+    whole-place i h s e w = sym (map-id (heldAt FS i (getD (placeRow wd m s) 0 0 - 1))) ∙ (place-held (λ (x : Part). x) agree i h s e w ∙ map-id (freshPlace m s))

@@ -21,7 +21,7 @@ use Rattle.machine.specs.Machine.{looseIn, openRow}
 use Rattle.machine.specs.Demands.{refusedBy}
 
 -- ---- tests turned round
-not-below : (a b : ℕ) → leb a b ≡ not (ltb b a)
+pub not-below : (a b : ℕ) → leb a b ≡ not (ltb b a)
 not-below a b = go (decLt b a)
   where
     go : Dec (b < a) → leb a b ≡ not (ltb b a)

@@ -21,20 +21,20 @@ use Rattle.store.specs.Marks.{Below}
 use Rattle.store.specs.TriangleLaws.{corner-used, rank-lt}
 use Rattle.machine.specs.Machine.{Mesh, Machine, turn, freedBy, opened, openRow}
 use Rattle.machine.specs.Holding.{excessF, excessW}
-use Rattle.machine.specs.Calls.{Call, put, clear, reweigh, advance, squeeze, read, finished, page, machine, Store, holding, Heard}
+use Rattle.machine.specs.Calls.{Call, put, clear, reweigh, advance, squeeze, read, finished, page, machine, Store, holding, Heard, answers}
 use Rattle.machine.specs.Demands.{leaving}
-use Rattle.machine.specs.Renumbering.{Renumbered, answers, Renumbering}
+use Rattle.machine.specs.Renumbering.{Renumbered, Renumbering}
 use Rattle.machine.specs.Valid.{Valid}
-use Rattle.machine.proofs.Rows.{width4, map-getD}
+use Rattle.machine.proofs.Rows.{width4, layered4, map-getD}
 use Rattle.machine.proofs.Slim.{thinned, slim-is, freed-is}
 use Rattle.machine.proofs.Squeezing.{remesh}
 use Rattle.machine.proofs.Claim.{one-call, kept}
 use Rattle.machine.proofs.Unaltered.{remade, Alike, told, corners-below, squeezed-alike, Goes, put-goes, clear-goes, reweigh-goes, advance-goes, read-goes, finished-goes, page-goes}
 use Rattle.machine.proofs.Opened.{opens, opened-valid}
-use Rattle.machine.proofs.Demand.{passed, holds}
+use Rattle.machine.proofs.Follow.{passed, holds}
 
 -- ---- how many vertices are in use goes by which corners are equal, not by their numbers
-distinct : List ℕ → ℕ
+pub distinct : List ℕ → ℕ
 distinct [] = 0
 distinct (k ∷ ks) = cond (used ks k) 0 1 + distinct ks
 
@@ -115,10 +115,10 @@ distinct-renumbered ks =
         go (no l) (no g) = omega arith
 
 -- ---- two meshes with the same triangles and as many vertices, of which as many are used
-record Paired (m : Mesh) (xs : List Float) (ks : List ℕ) (w : ℕ) : Type 0 where
-  alike : Alike m xs ks w
-  verts : w ≡ m .verts
-  used-same : distinct ks ≡ distinct (m .corners)
+pub record Paired (m : Mesh) (xs : List Float) (ks : List ℕ) (w : ℕ) : Type 0 where
+  pub alike : Alike m xs ks w
+  pub verts : w ≡ m .verts
+  pub used-same : distinct ks ≡ distinct (m .corners)
 
 module _ (m : Mesh) (xs : List Float) (ks : List ℕ) (w : ℕ) (a : Paired m xs ks w) where
   below : Below w ks
@@ -146,7 +146,7 @@ module _ (m : Mesh) (xs : List Float) (ks : List ℕ) (w : ℕ) (a : Paired m xs
       }
 
 -- ---- a list of calls
-abbrev toldBy : Machine → List Call → List Heard
+abbrev pub toldBy : Machine → List Call → List Heard
 toldBy m [] = []
 toldBy m (c ∷ cs) = told (machine m c) ∷ toldBy (machine m c .next) cs
 
@@ -176,7 +176,7 @@ squeezes : (m : Machine) → Below (m .mesh .verts) (m .mesh .corners)
 unfolding machine
 squeezes m b = rw (slim-is (m .mesh) b) refl
 
-same-told : (cs : List Call) (m : Machine) (xs : List Float) (ks : List ℕ) (w g : ℕ) → Paired (m .mesh) xs ks w
+pub same-told : (cs : List Call) (m : Machine) (xs : List Float) (ks : List ℕ) (w g : ℕ) → Paired (m .mesh) xs ks w
     → toldBy (remade m xs ks w g) cs ≡ toldBy m cs
 same-told [] m xs ks w g a = refl
 same-told (put i k l ∷ cs) m xs ks w g a =
@@ -228,11 +228,11 @@ module _ (p q : ℕ → ℕ) (xs : List Float) (ks : List ℕ) (ys : List Float)
       ap distinct (e .corners) ∙ distinct-map p ks (λ i j h g z. sym (taken-back i h) ∙ (ap q z ∙ taken-back j g))
 
 -- ---- the store
-store-told : (exF : List Float) (exW : List ℕ) (cs : List Call) (m : Machine) → Valid (m .mesh) (m .places)
-    → answers width (holding m exF exW) cs ≡ toldBy m cs
+pub store-told : (exF : List Float) (exW : List ℕ) (cs : List Call) (m : Machine) → Valid (m .mesh) (m .places)
+    → answers width (holding width m exF exW) cs ≡ toldBy m cs
 store-told exF exW [] m v = refl
 store-told exF exW (c ∷ cs) m v =
-    rw (one-call width width4 m v exF exW c)
+    rw (one-call width layered4 m v exF exW c)
     (ap (λ (os : List Heard). told (machine m c) ∷ os)
     (store-told exF exW cs (machine m c .next) (kept m v c .valid)))
 

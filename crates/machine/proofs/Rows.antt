@@ -9,9 +9,17 @@ use lib.Seq.{getD-append-add, set-append-left, take-append-add, drop-append-add,
 use Rattle.layout.specs.Runs.{write}
 use Rattle.machine.specs.Holding.{flat}
 
--- the words to a place for which the proofs stand: four, as `placeRow` has them
+-- the words to a place for which the proofs stand: three in the form before 02's L5, four since
 pub data Width : ℕ → Type 0 where
+  width3 : Width 3
   width4 : Width 4
+
+-- those with a word for the layer: readings of some layers are of such a form alone
+pub data Layered : ℕ → Type 0 where
+  layered4 : Layered 4
+
+pub formed : {w : ℕ} → Layered w → Width w
+formed layered4 = width4
 
 module _ {A : Type 0} where
   pub set-append-add : (xs ys : List A) (n : ℕ) (v : A) → set (xs ++ ys) (length xs + n) v ≡ xs ++ set ys n v

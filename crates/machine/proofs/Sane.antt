@@ -17,7 +17,7 @@ use Rattle.layout.specs.Soundness.{longEnough, placeSound, layerSound, placeSou
 use Rattle.machine.specs.Machine.{Mesh, Place, empty, full}
 use Rattle.machine.specs.Holding.{placeRow, wordsOf}
 use Rattle.machine.specs.Valid.{Within, Valid}
-use Rattle.machine.proofs.Rows.{Width}
+use Rattle.machine.proofs.Rows.{Width, width3, width4}
 use Rattle.machine.proofs.Sixteen.{laidOut}
 use Rattle.machine.proofs.Held.{status-held, finished-held, done-held, layer-held, words-long, floats-long, corners-held}
 
@@ -52,23 +52,25 @@ steps-sound n f p hn hp = go (eqb f 0) refl
         let q : 0 < f = omega (arith, eqb-false f 0 e) in
         rw (e1, e0, le-leb (1 + n) 17 (omega arith)) (some q (eqb (p / f) n) refl)
 
-place-sound : (m : Mesh) (s : Place) → Within m s → placeSound (getD (placeRow m s) 0 0) (getD (placeRow m s) 1 0) (getD (placeRow m s) 2 0) (m .faces) ≡ true
+place-sound : (wd : ℕ) (m : Mesh) (s : Place) → Within m s → placeSound (getD (placeRow wd m s) 0 0) (getD (placeRow wd m s) 1 0) (getD (placeRow wd m s) 2 0) (m .faces) ≡ true
 unfolding placeSound
-place-sound m empty h = refl
-place-sound m (full k fit p l) h = steps-sound (fit .count) (m .faces) p (h .few) (h .steps)
+place-sound wd m empty h = refl
+place-sound wd m (full k fit o p l) h = steps-sound (fit .count) (m .faces) p (h .few) (h .steps)
 
-layer-sound : (m : Mesh) (s : Place) → Within m s
-    → layerSound (getD (placeRow m s) 0 0) (getD (placeRow m s) 3 0) ≡ true
+layer-sound : {wd : ℕ} → Width wd → (m : Mesh) (s : Place) → Within m s
+    → layerSound (getD (placeRow wd m s) 0 0) (getD (placeRow wd m s) 3 0) ≡ true
 unfolding layerSound
-layer-sound m empty h = refl
-layer-sound m (full k fit p l) h = rw (ne-eqb (1 + fit .count) 0 (λ e. omega arith), lt-ltb l 16 (h .layer)) refl
+layer-sound width3 m empty h = refl
+layer-sound width3 m (full k fit o p l) h = rw (ne-eqb (1 + fit .count) 0 (λ e. omega arith)) refl
+layer-sound width4 m empty h = refl
+layer-sound width4 m (full k fit o p l) h = rw (ne-eqb (1 + fit .count) 0 (λ e. omega arith), lt-ltb l 16 (h .layer)) refl
 
 module _ (wd : ℕ) (fm : Width wd) (m : Mesh) (ss : List Place) (v : Valid m ss) (xs : List Float) (ys : List ℕ) where
-  faces-held : facesOf (wordsOf m ss ys) ≡ m .faces
+  faces-held : facesOf (wordsOf wd m ss ys) ≡ m .faces
   unfolding wordsOf
   faces-held = refl
 
-  places-sound : (n : ℕ) → n ≤ 32 → every (placeSoundAt wd (wordsOf m ss ys)) n ≡ true
+  places-sound : (n : ℕ) → n ≤ 32 → every (placeSoundAt wd (wordsOf wd m ss ys)) n ≡ true
   unfolding every placeSoundAt
   places-sound zero h = refl
   places-sound (suc n) h =
@@ -79,19 +81,29 @@ module _ (wd : ℕ) (fm : Width wd) (m : Mesh) (ss : List Place) (v : Valid m ss
         done-held wd fm m ss (v .places) ys n h,
         layer-held wd fm m ss (v .places) ys n h,
         faces-held,
-        place-sound m (getD ss n empty) (v .within n),
-        layer-sound m (getD ss n empty) (v .within n),
+        place-sound wd m (getD ss n empty) (v .within n),
+        layer-sound fm m (getD ss n empty) (v .within n),
       ) refl
 
-  pub no-fault : storeCheck wd (laidOut m ss xs) (wordsOf m ss ys) ≡ Passed
-  unfolding storeCheck longEnough sound wordsOf
-  no-fault =
+  pub long-enough : longEnough wd (laidOut m ss xs) (wordsOf wd m ss ys) ≡ true
+  unfolding longEnough wordsOf
+  long-enough =
       rw (
-        le-leb (cornersFrom wd + 3 * m .faces) (length (wordsOf m ss ys)) (words-long wd fm m ss (v .places) ys (v .mesh .corners)),
+        le-leb (cornersFrom wd + 3 * m .faces) (length (wordsOf wd m ss ys)) (words-long wd fm m ss (v .places) ys (v .mesh .corners)),
         le-leb (coordsFrom + 3 * m .verts) (length (laidOut m ss xs)) (floats-long wd fm m ss (v .places) xs (v .mesh .coords)),
+      ) refl
+
+  pub is-sound : sound wd (wordsOf wd m ss ys) ≡ true
+  unfolding sound wordsOf
+  is-sound =
+      rw (
         le-leb (m .verts) vertexLimit (v .mesh .verts),
         le-leb (m .faces) faceLimit (v .mesh .faces),
         places-sound 32 (omega arith),
         corners-held wd fm m ss (v .places) ys (v .mesh .corners),
         v .mesh .below,
       ) refl
+
+  pub no-fault : storeCheck wd (laidOut m ss xs) (wordsOf wd m ss ys) ≡ Passed
+  unfolding storeCheck
+  no-fault = rw (long-enough, is-sound) refl

@@ -30,7 +30,7 @@ use Rattle.density.specs.Densitize.{densityOf, densitizeOf, densitized}
 use Rattle.density.specs.EvenLaws.{density-abs}
 use Rattle.density.specs.Conventions.{bulkOf, rho0Scale, appliedScale}
 use Rattle.pieces.specs.declared.pieces.Pieces.{Pieces}
-use Rattle.pieces.specs.Pieces.{delta, stays, sizeOf, curveOf, itself, solvedBy, fitted, decomposed, pieceAlpha}
+use Rattle.pieces.specs.Pieces.{delta, stays, sizeOf, curveOf, itself, solvedBy, fitted, decomposed}
 use Rattle.pieces.specs.FitEnd.{endedFit, fitOf}
 use Rattle.pieces.specs.declared.fit.Fit.{Fit}
 use Rattle.pieces.specs.declared.fit.Fit.the-variants.{Kept, NoExponent}
@@ -42,19 +42,19 @@ use Rattle.readings.specs.AlongLaws.{stretch-same}
 use Rattle.readings.specs.Readings.{Reading, density, report, list, track, noKernel, origin, rescaled, six, sixes, trackCheck, refusing}
 use Rattle.readings.specs.SixLaws.{whole, sixes-length, at-whole, list-sound, count-of}
 use Rattle.page.specs.Page.{Row, row, pageAnswer}
-use Rattle.machine.specs.Machine.{Mesh, Place, empty, full, among, seenPlace, seenPlaces, isComplete, completePlace, completePlaces, passedPlaces, leftPlace, leftSum, adv, bump, Machine, Turn, turn, stepsOf, putTurn, clearTurn, weighed, reweighTurn, opened}
+use Rattle.machine.specs.Machine.{Mesh, Provenance, own, carried, Place, empty, full, among, seenPlace, seenPlaces, isComplete, completePlace, completePlaces, passedPlaces, leftPlace, leftSum, adv, bump, Machine, Turn, turn, stepsOf, putTurn, clearTurn, weighed, reweighTurn, opened}
 use Rattle.machine.specs.Holding.{triangles, cells, excessF, excessW}
 use Rattle.machine.specs.Valid.{Valid}
-use Rattle.machine.specs.Fresh.{kernelsOf, piecesOf, allPieces, worstFrom, valueOf, massOf, originOf, scaledList, readingOn, workedAfresh, finishedAfresh, freshRow, freshRows, pageAfresh}
+use Rattle.machine.specs.Fresh.{Worked, fitAfresh, workAll, piecesTo, piecesOf, allPieces, worstFrom, valueOf, massOf, originOf, scaledList, readingOn, workedAfresh, finishedAfresh, freshRow, freshRows, pageAfresh}
 use Rattle.machine.specs.Calls.{Call, put, clear, reweigh, advance, squeeze, read, finished, page, needs, machine, Store, after-all, holding, past, Heard}
 use Rattle.machine.specs.Signs.{unsigned, unsignedCall, unsignedRun, unsignedRead, unsignedHeard, said, SameSaid, SignsUnseen}
-use Rattle.machine.proofs.Rows.{width4, map-set, map-getD}
+use Rattle.machine.proofs.Rows.{width4, layered4, map-set, map-getD}
 use Rattle.machine.proofs.Sixteen.{sixteen, laid-out}
 use Rattle.machine.proofs.Held.{get48}
 use Rattle.machine.proofs.Claim.{one-call, kept}
 use Rattle.machine.proofs.Unaltered.{told}
 use Rattle.machine.proofs.Opened.{opened-valid}
-use Rattle.machine.proofs.Demand.{last, passed, holds}
+use Rattle.machine.proofs.Follow.{last, passed, holds}
 
 abs-abs : (x : Float) → abs (abs x) ≡ abs x
 unfolding abs
@@ -167,26 +167,7 @@ module _ (m : Mesh) (ks : List Kernel) (filled : ℕ) (worst : Float) where
       (stretch-same (λ x. valueOf (densitized (sixes (map even js)) x)) (λ x. valueOf (densitized (sixes js) x))
       (λ x. ap valueOf (density-same js x)) points 0 n))
 
--- ---- a kernel's pieces
-pieces-same : (r : Float) (k : Kernel) → map even (piecesOf r (unsigned k)) ≡ map even (piecesOf r k)
-unfolding decomposed pieceAt pieceAlpha ofBits
-pieces-same r k = go (stays (k .alpha)) refl
-  where
-    go : (b : Bool) → stays (k .alpha) ≡ b → map even (piecesOf r (unsigned k)) ≡ map even (piecesOf r k)
-    go true h = rw (h, abs-abs (k .sigma)) refl
-    go false h = rw h refl
-
-all-same : (r : Float) (ks : List Kernel) → map even (allPieces r (map unsigned ks)) ≡ map even (allPieces r ks)
-all-same r [] = refl
-all-same r (k ∷ ks) =
-    rw (
-      map-append even (piecesOf r (unsigned k)) (allPieces r (map unsigned ks)),
-      map-append even (piecesOf r k) (allPieces r ks),
-      pieces-same r k,
-      all-same r ks,
-    ) refl
-
--- ---- a place
+-- ---- a kernel with a fit
 abbrev fitBy : Bool → Pieces → Pieces
 fitBy b fit =
     record {
@@ -225,30 +206,74 @@ end-even k r = go (stays (k .alpha))
     go true = refl
     go false = refl
 
-worst-same : (r e : Float) (ks : List Kernel) → worstFrom r e (map unsigned ks) ≡ worstFrom r e ks
-worst-same r e [] = refl
-worst-same r e (k ∷ ks) =
-    ap (λ (f : Pieces). worstFrom r (greater e (f .error)) (map unsigned ks)) (fit-even k r)
-    ∙ worst-same r (greater e (decomposed k r .error)) ks
+abbrev unsignedWork : Worked → Worked
+unsignedWork a = record { kernel = unsigned (a .kernel); fit = unsignedFit (a .kernel) (a .fit) }
 
+worst-same : (e : Float) (all : List Worked) → worstFrom e (map unsignedWork all) ≡ worstFrom e all
+worst-same e [] = refl
+worst-same e (a ∷ all) = worst-same (greater e (a .fit .error)) all
+
+abs-at : (xs : List Float) (j : ℕ) → getD (map abs xs) j nan ≡ abs (getD xs j nan)
+unfolding abs
+abs-at xs j = List·getD-map abs xs j nan
+
+-- its pieces
+module _ (k : Kernel) (fit : Pieces) where
+  piece-same : (j : ℕ) → even (pieceAt (unsigned k) (unsignedFit k fit) j) ≡ even (pieceAt k fit j)
+  unfolding pieceAt
+  piece-same j = go (stays (k .alpha))
+    where
+      go : (b : Bool) → even (pieceAt (kernelBy b k) (fitBy b fit) j) ≡ even (pieceAt k fit j)
+      go true = rw (abs-at (fit .sigma) j, abs-abs (getD (fit .sigma) j nan)) refl
+      go false = refl
+
+  pieces-to : (n : ℕ) → map even (piecesTo (unsigned k) (unsignedFit k fit) n) ≡ map even (piecesTo k fit n)
+  pieces-to zero = refl
+  pieces-to (suc n) =
+      rw (
+        map-append even (piecesTo (unsigned k) (unsignedFit k fit) n) (pieceAt (unsigned k) (unsignedFit k fit) n ∷ []),
+        map-append even (piecesTo k fit n) (pieceAt k fit n ∷ []),
+        pieces-to n,
+        piece-same n,
+      ) refl
+
+pieces-same : (a : Worked) → map even (piecesOf (unsignedWork a)) ≡ map even (piecesOf a)
+pieces-same a = pieces-to (a .kernel) (a .fit) (a .fit .count)
+
+all-same : (all : List Worked) → map even (allPieces (map unsignedWork all)) ≡ map even (allPieces all)
+all-same [] = refl
+all-same (a ∷ all) =
+    rw (
+      map-append even (piecesOf (unsignedWork a)) (allPieces (map unsignedWork all)),
+      map-append even (piecesOf a) (allPieces all),
+      pieces-same a,
+      all-same all,
+    ) refl
+
+-- ---- a place
 abbrev unsignedPlace : Place → Place
 unsignedPlace empty = empty
-unsignedPlace (full k fit p l) = full (unsigned k) (unsignedFit k fit) p l
+unsignedPlace (full k fit o p l) = full (unsigned k) (unsignedFit k fit) o p l
 
 place-at : (ss : List Place) (i : ℕ) → getD (map unsignedPlace ss) i empty ≡ unsignedPlace (getD ss i empty)
 place-at ss i = List·getD-map unsignedPlace ss i empty
 
-kernels-same : (ss : List Place) → kernelsOf (map unsignedPlace ss) ≡ map unsigned (kernelsOf ss)
-kernels-same [] = refl
-kernels-same (empty ∷ ss) = kernels-same ss
-kernels-same (full k fit p l ∷ ss) = ap (λ (l : List Kernel). unsigned k ∷ l) (kernels-same ss)
+fit-same : (r : Float) (k : Kernel) (fit : Pieces) (o : Provenance)
+    → fitAfresh r (unsigned k) (unsignedFit k fit) o ≡ unsignedFit k (fitAfresh r k fit o)
+fit-same r k fit own = fit-even k r
+fit-same r k fit carried = refl
+
+work-same : (r : Float) (ss : List Place) → workAll r (map unsignedPlace ss) ≡ map unsignedWork (workAll r ss)
+work-same r [] = refl
+work-same r (empty ∷ ss) = work-same r ss
+work-same r (full k fit o p l ∷ ss) = rw (fit-same r k fit o, work-same r ss) refl
 
 -- the places that a reading sees
 seen-one : (layers : ℕ) (s : Place) → seenPlace layers (unsignedPlace s) ≡ unsignedPlace (seenPlace layers s)
 seen-one layers empty = refl
-seen-one layers (full k fit p l) = go (among l layers)
+seen-one layers (full k fit o p l) = go (among l layers)
   where
-    go : (b : Bool) → cond b (unsignedPlace (full k fit p l)) empty ≡ unsignedPlace (cond b (full k fit p l) empty)
+    go : (b : Bool) → cond b (unsignedPlace (full k fit o p l)) empty ≡ unsignedPlace (cond b (full k fit o p l) empty)
     go true = refl
     go false = refl
 
@@ -262,24 +287,25 @@ module _ (m : Mesh) where
       → readSaid r (workedAfresh m (map unsignedPlace ss) r) ≡ readSaid r (workedAfresh m ss r)
   unfolding workedAfresh
   afresh-same ss r =
-      let ks = kernelsOf ss in
-      let R = m .radius in
-      let w = worstFrom R +0 ks in
-      rw (kernels-same ss, length-map ks unsigned, worst-same R +0 ks)
-      (sym (reading-same m (allPieces R (map unsigned ks)) (length ks) w r)
-      ∙ (ap (λ (l : List Kernel). readSaid r (readingOn m l (length ks) w r)) (all-same R ks)
-      ∙ reading-same m (allPieces R ks) (length ks) w r))
+      let all = workAll (m .radius) ss in
+      let n = length all in
+      let w = worstFrom +0 all in
+      rw (work-same (m .radius) ss, length-map all unsignedWork, worst-same +0 all)
+      (sym (reading-same m (allPieces (map unsignedWork all)) n w r)
+      ∙ (ap (λ (l : List Kernel). readSaid r (readingOn m l n w r)) (all-same all)
+      ∙ reading-same m (allPieces all) n w r))
 
-  mass-alike : (k : Kernel) → massOf m (piecesOf (m .radius) (unsigned k)) ≡ massOf m (piecesOf (m .radius) k)
-  mass-alike k =
-      let R = m .radius in
-      sym (mass-same m (piecesOf R (unsigned k))) ∙ (ap (massOf m) (pieces-same R k) ∙ mass-same m (piecesOf R k))
+  mass-alike : (a : Worked) → massOf m (piecesOf (unsignedWork a)) ≡ massOf m (piecesOf a)
+  mass-alike a =
+      sym (mass-same m (piecesOf (unsignedWork a))) ∙ (ap (massOf m) (pieces-same a) ∙ mass-same m (piecesOf a))
 
   row-same : (i : ℕ) (s : Place) → freshRow m i (unsignedPlace s) ≡ freshRow m i s
   row-same i empty = refl
-  row-same i (full k fit p l) =
-      ap (λ (f : Pieces). row i (f .count) (massOf m (piecesOf (m .radius) (unsigned k))) ∷ []) (fit-even k (m .radius))
-      ∙ ap (λ (x : Float). row i (decomposed k (m .radius) .count) x ∷ []) (mass-alike k)
+  row-same i (full k fit o p l) =
+      let g = fitAfresh (m .radius) k fit o in
+      ap (λ (f : Pieces). row i (f .count) (massOf m (piecesOf (record { kernel = unsigned k; fit = f }))) ∷ [])
+      (fit-same (m .radius) k fit o)
+      ∙ ap (λ (x : Float). row i (g .count) x ∷ []) (mass-alike (record { kernel = k; fit = g }))
 
   rows-same : (i : ℕ) (ss : List Place) → freshRows m i (map unsignedPlace ss) ≡ freshRows m i ss
   rows-same i [] = refl
@@ -291,7 +317,7 @@ module _ (m : Mesh) where
 
   left-same : (s : Place) → leftPlace m (unsignedPlace s) ≡ leftPlace m s
   left-same empty = refl
-  left-same (full k fit p l) = refl
+  left-same (full k fit o p l) = refl
 
   left-sum-same : (ss : List Place) → leftSum m (map unsignedPlace ss) ≡ leftSum m ss
   left-sum-same [] = refl
@@ -323,7 +349,7 @@ module _ (m : Mesh) where
 
   adv-same : (u : ℕ) (s : Place) → adv u (unsignedPlace s) ≡ unsignedPlace (adv u s)
   adv-same u empty = refl
-  adv-same u (full k fit p l) = refl
+  adv-same u (full k fit o p l) = refl
 
   bump-same : (ss : List Place) → bump m (map unsignedPlace ss) ≡ map unsignedPlace (bump m ss)
   bump-same [] = refl
@@ -341,10 +367,6 @@ module _ (m : Mesh) where
   bumps-same (suc n) ss = ap (bump m) (bumps-same n ss) ∙ bump-same (iterate (bump m) n ss)
 
 -- the volumes so far that the runs hold
-abs-at : (xs : List Float) (j : ℕ) → getD (map abs xs) j nan ≡ abs (getD xs j nan)
-unfolding abs
-abs-at xs j = List·getD-map abs xs j nan
-
 module _ (m : Mesh) (k : Kernel) (fit : Pieces) where
   volume-same : (j n : ℕ) → volumeTo (triangles m) (centreOf (unsigned k)) (getD (unsignedFit k fit .sigma) j nan) n
       ≡ volumeTo (triangles m) (centreOf k) (getD (fit .sigma) j nan) n
@@ -368,7 +390,7 @@ module _ (m : Mesh) (k : Kernel) (fit : Pieces) where
 held-same : (m : Mesh) (s : Place) (j : ℕ)
     → getD (sixteen m (unsignedPlace s)) (3 * j + 2) nan ≡ getD (sixteen m s) (3 * j + 2) nan
 held-same m empty j = refl
-held-same m (full k fit p l) j = cells-same m k fit 16 0 j p
+held-same m (full k fit o p l) j = cells-same m k fit 16 0 j p
 
 -- ---- one call
 abbrev unsignedMachine : Machine → Machine
@@ -422,7 +444,7 @@ unseen m (put i k l) = by-turn m (put i k l) (λ o. refl) (lift (ltb i placeLimi
           end-even k r,
           place-at (m .places) i,
           left-same (m .mesh) (getD (m .places) i empty),
-          map-set unsignedPlace (m .places) i (full k (decomposed k r) 0 l),
+          map-set unsignedPlace (m .places) i (full k (decomposed k r) own 0 l),
         ) refl
     lift true false = refl
     lift false b = refl
@@ -433,7 +455,7 @@ unseen m (clear i) =
         → cond b (clearTurn (unsignedMachine m) i (unsignedPlace s)) (turn (unsignedMachine m) (refused NoPlace))
         ≡ unsignedTurn (cond b (clearTurn m i s) (turn m (refused NoPlace)))
     lift true empty = refl
-    lift true (full k fit p l) = rw (map-set unsignedPlace (m .places) i empty) refl
+    lift true (full k fit o p l) = rw (map-set unsignedPlace (m .places) i empty) refl
     lift false s = refl
 unseen m (reweigh i x) =
     by-turn m (reweigh i x) (λ o. refl) (rw (place-at (m .places) i) (lift (ltb i placeLimit) (getD (m .places) i empty)))
@@ -442,7 +464,7 @@ unseen m (reweigh i x) =
         → cond b (reweighTurn (unsignedMachine m) i x (unsignedPlace s)) (turn (unsignedMachine m) (refused NoPlace))
         ≡ unsignedTurn (cond b (reweighTurn m i x s) (turn m (refused NoPlace)))
     lift true empty = refl
-    lift true (full k fit p l) = rw (map-set unsignedPlace (m .places) i (full (weighed k x) fit p l)) refl
+    lift true (full k fit o p l) = rw (map-set unsignedPlace (m .places) i (full (weighed k x) fit o p l)) refl
     lift false s = refl
 unseen m (advance n) =
     let ss = iterate (bump (m .mesh)) (stepsOf m n) (m .places) in
@@ -493,10 +515,10 @@ after-same (c ∷ cs) m =
 -- ---- the store
 module _ (exF : List Float) (exW : List ℕ) where
   store-said : (cs : List Call) (m : Machine) → Valid (m .mesh) (m .places)
-      → said width (holding m exF exW) cs ≡ saidBy m cs
+      → said width (holding width m exF exW) cs ≡ saidBy m cs
   store-said [] m v = refl
   store-said (c ∷ cs) m v =
-      rw (one-call width width4 m v exF exW c)
+      rw (one-call width layered4 m v exF exW c)
       (ap (λ (l : List Heard). turnSaid c (machine m c) ∷ l) (store-said cs (machine m c .next) (kept m v c .valid)))
 
   abbrev volumeAt : Store → ℕ → ℕ → Float
@@ -506,7 +528,7 @@ module _ (exF : List Float) (exW : List ℕ) where
   placeVolume m i j = getD (sixteen (m .mesh) (getD (m .places) i empty)) (3 * j + 2) nan
 
   volume-held : (m : Machine) → Valid (m .mesh) (m .places) → (i j : ℕ) → i < 32 → j < 16
-      → volumeAt (holding m exF exW) i j ≡ placeVolume (unsignedMachine m) i j
+      → volumeAt (holding width m exF exW) i j ≡ placeVolume (unsignedMachine m) i j
   volume-held m v i j h g =
       let e : pieceFrom i j + 2 ≡ 225 + (48 * i + (3 * j + 2)) = omega arith in
       rw (e, laid-out (m .mesh) (m .places) v (past m exF), place-at (m .places) i)
@@ -514,10 +536,10 @@ module _ (exF : List Float) (exW : List ℕ) where
       ∙ sym (held-same (m .mesh) (getD (m .places) i empty) j))
 
   same-said : (m : Machine) → Valid (m .mesh) (m .places) → (cs ds : List Call)
-      → map unsignedCall cs ≡ map unsignedCall ds → SameSaid width (holding m exF exW) cs ds
+      → map unsignedCall cs ≡ map unsignedCall ds → SameSaid width (holding width m exF exW) cs ds
   same-said m v cs ds h =
-      let a = last width width4 exF exW cs m v in
-      let b = last width width4 exF exW ds m v in
+      let a = last width layered4 exF exW cs m v in
+      let b = last width layered4 exF exW ds m v in
       let s : unsignedMachine (after-all m cs) ≡ unsignedMachine (after-all m ds)
       = sym (after-same cs m) ∙ (ap (after-all (unsignedMachine m)) h ∙ after-same ds m) in
       record {

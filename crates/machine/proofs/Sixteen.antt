@@ -1,7 +1,7 @@
 -- The runs that hold a machine, by sixteen pieces to a filled place: past its last piece they are +0, whatever was done. Assumes nothing.
-use mathlib.Core.Path.{_≡_, refl, sym, ap, subst, _∙_}
+use mathlib.Core.Path.{_≡_, refl, sym, ap, _∙_}
 use mathlib.Core.List.{List, [], _∷_, _++_, map}
-use Prim.Native.Nat.{ℕ, zero, suc, _+_, _*_, _-_, _≤_, _<_, min}
+use Prim.Native.Nat.{ℕ, zero, suc, _+_, _*_, _-_, _≤_, min}
 use native.Mathlib.Nat.{suc-mul, zero-mul, suc-add, zero-add, add-zero, sub-zero}
 use native.Mathlib.Omega.{arith}
 use lib.ListN.{getD, replicate}
@@ -12,11 +12,10 @@ use Rattle.volume.specs.Volume.{volumeTo}
 use Rattle.kernel.specs.Field.{centreOf}
 use Rattle.kernel.specs.declared.kernel.Kernel.{Kernel}
 use Rattle.pieces.specs.declared.pieces.Pieces.{Pieces}
-use Rattle.pieces.specs.Pieces.{decomposed}
-use Rattle.pieces.specs.PieceLaws.{Clean, clean, at-most-16}
-use Rattle.machine.specs.Machine.{Mesh, Place, empty, full, need}
+use Rattle.pieces.specs.PieceLaws.{Clean}
+use Rattle.machine.specs.Machine.{Mesh, Place, empty, full}
 use Rattle.machine.specs.Holding.{triangles, cells, flat, floats7, floats48, floatsOf}
-use Rattle.machine.specs.Valid.{Okay, Within, Valid}
+use Rattle.machine.specs.Valid.{Within, Valid}
 
 module _ (m : Mesh) (k : Kernel) (fit : Pieces) where
   -- no step, no volume
@@ -41,29 +40,24 @@ module _ (m : Mesh) (k : Kernel) (fit : Pieces) where
       let r = cells-split a b (suc j) (t - m .faces) in
       rw (suc-add a b, r, e, f) refl
 
--- a filled place whose pieces are its kernel's, whose steps are within its need and whose layer is one of sixteen
-pub okay : (m : Mesh) (k : Kernel) (fit : Pieces) (p l : ℕ) → fit ≡ decomposed k (m .radius) → p ≤ need m fit → l < 16 → Okay m k fit p l
-okay m k fit p l f h b = record { fitted = f; few = subst (λ (x : Pieces). x .count ≤ 16) (sym f) (at-most-16 k (m .radius)); steps = h; layer = b }
-
 -- ---- a place's floats by sixteen pieces, as the calls write them
 abbrev pub sixteen : Mesh → Place → List Float
 sixteen m empty = replicate 48 +0
-sixteen m (full k fit p l) = cells m k fit 16 0 p
+sixteen m (full k fit o p l) = cells m k fit 16 0 p
 
 unfoldable pub laidOut : Mesh → List Place → List Float → List Float
 laidOut m ss xs = m .radius ∷ (flat (map floats7 ss) ++ (flat (map (sixteen m) ss) ++ (m .coords ++ xs)))
 
 place-laid : (m : Mesh) (s : Place) → Within m s → floats48 m s ≡ sixteen m s
 place-laid m empty w = refl
-place-laid m (full k fit p l) w =
+place-laid m (full k fit o p l) w =
     let n = fit .count in
     let f = w .few in
     let e : n + (16 - n) ≡ 16 = omega arith in
     let z : p - n * m .faces ≡ 0 = omega (arith, w .steps) in
     let q : (16 - n) * 3 ≡ 48 - 3 * n = omega arith in
-    let c = subst Clean (sym (w .fitted)) (clean k (m .radius)) in
     ap (λ (l : List Float). cells m k fit n 0 p ++ l)
-    (sym (cells-zero m k fit c (16 - n) (0 + n) (p - n * m .faces) (omega arith) (omega arith) z ∙ ap (λ (j : ℕ). replicate j +0) q))
+    (sym (cells-zero m k fit (w .clean) (16 - n) (0 + n) (p - n * m .faces) (omega arith) (omega arith) z ∙ ap (λ (j : ℕ). replicate j +0) q))
     ∙ (sym (cells-split m k fit n (16 - n) 0 p) ∙ ap (λ (j : ℕ). cells m k fit j 0 p) e)
 
 places-laid : (m : Mesh) (ss : List Place) → ((i : ℕ) → Within m (getD ss i empty)) → map (floats48 m) ss ≡ map (sixteen m) ss

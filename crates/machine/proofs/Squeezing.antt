@@ -26,7 +26,7 @@ use Rattle.store.specs.TriangleLaws.{same-triangle, still-below}
 use Rattle.machine.specs.Machine.{Mesh, Place, empty, full, leftPlace, leftSum, slim, freedBy}
 use Rattle.machine.specs.Holding.{triangles, flat, floats7, cells, placeRow, wordsOf}
 use Rattle.machine.specs.Valid.{Within, Shape, Valid}
-use Rattle.machine.proofs.Sixteen.{sixteen, laidOut, okay}
+use Rattle.machine.proofs.Sixteen.{sixteen, laidOut}
 use Rattle.machine.proofs.Slim.{thinned, slim-is, freed-is}
 use Rattle.machine.proofs.Rows.{Width, flat-length, write-append-add}
 use Rattle.machine.proofs.Held.{each-row, each7, each48}
@@ -46,15 +46,15 @@ remesh m xs ks w = record { radius = m .radius; coords = xs; corners = ks; verts
 module _ (m : Mesh) (xs : List Float) (ks : List ℕ) (w : ℕ) where
   pub left-same : (s : Place) → leftPlace (remesh m xs ks w) s ≡ leftPlace m s
   left-same empty = refl
-  left-same (full k fit p l) = refl
+  left-same (full k fit o p l) = refl
 
   pub left-sum-same : (ss : List Place) → leftSum (remesh m xs ks w) ss ≡ leftSum m ss
   left-sum-same [] = refl
   left-sum-same (s ∷ ss) = rw (left-same s, left-sum-same ss) refl
 
-  row-same : (s : Place) → placeRow (remesh m xs ks w) s ≡ placeRow m s
-  row-same empty = refl
-  row-same (full k fit p l) = refl
+  row-same : (wd : ℕ) (s : Place) → placeRow wd (remesh m xs ks w) s ≡ placeRow wd m s
+  row-same wd empty = refl
+  row-same wd (full k fit o p l) = refl
 
   module _ (same : (f : ℕ) → f < m .faces → triangleAt xs ks f ≡ triangles m f) where
     pub volume-same : (c : V3) (sigma : Float) (n : ℕ) → n ≤ m .faces → volumeTo (triangleAt xs ks) c sigma n ≡ volumeTo (triangles m) c sigma n
@@ -66,7 +66,7 @@ module _ (m : Mesh) (xs : List Float) (ks : List ℕ) (w : ℕ) where
 
     sixteen-same : (s : Place) → sixteen (remesh m xs ks w) s ≡ sixteen m s
     sixteen-same empty = refl
-    sixteen-same (full k fit p l) = cells-same k fit 16 0 p
+    sixteen-same (full k fit o p l) = cells-same k fit 16 0 p
 
 -- squeezed once more
 pub squeezed-shape : (m : Mesh) (xs : List Float) (ks : List ℕ) (w : ℕ) → Shape (remesh m xs ks w) → Shape (remesh m (keptTo ks xs w) (renumbered ks) (rank ks w))
@@ -98,7 +98,7 @@ module _ (m : Mesh) (ss : List Place) (v : Valid m ss) where
 
   within-thin : (s : Place) → Within m s → Within (thinned m) s
   within-thin empty h = h
-  within-thin (full k fit p l) h = okay (thinned m) k fit p l (h .fitted) (h .steps) (h .layer)
+  within-thin (full k fit o p l) h = record { fitted = h .fitted; few = h .few; clean = h .clean; steps = h .steps; layer = h .layer }
 
   thin-valid : Valid (thinned m) ss
   thin-valid =
@@ -142,12 +142,12 @@ module _ (wd : ℕ) (fm : Width wd) (m : Mesh) (ss : List Place) (v : Valid m ss
       ∙ (ap (λ (t : List Float). p ++ t) (regroup k (freedOf (m .corners) (m .verts)) g xs)
       ∙ (append-assoc a b (k ++ past) ∙ ap (λ (r : List (List Float)). a ++ (flat r ++ (k ++ past))) (sym s))))
 
-  words-thinned : (ys : List ℕ) → set (write (wordsOf m ss ys) (cornersFrom wd) (renumbered (m .corners))) 0 (rank (m .corners) (m .verts)) ≡ wordsOf (thinned m) ss ys
+  words-thinned : (ys : List ℕ) → set (write (wordsOf wd m ss ys) (cornersFrom wd) (renumbered (m .corners))) 0 (rank (m .corners) (m .verts)) ≡ wordsOf wd (thinned m) ss ys
   unfolding wordsOf
   words-thinned ys =
-      let p = m .verts ∷ m .faces ∷ flat (map (placeRow m) ss) in
-      let n : length p ≡ cornersFrom wd = rw (flat-length wd (map (placeRow m) ss) (each-row wd fm m ss), length-map, v .places) (omega arith) in
-      let s : map (placeRow (thinned m)) ss ≡ map (placeRow m) ss = map-congr-left {l = ss} (λ t h. row-same m (kept m ss v) (renumbered (m .corners)) (fewer m ss v) t) in
+      let p = m .verts ∷ m .faces ∷ flat (map (placeRow wd m) ss) in
+      let n : length p ≡ cornersFrom wd = rw (flat-length wd (map (placeRow wd m) ss) (each-row wd fm m ss), length-map, v .places) (omega arith) in
+      let s : map (placeRow wd (thinned m)) ss ≡ map (placeRow wd m) ss = map-congr-left {l = ss} (λ t h. row-same m (kept m ss v) (renumbered (m .corners)) (fewer m ss v) wd t) in
       ap (λ (t : List ℕ). set t 0 (rank (m .corners) (m .verts))) (write-mid p (m .corners) (renumbered (m .corners)) ys (cornersFrom wd) n (length-map (m .corners) (rank (m .corners))))
       ∙ ap (λ (r : List (List ℕ)). rank (m .corners) (m .verts) ∷ m .faces ∷ (flat r ++ (renumbered (m .corners) ++ ys))) (sym s)
 
@@ -156,5 +156,5 @@ module _ (wd : ℕ) (fm : Width wd) (m : Mesh) (ss : List Place) (v : Valid m ss
       ≡ laidOut (slim m) ss (replicate (freedBy m + g) +0 ++ xs)
   floats-squeezed g xs = rw (same-mesh m ss v, freed-is m) (floats-thinned g xs)
 
-  pub words-squeezed : (ys : List ℕ) → set (write (wordsOf m ss ys) (cornersFrom wd) (renumbered (m .corners))) 0 (rank (m .corners) (m .verts)) ≡ wordsOf (slim m) ss ys
+  pub words-squeezed : (ys : List ℕ) → set (write (wordsOf wd m ss ys) (cornersFrom wd) (renumbered (m .corners))) 0 (rank (m .corners) (m .verts)) ≡ wordsOf wd (slim m) ss ys
   words-squeezed ys = rw (same-mesh m ss v) (words-thinned ys)

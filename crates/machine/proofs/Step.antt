@@ -19,7 +19,7 @@ use Rattle.kernel.specs.Field.{centreOf}
 use Rattle.kernel.specs.declared.kernel.Kernel.{Kernel}
 use Rattle.pieces.specs.declared.pieces.Pieces.{Pieces}
 use Rattle.advance.specs.Steps.{Work, work, oneFace}
-use Rattle.machine.specs.Machine.{Mesh, Place, empty, full, need}
+use Rattle.machine.specs.Machine.{Mesh, Provenance, Place, empty, full, need}
 use Rattle.machine.specs.Holding.{triangles, piecesFinished, cells}
 use Rattle.machine.proofs.Sixteen.{laidOut}
 use Rattle.machine.proofs.Rows.{Width, set-append-add}
@@ -96,7 +96,7 @@ module _ (q f : ℕ) (hf : 0 < f) where
           (sym (n .0), sym (n .1))
 
 module _ (wd : ℕ) (fm : Width wd) where
-  module _ (m : Mesh) (ss : List Place) (hs : length ss ≡ 32) (xs : List Float) (i : ℕ) (h : i < 32) (k : Kernel) (fit : Pieces) (ly : ℕ) (fw : fit .count ≤ 16) where
+  module _ (m : Mesh) (ss : List Place) (hs : length ss ≡ 32) (xs : List Float) (i : ℕ) (h : i < 32) (k : Kernel) (fit : Pieces) (o : Provenance) (ly : ℕ) (fw : fit .count ≤ 16) where
     abbrev stepAt : Work → Work
     stepAt = oneFace (triangles m) (centreOf k) (m .faces) (225 + 48 * i) (fit .count)
 
@@ -107,8 +107,8 @@ module _ (wd : ℕ) (fm : Width wd) where
         go zero e = absurd (let z = rw (e, mul-zero) at l in omega arith)
         go (suc f) e = omega arith
 
-    pub one-step : (q n : ℕ) → getD ss i empty ≡ full k fit q ly → q < need m fit → 0 < n
-        → stepAt (work (laidOut m ss xs) (piecesFinished m fit q) (q % m .faces) n) ≡ work (laidOut m (set ss i (full k fit (q + 1) ly)) xs) (piecesFinished m fit (q + 1)) ((q + 1) % m .faces) (n - 1)
+    pub one-step : (q n : ℕ) → getD ss i empty ≡ full k fit o q ly → q < need m fit → 0 < n
+        → stepAt (work (laidOut m ss xs) (piecesFinished m fit q) (q % m .faces) n) ≡ work (laidOut m (set ss i (full k fit o (q + 1) ly)) xs) (piecesFinished m fit (q + 1)) ((q + 1) % m .faces) (n - 1)
     unfolding oneFace
     one-step q n e l hn =
         let f = m .faces in
@@ -133,7 +133,7 @@ module _ (wd : ℕ) (fm : Width wd) where
           e,
         )
         (ap (λ (t : List Float). work t ((q + 1) / f) ((q + 1) % f) (n - 1))
-        (set-piece wd fm m ss hs xs i h (full k fit (q + 1) ly) (j + 2) _ (omega arith) (rw e (cells-step m k fit hf 16 0 q low)) (rw e refl)))
+        (set-piece wd fm m ss hs xs i h (full k fit o (q + 1) ly) (j + 2) _ (omega arith) (rw e (cells-step m k fit hf 16 0 q low)) (rw e refl)))
 
     finished-all : piecesFinished m fit (need m fit) ≡ fit .count
     finished-all = go (eqb (m .faces) 0) refl
@@ -142,32 +142,32 @@ module _ (wd : ℕ) (fm : Width wd) where
         go true e = refl
         go false e = let z = eqb-false (m .faces) 0 e in next (need m fit) (m .faces) (fit .count) 0 (add-zero (need m fit)) (omega arith) .0
 
-  module _ (m : Mesh) (ss : List Place) (hs : length ss ≡ 32) (xs : List Float) (i : ℕ) (h : i < 32) (k : Kernel) (fit : Pieces) (p ly : ℕ) (e : getD ss i empty ≡ full k fit p ly) (fw : fit .count ≤ 16) (hp : p ≤ need m fit) (n : ℕ) where
+  module _ (m : Mesh) (ss : List Place) (hs : length ss ≡ 32) (xs : List Float) (i : ℕ) (h : i < 32) (k : Kernel) (fit : Pieces) (o : Provenance) (p ly : ℕ) (e : getD ss i empty ≡ full k fit o p ly) (fw : fit .count ≤ 16) (hp : p ≤ need m fit) (n : ℕ) where
     abbrev at : ℕ → Work
-    at u = work (laidOut m (set ss i (full k fit (p + u) ly)) xs) (piecesFinished m fit (p + u)) ((p + u) % m .faces) (n - u)
+    at u = work (laidOut m (set ss i (full k fit o (p + u) ly)) xs) (piecesFinished m fit (p + u)) ((p + u) % m .faces) (n - u)
 
     at-zero : work (laidOut m ss xs) (piecesFinished m fit p) (p % m .faces) n ≡ at 0
     at-zero =
-        let z : set ss i (full k fit p ly) ≡ ss = ap (set ss i) (sym e) ∙ set-getD ss i empty in
+        let z : set ss i (full k fit o p ly) ≡ ss = ap (set ss i) (sym e) ∙ set-getD ss i empty in
         let s : n - 0 ≡ n = omega arith in
         rw (add-zero, s, z) refl
 
     abbrev stepK : Work → Work
-    stepK = stepAt m ss hs xs i h k fit ly fw
+    stepK = stepAt m ss hs xs i h k fit o ly fw
 
     at-suc : (u : ℕ) → p + u < need m fit → u < n → stepK (at u) ≡ at (suc u)
     at-suc u l hu =
-        let ss1 = set ss i (full k fit (p + u) ly) in
+        let ss1 = set ss i (full k fit o (p + u) ly) in
         let a : p + u + 1 ≡ p + suc u = omega arith in
         let b : n - u - 1 ≡ n - suc u = omega arith in
-        one-step m ss1 (length-set ss i (full k fit (p + u) ly) ∙ hs) xs i h k fit ly fw (p + u) (n - u) (getD-set-same ss i (full k fit (p + u) ly) empty (rw hs h)) l (omega arith)
+        one-step m ss1 (length-set ss i (full k fit o (p + u) ly) ∙ hs) xs i h k fit o ly fw (p + u) (n - u) (getD-set-same ss i (full k fit o (p + u) ly) empty (rw hs h)) l (omega arith)
         ∙ rw (set-set, a, b) refl
 
     idle-all : stepK (at (need m fit - p)) ≡ at (need m fit - p)
     unfolding oneFace
     idle-all =
         let q : p + (need m fit - p) ≡ need m fit = omega arith in
-        rw (q, finished-all m ss hs xs i h k fit ly fw, le-ltb (fit .count) (fit .count) (omega arith)) refl
+        rw (q, finished-all m ss hs xs i h k fit o ly fw, le-ltb (fit .count) (fit .count) (omega arith)) refl
 
     pub run-steps : (t : ℕ) → t ≤ n → iterate stepK t (work (laidOut m ss xs) (piecesFinished m fit p) (p % m .faces) n) ≡ at (min t (need m fit - p))
     run-steps zero ht = let z : min 0 (need m fit - p) ≡ 0 = omega arith in rw z at-zero

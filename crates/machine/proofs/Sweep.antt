@@ -19,13 +19,13 @@ use Rattle.layout.specs.Layout.{centreAt}
 use Rattle.advance.specs.Steps.{work, Whole, whole, placeWork, stored, placesRun}
 use Rattle.layout.specs.Left.{leftOf}
 use Rattle.advance.proofs.Steps.{idle}
-use Rattle.machine.specs.Machine.{Mesh, Place, empty, full, need, leftPlace, leftSum, adv, bump}
+use Rattle.machine.specs.Machine.{Mesh, Provenance, Place, empty, full, need, leftPlace, leftSum, adv, bump}
 use Rattle.machine.specs.Holding.{triangles, piecesFinished, placeRow, wordsOf}
 use Rattle.machine.specs.Valid.{Within, Valid}
 use Rattle.machine.proofs.Rows.{Width}
 use Rattle.machine.proofs.Held.{get7, status-held, finished-held, done-held, two-words}
 use Rattle.machine.proofs.Step.{run-steps}
-use Rattle.machine.proofs.Sixteen.{laidOut, okay}
+use Rattle.machine.proofs.Sixteen.{laidOut}
 
 -- n steps, the first places first
 abbrev pub spread : Mesh → ℕ → List Place → List Place
@@ -34,19 +34,19 @@ spread m n (s ∷ ss) = adv (min n (leftPlace m s)) s ∷ spread m (n - leftPlac
 
 module _ (wd : ℕ) (fm : Width wd) where
   module _ (m : Mesh) (ss : List Place) (hs : length ss ≡ 32) (xs : List Float) (ys : List ℕ) (i : ℕ) (h : i < 32) where
-    pub centre-held : (k : Kernel) (fit : Pieces) (p l : ℕ) → getD ss i empty ≡ full k fit p l → centreAt (laidOut m ss xs) i ≡ centreOf k
+    pub centre-held : (k : Kernel) (fit : Pieces) (o : Provenance) (p l : ℕ) → getD ss i empty ≡ full k fit o p l → centreAt (laidOut m ss xs) i ≡ centreOf k
     unfolding centreOf
-    centre-held k fit p l e =
+    centre-held k fit o p l e =
         let z : 1 + 7 * i ≡ 1 + (7 * i + 0) = omega arith in
         let a : 2 + 7 * i ≡ 1 + (7 * i + 1) = omega arith in
         let b : 3 + 7 * i ≡ 1 + (7 * i + 2) = omega arith in
         rw (a, b, z, get7 wd fm m ss hs xs i h 0 (omega arith), get7 wd fm m ss hs xs i h 1 (omega arith), get7 wd fm m ss hs xs i h 2 (omega arith), e) refl
 
     abbrev spent : ℕ → Whole
-    spent n = stored wd (wordsOf m ss ys) i (placeWork wd (triangles m) (m .faces) i (whole (laidOut m ss xs) (wordsOf m ss ys) n))
+    spent n = stored wd (wordsOf wd m ss ys) i (placeWork wd (triangles m) (m .faces) i (whole (laidOut m ss xs) (wordsOf wd m ss ys) n))
 
     abbrev moved : ℕ → Place → Whole
-    moved n s = whole (laidOut m (set ss i (adv (min n (leftPlace m s)) s)) xs) (wordsOf m (set ss i (adv (min n (leftPlace m s)) s)) ys) (n - leftPlace m s)
+    moved n s = whole (laidOut m (set ss i (adv (min n (leftPlace m s)) s)) xs) (wordsOf wd m (set ss i (adv (min n (leftPlace m s)) s)) ys) (n - leftPlace m s)
 
     place : (n : ℕ) (s : Place) → getD ss i empty ≡ s → Within m s → spent n ≡ moved n s
     unfolding placeWork
@@ -63,7 +63,7 @@ module _ (wd : ℕ) (fm : Width wd) where
           d,
           z,
         ) refl
-    place n (full k fit p l) e w =
+    place n (full k fit o p l) e w =
         let rest = need m fit - p in
         let u = min n rest in
         let d : n - u ≡ n - rest = omega arith in
@@ -72,11 +72,11 @@ module _ (wd : ℕ) (fm : Width wd) where
           status-held wd fm m ss hs ys i h,
           finished-held wd fm m ss hs ys i h,
           done-held wd fm m ss hs ys i h,
-          centre-held k fit p l e,
+          centre-held k fit o p l e,
           e,
           sn,
-          run-steps wd fm m ss hs xs i h k fit p l e (w .few) (w .steps) n n (le-refl n),
-          two-words wd fm m ss hs ys i h (full k fit (p + u) l) (piecesFinished m fit (p + u)) ((p + u) % m .faces) (rw e refl),
+          run-steps wd fm m ss hs xs i h k fit o p l e (w .few) (w .steps) n n (le-refl n),
+          two-words wd fm m ss hs ys i h (full k fit o (p + u) l) (piecesFinished m fit (p + u)) ((p + u) % m .faces) (rw e refl),
           d,
         ) refl
 
@@ -103,7 +103,7 @@ module _ (wd : ℕ) (fm : Width wd) where
       prefix k = spread m n (take k ss) ++ drop k ss
 
       abbrev swept : ℕ → Whole
-      swept k = whole (laidOut m (prefix k) xs) (wordsOf m (prefix k) ys) (n - leftSum m (take k ss))
+      swept k = whole (laidOut m (prefix k) xs) (wordsOf wd m (prefix k) ys) (n - leftSum m (take k ss))
 
       prefix-split : (k : ℕ) → k < 32 → prefix k ≡ spread m n (take k ss) ++ (getD ss k empty ∷ drop (suc k) ss)
       prefix-split k h = ap (λ (t : List Place). spread m n (take k ss) ++ t) (drop-cons ss k empty (rw (v .places) h))
@@ -123,7 +123,7 @@ module _ (wd : ℕ) (fm : Width wd) where
           let a = adv (min (n - leftSum m (take k ss)) (leftPlace m s)) s in
           rw (prefix-split k h, set-at (spread m n (take k ss)) s (drop (suc k) ss) a k (head-length k (omega arith)), take-suc ss k empty (rw (v .places) h), spread-snoc n (take k ss) s, append-assoc) refl
 
-      pub run-held : (k : ℕ) → k ≤ 32 → placesRun wd (triangles m) (m .faces) k (whole (laidOut m ss xs) (wordsOf m ss ys) n) ≡ swept k
+      pub run-held : (k : ℕ) → k ≤ 32 → placesRun wd (triangles m) (m .faces) k (whole (laidOut m ss xs) (wordsOf wd m ss ys) n) ≡ swept k
       unfolding placesRun
       run-held zero h = let e : n - 0 ≡ n = omega arith in rw e refl
       run-held (suc k) h =
@@ -133,7 +133,7 @@ module _ (wd : ℕ) (fm : Width wd) where
           rw (run-held k (omega arith))
           (place-held m (prefix k) (prefix-length k h) xs ys k h (n - leftSum m (take k ss)) (rw g (v .within k)) ∙ rw (g, prefix-next k h, q) refl)
 
-      pub all-held : placesRun wd (triangles m) (m .faces) 32 (whole (laidOut m ss xs) (wordsOf m ss ys) n) ≡ whole (laidOut m (spread m n ss) xs) (wordsOf m (spread m n ss) ys) (n - leftSum m ss)
+      pub all-held : placesRun wd (triangles m) (m .faces) 32 (whole (laidOut m ss xs) (wordsOf wd m ss ys) n) ≡ whole (laidOut m (spread m n ss) xs) (wordsOf wd m (spread m n ss) ys) (n - leftSum m ss)
       all-held =
           let t : take 32 ss ≡ ss = take-all 32 ss (rw (v .places) (omega arith)) in
           let d : drop 32 ss ≡ [] = drop-of-length-le ss {i = 32} (rw (v .places) (omega arith)) in
@@ -150,12 +150,12 @@ module _ (wd : ℕ) (fm : Width wd) where
           let b : (n - p / f) * f ≡ n * f - p / f * f = mul-comm (n - p / f) f ∙ (mul-sub f n (p / f) ∙ rw (mul-comm f n, mul-comm f (p / f)) refl) in
           rw (a, b) (omega (arith, div-add-mod' p f))
 
-  pub word-left : (m : Mesh) (s : Place) → Within m s → (getD (placeRow m s) 0 0 - 1 - getD (placeRow m s) 1 0) * m .faces - getD (placeRow m s) 2 0 ≡ leftPlace m s
+  pub word-left : (m : Mesh) (s : Place) → Within m s → (getD (placeRow wd m s) 0 0 - 1 - getD (placeRow wd m s) 1 0) * m .faces - getD (placeRow wd m s) 2 0 ≡ leftPlace m s
   word-left m empty h = let e : 0 - 1 - 0 ≡ 0 = omega arith in rw e (omega arith)
-  word-left m (full k fit p l) h = place-left (fit .count) (m .faces) p (h .steps)
+  word-left m (full k fit o p l) h = place-left (fit .count) (m .faces) p (h .steps)
 
   module _ (m : Mesh) (ss : List Place) (v : Valid m ss) (ys : List ℕ) where
-    left-to : (k : ℕ) → k ≤ 32 → leftOf wd (wordsOf m ss ys) (m .faces) k ≡ leftSum m (take k ss)
+    left-to : (k : ℕ) → k ≤ 32 → leftOf wd (wordsOf wd m ss ys) (m .faces) k ≡ leftSum m (take k ss)
     unfolding leftOf
     left-to zero h = refl
     left-to (suc k) h =
@@ -169,7 +169,7 @@ module _ (wd : ℕ) (fm : Width wd) where
           left-snoc m (take k ss) (getD ss k empty),
         ) refl
 
-    pub left-held : leftOf wd (wordsOf m ss ys) (m .faces) 32 ≡ leftSum m ss
+    pub left-held : leftOf wd (wordsOf wd m ss ys) (m .faces) 32 ≡ leftSum m ss
     left-held = left-to 32 (omega arith) ∙ ap (leftSum m) (take-all 32 ss (rw (v .places) (omega arith)))
 
 -- ---- one step at a time, the lowest unfinished place first
@@ -189,9 +189,9 @@ module _ (m : Mesh) where
   spread-none : (n : ℕ) (ss : List Place) → min n (leftSum m ss) ≡ 0 → spread m n ss ≡ ss
   spread-none n [] e = refl
   spread-none n (empty ∷ ss) e = ap (λ (t : List Place). empty ∷ t) (spread-none (n - 0) ss (omega arith))
-  spread-none n (full k fit p l ∷ ss) e =
+  spread-none n (full k fit o p l ∷ ss) e =
       let a : p + min n (need m fit - p) ≡ p = omega arith in
-      rw a (ap (λ (t : List Place). full k fit p l ∷ t) (spread-none (n - (need m fit - p)) ss (omega arith)))
+      rw a (ap (λ (t : List Place). full k fit o p l ∷ t) (spread-none (n - (need m fit - p)) ss (omega arith)))
 
   bump-spread : (n : ℕ) (ss : List Place) → 0 < leftSum m ss → (spread m (suc n) ss ≡ spread m n (bump m ss)) × (leftSum m (bump m ss) + 1 ≡ leftSum m ss)
   bump-spread n [] h = absurd (omega arith)
@@ -200,17 +200,17 @@ module _ (m : Mesh) where
       let a : suc n - 0 ≡ suc n = omega arith in
       let b : n - 0 ≡ n = omega arith in
       (rw (a, b) (ap (λ (t : List Place). empty ∷ t) (i .0)), omega (arith, i .1))
-  bump-spread n (full k fit p l ∷ ss) h = go (eqb (need m fit - p) 0) refl (λ (z : 0 < leftSum m ss). bump-spread n ss z)
+  bump-spread n (full k fit o p l ∷ ss) h = go (eqb (need m fit - p) 0) refl (λ (z : 0 < leftSum m ss). bump-spread n ss z)
     where
       go : (b : Bool) → eqb (need m fit - p) 0 ≡ b → (0 < leftSum m ss → (spread m (suc n) ss ≡ spread m n (bump m ss)) × (leftSum m (bump m ss) + 1 ≡ leftSum m ss))
-          → (spread m (suc n) (full k fit p l ∷ ss) ≡ spread m n (cond b (full k fit p l ∷ bump m ss) (full k fit (p + 1) l ∷ ss))) × (leftSum m (cond b (full k fit p l ∷ bump m ss) (full k fit (p + 1) l ∷ ss)) + 1 ≡ leftSum m (full k fit p l ∷ ss))
+          → (spread m (suc n) (full k fit o p l ∷ ss) ≡ spread m n (cond b (full k fit o p l ∷ bump m ss) (full k fit o (p + 1) l ∷ ss))) × (leftSum m (cond b (full k fit o p l ∷ bump m ss) (full k fit o (p + 1) l ∷ ss)) + 1 ≡ leftSum m (full k fit o p l ∷ ss))
       go true e ih =
           let z : need m fit - p ≡ 0 = eqb-true (need m fit - p) 0 e in
           let i = ih (omega arith) in
           let a : suc n - (need m fit - p) ≡ suc n = omega arith in
           let b : n - (need m fit - p) ≡ n = omega arith in
           let x : min (suc n) (need m fit - p) ≡ min n (need m fit - p) = omega arith in
-          (rw (a, b, x) (ap (λ (t : List Place). full k fit (p + min n (need m fit - p)) l ∷ t) (i .0)), omega (arith, i .1))
+          (rw (a, b, x) (ap (λ (t : List Place). full k fit o (p + min n (need m fit - p)) l ∷ t) (i .0)), omega (arith, i .1))
       go false e ih =
           let z = eqb-false (need m fit - p) 0 e in
           let a : suc n - (need m fit - p) ≡ n - (need m fit - (p + 1)) = omega arith in
@@ -229,7 +229,7 @@ module _ (m : Mesh) where
   pub left-spread : (n : ℕ) (ss : List Place) → leftSum m (spread m n ss) ≡ leftSum m ss - min n (leftSum m ss)
   left-spread n [] = omega arith
   left-spread n (empty ∷ ss) = omega (arith, left-spread (n - 0) ss)
-  left-spread n (full k fit p l ∷ ss) =
+  left-spread n (full k fit o p l ∷ ss) =
       let a = need m fit - p in
       let r = leftSum m ss in
       rw (left-spread (n - a) ss, sub-add (need m fit) p (min n a), sub-min n a, sub-min (n - a) r, sub-min n (a + r)) (both-left n a r)
@@ -237,5 +237,5 @@ module _ (m : Mesh) where
   pub within-spread : (n : ℕ) (ss : List Place) → ((i : ℕ) → Within m (getD ss i empty)) → (i : ℕ) → Within m (getD (spread m n ss) i empty)
   within-spread n [] h i = h i
   within-spread n (empty ∷ ss) h zero = h zero
-  within-spread n (full k fit p l ∷ ss) h zero = let z = h zero in okay m k fit (p + min n (need m fit - p)) l (z .fitted) (omega arith) (z .layer)
+  within-spread n (full k fit o p l ∷ ss) h zero = let z = h zero in record { fitted = z .fitted; few = z .few; clean = z .clean; steps = omega arith; layer = z .layer }
   within-spread n (s ∷ ss) h (suc i) = within-spread (n - leftPlace m s) ss (λ j. h (suc j)) i

@@ -19,12 +19,12 @@ use Rattle.kernel.specs.declared.kernel.Kernel.{Kernel}
 use Rattle.pieces.specs.declared.pieces.Pieces.{Pieces}
 use Rattle.pieces.specs.Pieces.{decomposed}
 use Rattle.pieces.specs.PieceLaws.{same-pieces}
-use Rattle.machine.specs.Machine.{Mesh, Place, empty, full, among, seenPlace, seenPlaces, leftPlace, adv, bump, stepsOf, Machine, Turn, turn, clearTurn, weighed, reweighTurn, slim}
-use Rattle.machine.specs.Fresh.{kernelOf, kernelsOf, piecesOf, allPieces}
+use Rattle.machine.specs.Machine.{Mesh, Provenance, own, carried, Place, empty, full, among, seenPlace, seenPlaces, leftPlace, adv, bump, stepsOf, Machine, Turn, turn, clearTurn, weighed, reweighTurn, slim}
+use Rattle.machine.specs.Fresh.{kernelOf, fitAfresh, workAll, piecesOf, allPieces}
 use Rattle.machine.specs.Calls.{Call, put, clear, reweigh, advance, squeeze, read, finished, page, machine, after-all, holding, chargedBy, chargedIn}
 use Rattle.machine.specs.Valid.{Valid}
 use Rattle.machine.specs.Bills.{Reordered, none, keep, swap, then, Every, putBy, putIn, placeBy, placesIn, InStore, layerBy, layersIn, InSixteen, Apart}
-use Rattle.machine.proofs.Rows.{Width}
+use Rattle.machine.proofs.Rows.{Layered}
 use Rattle.machine.proofs.Claim.{one-call, kept}
 use Rattle.machine.proofs.Listed.{pieces-length}
 
@@ -49,18 +49,27 @@ fits radius k = decomposed k radius .count
 
 abbrev heldOne : Float → Place → ℕ
 heldOne radius empty = 0
-heldOne radius (full k fit p l) = fits radius k
+heldOne radius (full k fit o p l) = fitAfresh radius k fit o .count
 
 abbrev pub heldIn : Float → List Place → ℕ
 heldIn radius [] = 0
 heldIn radius (s ∷ ss) = heldOne radius s + heldIn radius ss
 
-pub pieces-held : (radius : Float) (ss : List Place) → length (allPieces radius (kernelsOf ss)) ≡ heldIn radius ss
+pub pieces-held : (radius : Float) (ss : List Place) → length (allPieces (workAll radius ss)) ≡ heldIn radius ss
 pieces-held radius [] = refl
 pieces-held radius (empty ∷ ss) = omega (arith, pieces-held radius ss)
-pieces-held radius (full k fit p l ∷ ss) =
-    let n = pieces-length k (decomposed k radius) (decomposed k radius .count) in
-    length-append (piecesOf radius k) (allPieces radius (kernelsOf ss)) ∙ omega (arith, n, pieces-held radius ss)
+pieces-held radius (full k fit o p l ∷ ss) =
+    let f = fitAfresh radius k fit o in
+    let n = pieces-length k f (f .count) in
+    length-append (piecesOf (record { kernel = k; fit = f })) (allPieces (workAll radius ss))
+    ∙ omega (arith, n, pieces-held radius ss)
+
+-- another weight gives no other pieces
+same-count : (radius : Float) (k : Kernel) (fit : Pieces) (o : Provenance) (w : Float)
+    → fitAfresh radius (weighed k w) fit o .count ≡ fitAfresh radius k fit o .count
+same-count radius k fit own w =
+    ap (λ (f : Pieces). f .count) (same-pieces (k .c) (k .c) (k .sigma) w (k .w) (k .alpha) radius)
+same-count radius k fit carried w = refl
 
 held-set : (radius : Float) (ss : List Place) (i : ℕ) (s : Place) → i < length ss
     → heldIn radius (set ss i s) + heldOne radius (getD ss i empty) ≡ heldIn radius ss + heldOne radius s
@@ -71,9 +80,9 @@ held-set radius (x ∷ ss) (suc i) s h = omega (arith, held-set radius ss i s (o
 -- a reading of some layers sees no more pieces
 seen-one : (radius : Float) (layers : ℕ) (s : Place) → heldOne radius (seenPlace layers s) ≤ heldOne radius s
 seen-one radius layers empty = omega arith
-seen-one radius layers (full k fit p l) = go (among l layers)
+seen-one radius layers (full k fit o p l) = go (among l layers)
   where
-    go : (b : Bool) → heldOne radius (cond b (full k fit p l) empty) ≤ fits radius k
+    go : (b : Bool) → heldOne radius (cond b (full k fit o p l) empty) ≤ fitAfresh radius k fit o .count
     go true = omega arith
     go false = omega arith
 
@@ -85,7 +94,7 @@ seen-within radius layers (s ∷ ss) = omega (arith, seen-one radius layers s, s
 -- ---- a step of work keeps what a place holds, and empty places empty
 held-adv : (radius : Float) (u : ℕ) (s : Place) → heldOne radius (adv u s) ≡ heldOne radius s
 held-adv radius u empty = refl
-held-adv radius u (full k fit p l) = refl
+held-adv radius u (full k fit o p l) = refl
 
 held-bump : (radius : Float) (m : Mesh) (ss : List Place) → heldIn radius (bump m ss) ≡ heldIn radius ss
 held-bump radius m [] = refl
@@ -169,7 +178,7 @@ module _ (m : Machine) (hs : length (m .places) ≡ 32) where
       go : Dec (i < 32) → Dec (l < 16) → Step m (put i k l) (machine m (put i k l))
       go (yes h) (yes b) =
           let fit = decomposed k R in
-          let w = held-set R (m .places) i (full k fit 0 l) (rw hs h) in
+          let w = held-set R (m .places) i (full k fit own 0 l) (rw hs h) in
           let n : fits R k + 0 ≡ fits R k = omega arith in
           let e = ap (λ (a : ℕ). a * m .mesh .faces) n in
           rw (lt-ltb i 32 h, le-leb l 15 (omega arith))
@@ -180,7 +189,7 @@ module _ (m : Machine) (hs : length (m .places) ≡ 32) where
             pieces = omega (arith, w);
             charge-all = λ s y. sym e;
             pieces-all = λ s y v. omega (arith, w, ap (heldOne R) (v .0));
-            still = λ j a v. getD-set-other (m .places) i j (full k fit 0 l) empty (λ z. a .0 (sym z)) ∙ v;
+            still = λ j a v. getD-set-other (m .places) i j (full k fit own 0 l) empty (λ z. a .0 (sym z)) ∙ v;
           })
       go (yes h) (no b) = rw (lt-ltb i 32 h, lt-leb l 15 (omega arith)) (not-put i k l NoLayer (λ x y. b y))
       go (no h) b = rw (le-ltb i 32 (omega arith)) (not-put i k l NoPlace (λ x y. h x))
@@ -210,7 +219,7 @@ module _ (m : Machine) (hs : length (m .places) ≡ 32) where
 
   clear-at : (i : ℕ) → i < 32 → (s : Place) → getD (m .places) i empty ≡ s → Step m (clear i) (clearTurn m i s)
   clear-at i h empty e = idle (clear i) refl (turn m (refused Vacant)) refl refl
-  clear-at i h (full k fit p l) e =
+  clear-at i h (full k fit o p l) e =
       let w = held-set R (m .places) i empty (rw hs h) in
       record {
         radius = refl;
@@ -225,14 +234,14 @@ module _ (m : Machine) (hs : length (m .places) ≡ 32) where
   reweigh-at : (i : ℕ) (v : Float) → i < 32 → (s : Place) → getD (m .places) i empty ≡ s
       → Step m (reweigh i v) (reweighTurn m i v s)
   reweigh-at i v h empty e = idle (reweigh i v) refl (turn m (refused Vacant)) refl refl
-  reweigh-at i v h (full k fit p l) e =
-      let w = held-set R (m .places) i (full (weighed k v) fit p l) (rw hs h) in
-      let o = ap (heldOne R) e in
-      let q = ap (λ (f : Pieces). f .count) (same-pieces (k .c) (k .c) (k .sigma) (k .w) v (k .alpha) R) in
-      quiet (reweigh i v) refl (reweighTurn m i v (full k fit p l)) refl refl refl (omega (arith, w, o, q)) other
+  reweigh-at i v h (full k fit o p l) e =
+      let w = held-set R (m .places) i (full (weighed k v) fit o p l) (rw hs h) in
+      let u = ap (heldOne R) e in
+      let q = same-count R k fit o v in
+      quiet (reweigh i v) refl (reweighTurn m i v (full k fit o p l)) refl refl refl (omega (arith, w, u, q)) other
     where
       moved : Place
-      moved = full (weighed k v) fit p l
+      moved = full (weighed k v) fit o p l
 
       other : (j : ℕ) → Vacancy (m .places) j → Vacancy (set (m .places) i moved) j
       other j u = getD-set-other (m .places) i j moved empty apart ∙ u
@@ -319,9 +328,9 @@ module _ (m : Machine) (v : Valid (m .mesh) (m .places)) (c : Call) where
   same-held : (ss : List Place) → heldBy next ss ≡ heldBy m ss
   same-held ss = ap (λ (r : Float). heldIn r ss) (s .radius)
 
-module _ (wd : ℕ) (fm : Width wd) (exF : List Float) (exW : List ℕ) where
+module _ (wd : ℕ) (fm : Layered wd) (exF : List Float) (exW : List ℕ) where
   pub charged-within : (cs : List Call) (m : Machine) → Valid (m .mesh) (m .places)
-      → chargedIn wd (holding m exF exW) cs ≤ fitsIn m (putIn cs) * m .mesh .faces
+      → chargedIn wd (holding wd m exF exW) cs ≤ fitsIn m (putIn cs) * m .mesh .faces
   charged-within [] m v = omega arith
   charged-within (c ∷ cs) m v =
       let i = charged-within cs (machine m c .next) (kept m v c .valid) in
@@ -329,7 +338,7 @@ module _ (wd : ℕ) (fm : Width wd) (exF : List Float) (exW : List ℕ) where
 
   pub charged-all : (cs : List Call) (m : Machine) → Valid (m .mesh) (m .places)
       → InStore (placesIn cs) → InSixteen (layersIn cs)
-      → chargedIn wd (holding m exF exW) cs ≡ fitsIn m (putIn cs) * m .mesh .faces
+      → chargedIn wd (holding wd m exF exW) cs ≡ fitsIn m (putIn cs) * m .mesh .faces
   charged-all [] m v p b = omega arith
   charged-all (c ∷ cs) m v p b =
       let t = every-split (λ j. j < 32) (placeBy c) (placesIn cs) p in

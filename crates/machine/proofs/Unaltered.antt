@@ -29,10 +29,10 @@ use Rattle.store.specs.Marks.{Below}
 use Rattle.store.specs.TriangleLaws.{same-triangle}
 use Rattle.machine.specs.Machine.{Mesh, Place, empty, full, seenPlaces, completePlaces, passedPlaces, bump, Machine, Turn, turn, freedBy, stepsOf, putTurn, clearTurn, reweighTurn}
 use Rattle.machine.specs.Holding.{triangles}
-use Rattle.machine.specs.Fresh.{freshRow, freshRows, workedAfresh, finishedAfresh, pageAfresh}
+use Rattle.machine.specs.Fresh.{fitAfresh, freshRow, freshRows, workedAfresh, finishedAfresh, pageAfresh}
 use Rattle.machine.specs.Calls.{Call, put, clear, reweigh, advance, squeeze, read, finished, page, machine, holding, without, Heard, others, heard}
 use Rattle.machine.specs.Valid.{Shape, Valid}
-use Rattle.machine.proofs.Rows.{Width}
+use Rattle.machine.proofs.Rows.{Layered}
 use Rattle.machine.proofs.Parts.{freshPart, freshAt, freshPlace, freshAll, freshSeen}
 use Rattle.machine.proofs.Afresh.{place-mass, joined}
 use Rattle.machine.proofs.Slim.{slim-is}
@@ -71,7 +71,7 @@ module _ (m : Mesh) (xs : List Float) (ks : List ℕ) (w : ℕ) where
 
     place-same : (s : Place) → freshPlace n s ≡ freshPlace m s
     place-same empty = refl
-    place-same (full k fit p l) = parts-same k (decomposed k (m .radius)) (decomposed k (m .radius) .count)
+    place-same (full k fit o p l) = let f = fitAfresh (m .radius) k fit o in parts-same k f (f .count)
 
     all-same : (ss : List Place) → freshAll n ss ≡ freshAll m ss
     all-same [] = refl
@@ -92,9 +92,9 @@ module _ (m : Mesh) (xs : List Float) (ks : List ℕ) (w : ℕ) where
 
       row-same : (i : ℕ) (s : Place) → freshRow n i s ≡ freshRow m i s
       row-same i empty = refl
-      row-same i (full k fit p l) =
-          ap (λ (x : Float). row i (decomposed k (m .radius) .count) x ∷ [])
-          (sym (place-mass n g k fit p l) ∙ (ap rawMass (place-same (full k fit p l)) ∙ place-mass m h k fit p l))
+      row-same i (full k fit o p l) =
+          ap (λ (x : Float). row i (fitAfresh (m .radius) k fit o .count) x ∷ [])
+          (sym (place-mass n g k fit o p l) ∙ (ap rawMass (place-same (full k fit o p l)) ∙ place-mass m h k fit o p l))
 
       rows-same : (i : ℕ) (ss : List Place) → freshRows n i ss ≡ freshRows m i ss
       rows-same i [] = refl
@@ -152,12 +152,12 @@ module _ (m : Machine) (xs : List Float) (ks : List ℕ) (w g : ℕ) where
     where
       lift : (b : Bool) (s : Place) → cond b (clearTurn (remade m xs ks w g) i s) (turn (remade m xs ks w g) (refused NoPlace)) ≡ lifted (cond b (clearTurn m i s) (turn m (refused NoPlace))) xs ks w g
       lift true empty = refl
-      lift true (full k fit p l) = refl
+      lift true (full k fit o p l) = refl
       lift false s = refl
 
       stays : (b : Bool) (s : Place) → cond b (clearTurn m i s) (turn m (refused NoPlace)) .next .mesh ≡ m .mesh
       stays true empty = refl
-      stays true (full k fit p l) = refl
+      stays true (full k fit o p l) = refl
       stays false s = refl
 
   pub reweigh-goes : (i : ℕ) (x : Float) → Goes m (reweigh i x) xs ks w g
@@ -166,12 +166,12 @@ module _ (m : Machine) (xs : List Float) (ks : List ℕ) (w g : ℕ) where
     where
       lift : (b : Bool) (s : Place) → cond b (reweighTurn (remade m xs ks w g) i x s) (turn (remade m xs ks w g) (refused NoPlace)) ≡ lifted (cond b (reweighTurn m i x s) (turn m (refused NoPlace))) xs ks w g
       lift true empty = refl
-      lift true (full k fit p l) = refl
+      lift true (full k fit o p l) = refl
       lift false s = refl
 
       stays : (b : Bool) (s : Place) → cond b (reweighTurn m i x s) (turn m (refused NoPlace)) .next .mesh ≡ m .mesh
       stays true empty = refl
-      stays true (full k fit p l) = refl
+      stays true (full k fit o p l) = refl
       stays false s = refl
 
   pub advance-goes : (k : ℕ) → Goes m (advance k) xs ks w g
@@ -289,13 +289,13 @@ module _ (o m : Mesh) (f : From o m) where
       ap (λ (x : Mesh). pageAfresh x ss bs) mesh-is
       ∙ page-same o (m .coords) (m .corners) (m .verts) (f .alike .same) (f .alike .shape) (f .alike .was) ss bs
 
-module _ (wd : ℕ) (fm : Width wd) (exF : List Float) (exW : List ℕ) where
-  store-heard : (cs : List Call) (m : Machine) → Valid (m .mesh) (m .places) → heard wd (holding m exF exW) cs ≡ heardBy m cs
+module _ (wd : ℕ) (fm : Layered wd) (exF : List Float) (exW : List ℕ) where
+  store-heard : (cs : List Call) (m : Machine) → Valid (m .mesh) (m .places) → heard wd (holding wd m exF exW) cs ≡ heardBy m cs
   store-heard [] m v = refl
   store-heard (c ∷ cs) m v =
       rw (one-call wd fm m v exF exW c) (ap (others c (told (machine m c))) (store-heard cs (machine m c .next) (kept m v c .valid)))
 
-  pub unaltered : (m : Machine) → Valid (m .mesh) (m .places) → (cs : List Call) → heard wd (holding m exF exW) cs ≡ heard wd (holding m exF exW) (without cs)
+  pub unaltered : (m : Machine) → Valid (m .mesh) (m .places) → (cs : List Call) → heard wd (holding wd m exF exW) cs ≡ heard wd (holding wd m exF exW) (without cs)
   unaltered m v cs =
       let a : Alike (m .mesh) (m .mesh .coords) (m .mesh .corners) (m .mesh .verts)
       = record { shape = v .mesh; was = v .mesh; same = λ f h. refl } in

@@ -151,9 +151,9 @@ after-all m (c ∷ cs) = after-all (machine m c .next) cs
 abbrev pub past : Machine → List Float → List Float
 past m xs = replicate (m .freed) +0 ++ xs
 
-abbrev pub holding : Machine → List Float → List ℕ → Store
-holding m xs ys =
-    record { floats = floatsOf (m .mesh) (m .places) (past m xs); words = wordsOf (m .mesh) (m .places) ys }
+abbrev pub holding : ℕ → Machine → List Float → List ℕ → Store
+holding q m xs ys =
+    record { floats = floatsOf (m .mesh) (m .places) (past m xs); words = wordsOf q (m .mesh) (m .places) ys }
 
 -- ---- the sums: "charged is the need summed over accepted puts' answers"; a refused call answers no count
 abbrev pub chargedBy : Call → Answer → ℕ
@@ -223,3 +223,8 @@ hearing a = record { reply = a .reply; out = a .out; page = a .page }
 abbrev pub heard : ℕ → Store → List Call → List Heard
 heard q s [] = []
 heard q s (c ∷ cs) = others c (hearing (store q s c)) (heard q (store q s c .runs) cs)
+
+-- what the calls of a list answer and write into what is lent beside the store
+abbrev pub answers : ℕ → Store → List Call → List Heard
+answers q s [] = []
+answers q s (c ∷ cs) = hearing (store q s c) ∷ answers q (store q s c .runs) cs

@@ -1,9 +1,9 @@
--- Demand 3, one statement: `Demand3`, at the end. Each clause stands below the owner's words that it says.
+-- Demand 3, one statement: `Demand3`, at the end: of an opening, or of a carry (02, L6), and every list of calls after it. Each clause stands below the owner's words that it says.
 -- r, xs and ks are the radius, coordinates and corners of an opening; fs and ws the runs lent to it, whatever was in
 -- them; q is the count of words to a place, which the contracts have as `width`. Definitions only.
 use mathlib.Core.Path.{_≡_}
 use mathlib.Core.Bool.{true}
-use mathlib.Core.List.{List, [], _∷_}
+use mathlib.Core.List.{List, [], _∷_, map}
 use Prim.Native.Nat.{ℕ, _+_, _*_, _/_, _^_, _≤_, _<_}
 use lib.ListN.{length}
 use lib.Ieee.{Float}
@@ -12,24 +12,27 @@ use Rattle.base.specs.declared.refusal.Refusal.the-variants.{Unfinished, NoLaye
 use Rattle.base.specs.Floats.{+0}
 use Rattle.layout.specs.Runs.{write}
 use Rattle.kernel.specs.declared.kernel.Kernel.{Kernel}
+use Rattle.pieces.specs.Pieces.{decomposed}
 use Rattle.pieces.specs.Lists.{fittedAll, listDecomposition}
 use Rattle.layout.specs.Layout.{width}
 use Rattle.layout.specs.After.{After, after}
 use Rattle.store.specs.Calls.{openStep}
+use Rattle.carry.specs.Carry.{oldWidth, carryStep}
 use Rattle.readings.specs.Readings.{Reading, report, sixes}
 use Rattle.readings.specs.Finished.{beside}
 use Rattle.density.specs.declared.convention.Convention.{Convention}
-use Rattle.machine.specs.Machine.{Mesh, Machine, seenPlaces, completePlaces, passedPlaces, workLeft, with-places, opened, openRow}
+use Rattle.machine.specs.Machine.{Mesh, carried, Place, empty, full, Machine, seenPlaces, completePlaces, passedPlaces, workLeft, with-places, opened, shortRow, openRow}
 use Rattle.machine.specs.Holding.{excessF, excessW}
 use Rattle.machine.specs.Valid.{Valid}
-use Rattle.machine.specs.Fresh.{kernelsOf, allPieces, worstFrom, workedAfresh, finishedAfresh, pageAfresh}
-use Rattle.machine.specs.Calls.{Call, advance, read, finished, page, needs, workSeen, machine, Store, store, leaves, after-all, holding, leftIn, chargedIn, doneIn, without, heard}
+use Rattle.machine.specs.Fresh.{Worked, kernelsOf, allPieces, worstFrom, workedAfresh, finishedAfresh, pageAfresh}
+use Rattle.machine.specs.Calls.{Call, advance, read, finished, page, needs, workSeen, machine, Store, store, leaves, after-all, holding, leftIn, chargedIn, doneIn, without, heard, answers}
+use Rattle.machine.specs.OldStore.{Fitter, Fitting, Old, oldLeaves, oldAfter, nowadays}
 
 -- ---- one call c: the store s beside the machine m, which "gets that opening and the same calls"; exF and exW are the
 -- excess of the two runs, as the opening found it
 pub record Same (q : ℕ) (exF : List Float) (exW : List ℕ) (m : Machine) (s : Store) (c : Call) : Type 0 where
   -- the call is given runs that hold the machine, "whole"
-  pub before : s ≡ holding m exF exW
+  pub before : s ≡ holding q m exF exW
   -- "Puts, clears, reweighs and advances are refused exactly when it refuses them, with its number; accepted puts
   -- answer its pieces and need, advances its done and left": an answer is the number of a refusal and the values, a
   -- put's with how its fit ended. A squeeze answers how many coordinates it freed; of a reading and a page more is said below
@@ -39,7 +42,7 @@ pub record Same (q : ℕ) (exF : List Float) (exW : List ℕ) (m : Machine) (s :
   pub shown : store q s c .page ≡ machine m c .page
   -- "After each call the runs hold 01's fields for its mesh, radius, places and steps, volumes so far included": each
   -- word of both; past the fields come the words that squeezes freed, which are zero, and the excess
-  pub fields : store q s c .runs ≡ holding (machine m c .next) exF exW
+  pub fields : store q s c .runs ≡ holding q (machine m c .next) exF exW
 
 -- ---- a reading r of a set of layers, anywhere in a list; mesh is the mesh opened, of which squeezes may have dropped
 -- vertices in m
@@ -87,7 +90,7 @@ pub record Partly
   pub alone : layers < 2 ^ 16
       → store q s (finished layers v) .reply
       ≡ beside (passedPlaces (m .mesh) (seenPlaces layers (m .places)))
-      (store q (holding (onlyComplete m layers) exF exW) (read 65535 (report v)) .reply)
+      (store q (holding q (onlyComplete m layers) exF exW) (read 65535 (report v)) .reply)
   -- so with nothing left in its layers it is the ordinary report of this store, and passes over none
   pub whole : layers < 2 ^ 16 → workSeen m layers ≡ 0
       → store q s (finished layers v) .reply ≡ beside 0 (store q s (read layers (report v)) .reply)
@@ -120,27 +123,32 @@ pub data Each (q : ℕ) (exF : List Float) (exW : List ℕ) (mesh : Mesh) : Mach
 
 -- ---- the pieces worked afresh are demand 2's too: the call that decomposes a list of kernels ks, six floats each,
 -- writes them into a run that is long enough, and answers the kernels, the pieces and the greatest error
-pub record Decomposed (radius : Float) (ks : List Kernel) : Type 0 where
-  pub listed : (run : List Float) → 6 * length (allPieces radius ks) ≤ length run
-      → listDecomposition (sixes ks) radius run
-      ≡ outcome (fittedAll (length ks) (length (allPieces radius ks)) (worstFrom radius +0 ks))
-      (write run 0 (sixes (allPieces radius ks)))
+abbrev pub decomposedAll : Float → List Kernel → List Worked
+decomposedAll radius ks = map (λ k. record { kernel = k; fit = decomposed k radius }) ks
 
--- ---- a list of calls, from the store s that an opening left and the machine m that it opened
+pub record Decomposed (radius : Float) (ks : List Kernel) : Type 0 where
+  pub listed : (run : List Float) → 6 * length (allPieces (decomposedAll radius ks)) ≤ length run
+      → listDecomposition (sixes ks) radius run
+      ≡ outcome
+      (fittedAll (length ks) (length (allPieces (decomposedAll radius ks))) (worstFrom +0 (decomposedAll radius ks)))
+      (write run 0 (sixes (allPieces (decomposedAll radius ks))))
+
+-- ---- a list of calls, from the store s that an opening or a carry left and its machine m
 pub record Follows (q : ℕ) (exF : List Float) (exW : List ℕ) (m : Machine) (s : Store) (cs : List Call) : Type 0 where
   -- "For every list of puts, clears, reweighs, advances and readings, refused ones among them", and of reports of what is
   -- finished (02, L7), pages (02, L8) and squeezes: "Demand 3's list may hold it" (02, L12)
   pub calls : Each q exF exW (m .mesh) m s cs
   -- the machine after the list, and so after each part of it: the pieces in its places, which the runs hold, are those
-  -- of its kernels, and no place has more steps than its need
+  -- of its kernels or came by a carry, and no place has more steps than its need
   pub valid : Valid (after-all m cs .mesh) (after-all m cs .places)
   pub pieces : Decomposed (m .mesh .radius) (kernelsOf (after-all m cs .places))
   -- "After the list, with charged summed over the puts' answers and done over the advances', done + left + dropped =
-  -- charged": left "is what an advance of 0 then answers", dropped is the machine's
+  -- charged": left "is what an advance of 0 then answers", dropped is the machine's. What m had charged is 0 after an
+  -- opening, and after a carry "the left that goes across" (02, L6)
   pub sums : doneIn q s cs + leftIn (store q (leaves q s cs) (advance 0) .reply) + after-all m cs .dropped
-      ≡ chargedIn q s cs
+      ≡ m .charged + chargedIn q s cs
   -- and the machine's own charged is that sum
-  pub charged : after-all m cs .charged ≡ chargedIn q s cs
+  pub charged : after-all m cs .charged ≡ m .charged + chargedIn q s cs
 
 -- ---- what an accepted opening answers and leaves, and every list of calls after it
 abbrev pub leaving : After → Store
@@ -148,7 +156,7 @@ leaving a = record { floats = a .floats; words = a .words }
 
 pub record Accepted (q : ℕ) (r : Float) (xs : List Float) (ks : List ℕ) (fs : List Float) (ws : List ℕ) : Type 0 where
   pub reply : openStep q fs ws r xs ks .reply ≡ counted (length xs / 3 ∷ length ks / 3 ∷ [])
-  pub holds : leaving (openStep q fs ws r xs ks) ≡ holding (opened r xs ks) (excessF xs fs) (excessW q ks ws)
+  pub holds : leaving (openStep q fs ws r xs ks) ≡ holding q (opened r xs ks) (excessF xs fs) (excessW q ks ws)
   pub every-list : (cs : List Call)
       → Follows q (excessF xs fs) (excessW q ks ws) (opened r xs ks) (leaving (openStep q fs ws r xs ks)) cs
   -- 02, L12: "Later readings and step counts are then the same as without it; left isn't altered by it": so is all that
@@ -165,6 +173,62 @@ pub record Opens (q : ℕ) (r : Float) (xs : List Float) (ks : List ℕ) (fs : L
       → openStep q fs ws r xs ks ≡ after (refusedBy (openRow q xs ks (length fs) (length ws))) fs ws
   pub accepted : openRow q xs ks (length fs) (length ws) ≡ 0 → Accepted q r xs ks fs ws
 
--- ---- demand 3: of every opening, at the width that the contracts have
-abbrev pub Demand3 : Type 0
-Demand3 = (r : Float) (xs : List Float) (ks : List ℕ) (fs : List Float) (ws : List ℕ) → Opens width r xs ks fs ws
+-- ---- 02, L6: a store of the form before L5 is carried over. r, xs, ks, fs and ws are those of its opening, cs its calls,
+-- fitter is what fitted its puts' kernels; gs and us are the new runs, whatever was in them
+abbrev pub carrying : Fitter → Float → List Float → List ℕ → List Float → List ℕ → List Old → List Float → List ℕ → After
+carrying fitter r xs ks fs ws cs gs us =
+    let old = oldLeaves fitter (leaving (openStep oldWidth fs ws r xs ks)) cs in
+    carryStep (old .floats) (old .words) gs us
+
+-- "demand 3's list begins at the carry, its machine with the mesh, radius, places and steps carried, and its charged with
+-- the left that goes across": the machine m has had the old store's opening and calls
+abbrev pub carriedPlace : Place → Place
+carriedPlace empty = empty
+carriedPlace (full k fit o p l) = full k fit carried p 0
+
+abbrev pub carriedOver : Machine → Machine
+carriedOver m =
+    record {
+      mesh = m .mesh;
+      places = map carriedPlace (m .places);
+      charged = workLeft m;
+      dropped = 0;
+      freed = 0;
+    }
+
+pub record Carried
+    (fitter : Fitter) (r : Float) (xs : List Float) (ks : List ℕ) (fs : List Float) (ws : List ℕ) (cs : List Old)
+    (m : Machine) (gs : List Float) (us : List ℕ) (a : After) : Type 0 where
+  pub reply : a .reply ≡ counted (m .mesh .verts ∷ m .mesh .faces ∷ [])
+  -- "with every kernel in layer 0. Unfinished sums and step counts go along": each word of the new runs, their excess
+  -- untouched
+  pub holds : leaving a ≡ holding width (carriedOver m) (excessF (m .mesh .coords) gs) (excessW width (m .mesh .corners) us)
+  pub every-list : (ds : List Call)
+      → Follows width (excessF (m .mesh .coords) gs) (excessW width (m .mesh .corners) us) (carriedOver m) (leaving a) ds
+  pub unaltered : (ds : List Call) → heard width (leaving a) ds ≡ heard width (leaving a) (without ds)
+  -- "For every list of later calls, the new store answers as one would that had received the old store's calls, its puts
+  -- in layer 0, where those puts were made with L2's powers": that one was opened in runs hs and vs, whatever was in them
+  pub as-if-always : ((k : Kernel) (radius : Float) → fitter k radius ≡ decomposed k radius)
+      → (hs : List Float) (vs : List ℕ) → openRow width xs ks (length hs) (length vs) ≡ 0 → (ds : List Call)
+      → answers width (leaving a) ds
+      ≡ answers width (leaves width (leaving (openStep width hs vs r xs ks)) (map nowadays cs)) ds
+
+-- a carry is refused with 4 exactly when the new runs are too short: what the old store's opening and calls left is
+-- neither short nor unsound
+pub record Carries
+    (fitter : Fitter) (r : Float) (xs : List Float) (ks : List ℕ) (fs : List Float) (ws : List ℕ) (cs : List Old)
+    (m : Machine) (gs : List Float) (us : List ℕ) : Type 0 where
+  pub refused-as : 0 < shortRow width (m .mesh .verts) (m .mesh .faces) (length gs) (length us)
+      → carrying fitter r xs ks fs ws cs gs us
+      ≡ after (refusedBy (shortRow width (m .mesh .verts) (m .mesh .faces) (length gs) (length us))) gs us
+  pub accepted : shortRow width (m .mesh .verts) (m .mesh .faces) (length gs) (length us) ≡ 0
+      → Carried fitter r xs ks fs ws cs m gs us (carrying fitter r xs ks fs ws cs gs us)
+
+-- ---- demand 3, at the width that the contracts have: of every opening, and of every carry of a store that an accepted
+-- opening of the old form and any calls on it left
+pub record Demand3 : Type 0 where
+  pub opening : (r : Float) (xs : List Float) (ks : List ℕ) (fs : List Float) (ws : List ℕ) → Opens width r xs ks fs ws
+  pub carry : (fitter : Fitter) → Fitting fitter
+      → (r : Float) (xs : List Float) (ks : List ℕ) (fs : List Float) (ws : List ℕ)
+      → openRow oldWidth xs ks (length fs) (length ws) ≡ 0 → (cs : List Old) (gs : List Float) (us : List ℕ)
+      → Carries fitter r xs ks fs ws cs (oldAfter fitter carried (opened r xs ks) cs) gs us

@@ -22,33 +22,52 @@ use Rattle.readings.specs.Along.{along}
 use Rattle.readings.specs.Readings.{Reading, density, report, list, track, origin, rescaled, sixes, reported, trackCheck}
 use Rattle.readings.specs.Finished.{beside}
 use Rattle.page.specs.Page.{Row, row, Paged, pageAnswer}
-use Rattle.machine.specs.Machine.{Mesh, Place, empty, full, completePlaces, passedPlaces}
+use Rattle.machine.specs.Machine.{Mesh, Provenance, own, carried, Place, empty, full, completePlaces, passedPlaces}
 
 -- ---- "the machine's filled places in order": their kernels
 abbrev pub kernelOf : Place → List Kernel
 kernelOf empty = []
-kernelOf (full k fit p l) = k ∷ []
+kernelOf (full k fit o p l) = k ∷ []
 
 abbrev pub kernelsOf : List Place → List Kernel
 kernelsOf [] = []
 kernelsOf (s ∷ ss) = kernelOf s ++ kernelsOf ss
 
--- ---- "each decomposed": into the first n pieces of its fit, each a kernel of its own
+-- ---- "each decomposed": a kernel and its fit
+pub record Worked : Type 0 where
+  pub kernel : Kernel
+  pub fit : Pieces
+
+-- 02, L6: "pieces fitted before L2 go across as held, and for their kernels demand 3's machine and fresh working start
+-- from those pieces and the error held with them"
+abbrev pub fitAfresh : Float → Kernel → Pieces → Provenance → Pieces
+fitAfresh radius k fit own = decomposed k radius
+fitAfresh radius k fit carried = fit
+
+abbrev pub workPlace : Float → Place → List Worked
+workPlace radius empty = []
+workPlace radius (full k fit o p l) = record { kernel = k; fit = fitAfresh radius k fit o } ∷ []
+
+abbrev pub workAll : Float → List Place → List Worked
+workAll radius [] = []
+workAll radius (s ∷ ss) = workPlace radius s ++ workAll radius ss
+
+-- the first n pieces of a fit, each a kernel of its own; those of one kernel, of all
 abbrev pub piecesTo : Kernel → Pieces → ℕ → List Kernel
 piecesTo k fit zero = []
 piecesTo k fit (suc n) = piecesTo k fit n ++ (pieceAt k fit n ∷ [])
 
-abbrev pub piecesOf : Float → Kernel → List Kernel
-piecesOf radius k = piecesTo k (decomposed k radius) (decomposed k radius .count)
+abbrev pub piecesOf : Worked → List Kernel
+piecesOf a = piecesTo (a .kernel) (a .fit) (a .fit .count)
 
-abbrev pub allPieces : Float → List Kernel → List Kernel
-allPieces radius [] = []
-allPieces radius (k ∷ ks) = piecesOf radius k ++ allPieces radius ks
+abbrev pub allPieces : List Worked → List Kernel
+allPieces [] = []
+allPieces (a ∷ rest) = piecesOf a ++ allPieces rest
 
 -- "greatest error (+0 with no place filled)", from e on
-abbrev pub worstFrom : Float → Float → List Kernel → Float
-worstFrom radius e [] = e
-worstFrom radius e (k ∷ ks) = worstFrom radius (greater e (decomposed k radius .error)) ks
+abbrev pub worstFrom : Float → List Worked → Float
+worstFrom e [] = e
+worstFrom e (a ∷ rest) = worstFrom (greater e (a .fit .error)) rest
 
 -- ---- "then the reading's functions by its convention", on a mesh m and pieces ks
 
@@ -86,8 +105,8 @@ readingOn m ks filled worst (track v points out) =
 
 unfoldable pub workedAfresh : Mesh → List Place → Reading → Outcome
 workedAfresh m ss r =
-    let ks = kernelsOf ss in
-    readingOn m (allPieces (m .radius) ks) (length ks) (worstFrom (m .radius) +0 ks) r
+    let all = workAll (m .radius) ss in
+    readingOn m (allPieces all) (length all) (worstFrom +0 all) r
 
 -- ---- 02, L7: "It covers only the places whose steps are complete, and says how many filled places of its layers it passed
 -- over": the report worked afresh on those of the places ss that have nothing left, and beside it how many have some
@@ -97,8 +116,7 @@ finishedAfresh m ss v = beside (passedPlaces m ss) (workedAfresh m (completePlac
 -- ---- 02, L8, the wall page: "One line per filled place shows its number [..], its pieces [..] and its raw mass"; "The mass
 -- is the place's own field mass": `kernel_field_mass` of its pieces alone. Place i, and the places from i on
 abbrev pub freshRow : Mesh → ℕ → Place → List Row
-freshRow m i empty = []
-freshRow m i (full k fit p l) = row i (decomposed k (m .radius) .count) (massOf m (piecesOf (m .radius) k)) ∷ []
+freshRow m i s = map (λ a. row i (a .fit .count) (massOf m (piecesOf a))) (workPlace (m .radius) s)
 
 abbrev pub freshRows : Mesh → ℕ → List Place → List Row
 freshRows m i [] = []

@@ -12,7 +12,7 @@ use Rattle.volume.specs.Volume.{volumeTo}
 use Rattle.kernel.specs.Field.{centreOf}
 use Rattle.kernel.specs.declared.kernel.Kernel.{Kernel}
 use Rattle.pieces.specs.declared.pieces.Pieces.{Pieces}
-use Rattle.layout.specs.Layout.{coordsFrom, cornersFrom}
+use Rattle.layout.specs.Layout.{coordsFrom, cornersFrom, layerWords}
 use Rattle.machine.specs.Machine.{Mesh, Place, empty, full}
 
 -- ---- the float run
@@ -20,7 +20,7 @@ use Rattle.machine.specs.Machine.{Mesh, Place, empty, full}
 -- "place i's c, sigma, w, alpha, error"; "Unused fields are zero"
 abbrev pub floats7 : Place → List Float
 floats7 empty = replicate 7 +0
-floats7 (full k fit p l) =
+floats7 (full k fit o p l) =
     getD (k .c) 0 nan ∷ getD (k .c) 1 nan ∷ getD (k .c) 2 nan ∷ k .sigma ∷ k .w ∷ k .alpha ∷ fit .error ∷ []
 
 abbrev pub triangles : Mesh → ℕ → Triangle
@@ -40,7 +40,7 @@ cells m k fit (suc n) j t =
 -- "Unused fields are zero": those of the pieces past its last
 abbrev pub floats48 : Mesh → Place → List Float
 floats48 m empty = replicate 48 +0
-floats48 m (full k fit p l) = cells m k fit (fit .count) 0 p ++ replicate (48 - 3 * fit .count) +0
+floats48 m (full k fit o p l) = cells m k fit (fit .count) 0 p ++ replicate (48 - 3 * fit .count) +0
 
 -- rows one behind the other
 abbrev pub flat : {A : Type 0} → List (List A) → List A
@@ -58,13 +58,14 @@ floatsOf m ss xs = m .radius ∷ (flat (map floats7 ss) ++ (flat (map (floats48 
 abbrev pub piecesFinished : Mesh → Pieces → ℕ → ℕ
 piecesFinished m fit p = cond (eqb (m .faces) 0) (fit .count) (p / m .faces)
 
-abbrev pub placeRow : Mesh → Place → List ℕ
-placeRow m empty = 0 ∷ 0 ∷ 0 ∷ 0 ∷ []
-placeRow m (full k fit p l) = (1 + fit .count) ∷ piecesFinished m fit p ∷ p % m .faces ∷ l ∷ []
+-- of q words to a place: the form before L5 has no word for the layer
+abbrev pub placeRow : ℕ → Mesh → Place → List ℕ
+placeRow q m empty = 0 ∷ 0 ∷ 0 ∷ layerWords q 0
+placeRow q m (full k fit o p l) = (1 + fit .count) ∷ piecesFinished m fit p ∷ p % m .faces ∷ layerWords q l
 
 -- "V, F; from 2+3i [2+4i] ..; from 98 [130] corners", then what lies past the store's own words
-unfoldable pub wordsOf : Mesh → List Place → List ℕ → List ℕ
-wordsOf m ss ys = m .verts ∷ m .faces ∷ (flat (map (placeRow m) ss) ++ (m .corners ++ ys))
+unfoldable pub wordsOf : ℕ → Mesh → List Place → List ℕ → List ℕ
+wordsOf q m ss ys = m .verts ∷ m .faces ∷ (flat (map (placeRow q m) ss) ++ (m .corners ++ ys))
 
 -- ---- what an opening found past them
 abbrev pub excessF : List Float → List Float → List Float

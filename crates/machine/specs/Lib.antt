@@ -3,6 +3,7 @@ pub mod Holding
 pub mod Valid
 pub mod Fresh
 pub mod Calls
+pub mod OldStore
 pub mod Demands
 pub mod Bills
 pub mod Renumbering

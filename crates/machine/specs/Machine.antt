@@ -24,11 +24,17 @@ pub record Mesh : Type 0 where
   pub verts : ℕ
   pub faces : ℕ
 
--- "each place is empty or (kernel, steps p)"; a filled one keeps the pieces that its decomposition gave. 02, L5: "Each
--- place, the machine's too, gets a layer number from 0 to 15". In `full k fit p l`, p are the steps and l is the layer
+-- where a filled place's pieces come from: its kernel was decomposed when it was put; or a carry brought them, 02, L6:
+-- "pieces fitted before L2 go across as held"
+pub data Provenance : Type 0 where
+  own : Provenance
+  carried : Provenance
+
+-- "each place is empty or (kernel, steps p)"; a filled one keeps its pieces, and where they come from. 02, L5: "Each
+-- place, the machine's too, gets a layer number from 0 to 15". In `full k fit o p l`, p are the steps and l is the layer
 pub data Place : Type 0 where
   empty : Place
-  full : Kernel → Pieces → ℕ → ℕ → Place
+  full : Kernel → Pieces → Provenance → ℕ → ℕ → Place
 
 -- "pieces is how many its decomposition gives, need = pieces times F"
 abbrev pub need : Mesh → Pieces → ℕ
@@ -37,7 +43,7 @@ need m fit = fit .count * m .faces
 -- need - p, "0 for an empty place"
 abbrev pub leftPlace : Mesh → Place → ℕ
 leftPlace m empty = 0
-leftPlace m (full k fit p l) = need m fit - p
+leftPlace m (full k fit o p l) = need m fit - p
 
 -- "left, the sum of need - p"
 abbrev pub leftSum : Mesh → List Place → ℕ
@@ -47,7 +53,7 @@ leftSum m (s ∷ ss) = leftPlace m s + leftSum m ss
 -- u steps more
 abbrev pub adv : ℕ → Place → Place
 adv u empty = empty
-adv u (full k fit p l) = full k fit (p + u) l
+adv u (full k fit o p l) = full k fit o (p + u) l
 
 pub record Machine : Type 0 where
   pub mesh : Mesh
@@ -96,6 +102,11 @@ abbrev pub looseIn : ℕ → List ℕ → Bool
 looseIn v [] = false
 looseIn v (k ∷ ks) = leb v k || looseIn v ks
 
+-- row 4, of runs of a floats and b words for v vertices and f faces: "below 1,761+3V floats or 98+3F words", and by 02's
+-- L5 "below 130+3F words": 98 and 130 are 2 + 32q
+abbrev pub shortRow : ℕ → ℕ → ℕ → ℕ → ℕ → ℕ
+shortRow q v f a b = cond (ltb a (1761 + 3 * v) || ltb b (2 + 32 * q + 3 * f)) 4 0
+
 -- which of the table's rows 1 to 4 refuses an opening of coordinates xs and corners ks, in runs of a floats and b words
 -- with q words to a place: "The lowest that applies is returned alone"; 0 where none applies
 unfoldable pub openRow : ℕ → List Float → List ℕ → ℕ → ℕ → ℕ
@@ -108,8 +119,7 @@ openRow q xs ks a b =
     (cond (ltb 1048576 v || ltb 2097152 f) 2
     -- "index ≥ V"
     (cond (looseIn v ks) 3
-    -- "below 1,761+3V floats or 98+3F words", and by 02's L5 "below 130+3F words": 98 and 130 are 2 + 32q
-    (cond (ltb a (1761 + 3 * v) || ltb b (2 + 32 * q + 3 * f)) 4 0)))
+    (shortRow q v f a b)))
 
 -- 02, L4: "put answers one of kept, fitted with that pivot, fallback with that column, or no exponent": which one and
 -- the column, then the pivot
@@ -125,26 +135,31 @@ endFloats (Fitted pivot) = pivot ∷ []
 endFloats (Fallback column) = +0 ∷ []
 endFloats NoExponent = +0 ∷ []
 
--- "Put: charged += need, dropped += the old need - p (0 for an empty place), p = 0. Answers pieces and need", and how
--- the fit ended, which the place does not keep; the layer is "given at put"
+-- "Put: charged += need, dropped += the old need - p (0 for an empty place), p = 0"; the layer is "given at put"
+abbrev pub putInto : Machine → ℕ → Kernel → Pieces → Provenance → ℕ → Machine
+putInto m i k fit o l =
+    with-places m (set (m .places) i (full k fit o 0 l)) (need (m .mesh) fit)
+    (leftPlace (m .mesh) (getD (m .places) i empty))
+
+-- "Answers pieces and need", and how the fit ended, which the place does not keep
 abbrev pub putTurn : Machine → ℕ → Kernel → Pieces → Fit → ℕ → Turn
 putTurn m i k fit end l =
-    let old = getD (m .places) i empty in
-    turn (with-places m (set (m .places) i (full k fit 0 l)) (need (m .mesh) fit) (leftPlace (m .mesh) old))
+    turn (putInto m i k fit own l)
     (record { refusal = 0; counts = fit .count ∷ need (m .mesh) fit ∷ endCounts end; floats = endFloats end })
 
 -- "Clear: dropped += need - p; empty."
 abbrev pub clearTurn : Machine → ℕ → Place → Turn
 clearTurn m i empty = turn m (refused Vacant)
-clearTurn m i (full k fit p l) = turn (with-places m (set (m .places) i empty) 0 (need (m .mesh) fit - p)) done
+clearTurn m i (full k fit o p l) = turn (with-places m (set (m .places) i empty) 0 (need (m .mesh) fit - p)) done
 
--- "Reweigh: new w, p kept."; the layer is "kept at a reweigh"
+-- "Reweigh: new w, p kept."; the layer is "kept at a reweigh", and so are the pieces, wherever they come from
 abbrev pub weighed : Kernel → Float → Kernel
 weighed k v = record { c = k .c; sigma = k .sigma; w = v; alpha = k .alpha }
 
 abbrev pub reweighTurn : Machine → ℕ → Float → Place → Turn
 reweighTurn m i v empty = turn m (refused Vacant)
-reweighTurn m i v (full k fit p l) = turn (with-places m (set (m .places) i (full (weighed k v) fit p l)) 0 0) done
+reweighTurn m i v (full k fit o p l) =
+    turn (with-places m (set (m .places) i (full (weighed k v) fit o p l)) 0 0) done
 
 -- "Advance(n, u64): does min(n, left) steps, lowest unfinished place first, one face of one piece each; the step count
 -- in its result is done, beside left"
@@ -170,7 +185,7 @@ among (suc l) layers = among l (layers / 2)
 -- a place that a reading of these layers does not see is to it an empty one
 abbrev pub seenPlace : ℕ → Place → Place
 seenPlace layers empty = empty
-seenPlace layers (full k fit p l) = cond (among l layers) (full k fit p l) empty
+seenPlace layers (full k fit o p l) = cond (among l layers) (full k fit o p l) empty
 
 abbrev pub seenPlaces : ℕ → List Place → List Place
 seenPlaces layers ss = map (seenPlace layers) ss

@@ -1,7 +1,7 @@
 -- 02, L14, one statement: `Renumbering`, at the end. "Tools number the same vertices differently, and navigators
 -- compare results across them." Definitions only.
 use mathlib.Core.Path.{_≡_}
-use mathlib.Core.List.{List, [], _∷_, map}
+use mathlib.Core.List.{List, map}
 use Prim.Native.Nat.{ℕ, _+_, _*_, _/_, _<_}
 use lib.ListN.{length, getD}
 use lib.Ieee.{Float, nan}
@@ -9,7 +9,7 @@ use Rattle.layout.specs.Layout.{width}
 use Rattle.layout.specs.After.{After}
 use Rattle.store.specs.Calls.{openStep}
 use Rattle.machine.specs.Machine.{openRow}
-use Rattle.machine.specs.Calls.{Call, Store, store, Heard, hearing}
+use Rattle.machine.specs.Calls.{Call, answers}
 use Rattle.machine.specs.Demands.{leaving}
 
 -- p numbers v vertices anew, and q takes each new number back
@@ -26,11 +26,6 @@ pub record Renumbered (p q : ℕ → ℕ) (xs : List Float) (ks : List ℕ) (ys 
   pub long : length ys ≡ length xs
   pub coords : (i j : ℕ) → i < length xs / 3 → j < 3 → getD ys (3 * p i + j) nan ≡ getD xs (3 * i + j) nan
   pub corners : ls ≡ map p ks
-
--- what the calls of a list answer and write into what is lent beside the store; each gets what the call before it left
-abbrev pub answers : ℕ → Store → List Call → List Heard
-answers q s [] = []
-answers q s (c ∷ cs) = hearing (store q s c) ∷ answers q (store q s c .runs) cs
 
 -- ---- what two openings answered and left
 pub record Agree (q : ℕ) (a b : After) : Type 0 where

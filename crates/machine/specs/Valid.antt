@@ -4,17 +4,25 @@ use mathlib.Core.Bool.{true}
 use mathlib.Core.List.{List}
 use Prim.Native.Nat.{ℕ, _*_, _≤_, _<_}
 use lib.ListN.{length, getD}
+use lib.Ieee.{Float}
 use Rattle.mesh.specs.Checks.{vertexLimit, faceLimit, allBelow}
 use Rattle.kernel.specs.declared.kernel.Kernel.{Kernel}
 use Rattle.pieces.specs.declared.pieces.Pieces.{Pieces}
 use Rattle.pieces.specs.Pieces.{decomposed}
-use Rattle.machine.specs.Machine.{Mesh, Place, empty, full, need}
+use Rattle.pieces.specs.PieceLaws.{Clean}
+use Rattle.machine.specs.Machine.{Mesh, Provenance, own, carried, Place, empty, full, need}
+
+-- pieces that a put fitted are those that the kernel's decomposition gives; a carry brings any
+abbrev pub FittedBy : Float → Kernel → Pieces → Provenance → Type 0
+FittedBy radius k fit own = fit ≡ decomposed k radius
+FittedBy radius k fit carried = Unit {0}
 
 -- a filled place
-pub record Okay (m : Mesh) (k : Kernel) (fit : Pieces) (p l : ℕ) : Type 0 where
-  -- its pieces are those that its kernel's decomposition gives: "So a kernel has at most 16 pieces"
-  pub fitted : fit ≡ decomposed k (m .radius)
+pub record Okay (m : Mesh) (k : Kernel) (fit : Pieces) (o : Provenance) (p l : ℕ) : Type 0 where
+  pub fitted : FittedBy (m .radius) k fit o
+  -- "So a kernel has at most 16 pieces", and the arrays of a fit are +0 past its last
   pub few : fit .count ≤ 16
+  pub clean : Clean fit
   -- its steps are within its need
   pub steps : p ≤ need m fit
   -- its layer is one of sixteen
@@ -22,7 +30,7 @@ pub record Okay (m : Mesh) (k : Kernel) (fit : Pieces) (p l : ℕ) : Type 0 wher
 
 abbrev pub Within : Mesh → Place → Type 0
 Within m empty = Unit {0}
-Within m (full k fit p l) = Okay m k fit p l
+Within m (full k fit o p l) = Okay m k fit o p l
 
 -- a mesh that an opening does not refuse
 pub record Shape (m : Mesh) : Type 0 where

@@ -1,0 +1,308 @@
+-- Every list of calls on a store that holds a valid machine does what demand 3 says, and so from every opening on.
+-- Assumes nothing.
+use mathlib.Core.Path.{_≡_, refl, sym, ap, subst, _∙_}
+use mathlib.Core.Bool.{Bool, true, false, _&&_, cond, and-eq-true-iff, true≢false}
+use mathlib.Core.Logic.{_⊎_, inl, inr}
+use mathlib.Core.List.{List, [], _∷_, map}
+use Prim.Native.Nat.{ℕ, _+_, _*_, _/_, _%_, _^_, _<_, min}
+use native.Mathlib.Omega.{arith}
+use lib.Dec.{ltb, leb, eqb}
+use lib.ListN.{length}
+use lib.Ieee.{Float}
+use borrow.Author.Tests.{lt-ltb, ltb-true, le-leb, lt-leb, leb-true, leb-false}
+use Rattle.base.specs.Answers.{Answer, refused, counted, Outcome, outcome, guardedRun, andThen}
+use Rattle.base.specs.declared.refusal.Refusal.{Refusal}
+use Rattle.base.specs.declared.refusal.Refusal.the-variants.{Unfinished, NoLayer, ShortList, BadTrack, NoFigure, ShortPage}
+use Rattle.base.specs.declared.refusal.Checked.the-variants.{Passed, Failed}
+use Rattle.layout.specs.Runs.{write}
+use Rattle.readings.specs.Along.{along}
+use Rattle.density.specs.declared.convention.Convention.{Convention}
+use Rattle.layout.specs.After.{After, after}
+use Rattle.store.specs.Calls.{openCheck, openStep}
+use Rattle.readings.specs.Readings.{Reading, density, report, list, track, bare, applied, rescaled, densityAt, sixes, Seen, trackLimit, trackCheck, answerOf, refusing}
+use Rattle.readings.specs.Finished.{beside}
+use Rattle.page.specs.Page.{Row, Paged, paged, allPrintable, pageOf, guardedPage, pageAnswer}
+use Rattle.machine.specs.Machine.{Mesh, Place, leftSum, seenPlaces, completePlaces, passedPlaces, Machine, opened, openRow}
+use Rattle.machine.specs.Holding.{excessF, excessW}
+use Rattle.machine.specs.Fresh.{kernelsOf, freshRows, workedAfresh, finishedAfresh, pageAfresh}
+use Rattle.machine.specs.Calls.{Call, advance, read, finished, page, needs, machine, Store, Result, store, leaves, after-all, holding, leftIn, without, heard}
+use Rattle.machine.specs.Demands.{Same, Read, onlyComplete, Partly, Post, Each, end, next, Follows, leaving, Accepted, refusedBy, Opens}
+use Rattle.machine.specs.Valid.{Valid}
+use Rattle.machine.proofs.Rows.{Width, Layered, formed}
+use Rattle.machine.proofs.Parts.{freshSeen}
+use Rattle.machine.proofs.Afresh.{joined}
+use Rattle.machine.proofs.Layers.{all-seen, none-seen}
+use Rattle.machine.proofs.Finished.{nothing-left, whole-afresh, complete-valid}
+use Rattle.machine.proofs.Claim.{one-call, kept, books, charges}
+use Rattle.machine.proofs.Unaltered.{From, from-start, from-next, on-opened, finished-opened, page-opened, unaltered}
+use Rattle.machine.proofs.Listed.{listed}
+use Rattle.machine.proofs.Opened.{opens, opened-valid}
+use Rattle.machine.proofs.Refused.{row}
+
+-- ---- what is answered is never 8 or 16: it is accepted, 9 of a list or 14 of a track
+abbrev Answered : ℕ → Type 0
+Answered n = (n ≡ 0) ⊎ ((n ≡ 9) ⊎ (n ≡ 14))
+
+listed-as : (b : Bool) (n : ℕ) (o out : List Float)
+    → Answered (guardedRun (cond b Passed (Failed ShortList)) out (outcome (counted (n ∷ [])) o) .reply .refusal)
+listed-as true n o out = inl refl
+listed-as false n o out = inr (inl refl)
+
+tracked-as : (a b n : ℕ) (o out : List Float)
+    → Answered (guardedRun (trackCheck a b) out (outcome (counted (n ∷ [])) o) .reply .refusal)
+unfolding trackCheck
+tracked-as a b n o out = go (eqb (a % 3) 0 && leb (a / 3) trackLimit && leb (a / 3) b)
+  where
+    go : (t : Bool)
+        → Answered (guardedRun (cond t Passed (Failed BadTrack)) out (outcome (counted (n ∷ [])) o) .reply .refusal)
+    go true = inl refl
+    go false = inr (inr refl)
+
+answered : (r : Reading) (s : Seen) → Answered (answerOf r s .reply .refusal)
+answered (density v x) s = inl refl
+answered (report v) s = inl refl
+answered (list v out) s =
+    let ks = map bare (s .parts) in
+    let js = map (rescaled (applied v (s .parts))) ks in
+    listed-as (leb (6 * length ks) (length out)) (length ks) (write out 0 (sixes js)) out
+answered (track v points out) s =
+    let n = length points / 3 in
+    let js = map (rescaled (applied v (s .parts))) (map bare (s .parts)) in
+    tracked-as (length points) (length out) n (write out 0 (along (densityAt js) points n)) out
+
+refuses-as : (r : Reading) (e : Refusal) → refusing r e .reply ≡ refused e
+refuses-as (density v x) e = refl
+refuses-as (report v) e = refl
+refuses-as (list v out) e = refl
+refuses-as (track v points out) e = refl
+
+never : {n : ℕ} → Answered n → (n ≡ 8 → ⊥) × (n ≡ 16 → ⊥)
+never (inl x) = (λ z. omega arith, λ z. omega arith)
+never (inr (inl x)) = (λ z. omega arith, λ z. omega arith)
+never (inr (inr x)) = (λ z. omega arith, λ z. omega arith)
+
+abbrev number : Answer → ℕ
+number a = a .refusal
+
+not-both : refused Unfinished ≡ refused NoLayer → ⊥
+not-both e = let z : _≡_ {A = ℕ} 8 16 = ap number e in omega arith
+
+-- 16, then 8, then what is worked afresh
+module _ (r : Reading) (o : Outcome) where
+  abbrev turned : Bool → Bool → Outcome
+  turned a b = cond a (refusing r NoLayer) (cond b (refusing r Unfinished) o)
+
+  when-sixteen : Answered (o .reply .refusal) → (a b : Bool) → turned a b .reply ≡ refused NoLayer → a ≡ true
+  when-sixteen n true b e = refl
+  when-sixteen n false true e = absurd (not-both (sym (refuses-as r Unfinished) ∙ e))
+  when-sixteen n false false e = absurd (never n .1 (ap number e))
+
+  when-eight : Answered (o .reply .refusal) → (a b : Bool) → turned a b .reply ≡ refused Unfinished
+      → (a ≡ false) × (b ≡ true)
+  when-eight n true b e = absurd (not-both (sym e ∙ refuses-as r NoLayer))
+  when-eight n false true e = (refl, refl)
+  when-eight n false false e = absurd (never n .0 (ap number e))
+
+  when-not : (a b : Bool) → a ≡ false → (turned a b .reply ≡ refused Unfinished → ⊥) → turned a b ≡ o
+  when-not true b h n = absurd (true≢false h)
+  when-not false true h n = absurd (n (refuses-as r Unfinished))
+  when-not false false h n = refl
+
+-- a report of what is finished is refused by 16 alone
+finished-not : (n : ℕ) (x : Answer) → Answered (x .refusal) → (b : Bool)
+    → cond b (refused NoLayer) (beside n x) ≡ refused Unfinished → ⊥
+finished-not n x a true e = not-both (sym e)
+finished-not n x a false e = never a .0 (ap number e)
+
+finished-sixteen : (n : ℕ) (x : Answer) → Answered (x .refusal) → (b : Bool)
+    → cond b (refused NoLayer) (beside n x) ≡ refused NoLayer → b ≡ true
+finished-sixteen n x a true e = refl
+finished-sixteen n x a false e = absurd (never a .1 (ap number e))
+
+-- what a page answers is never 8
+paged-not : (rs : List Row) (bs : List ℕ) → pageAnswer rs bs .reply ≡ refused Unfinished → ⊥
+unfolding pageAnswer
+paged-not rs bs e = go (allPrintable rs) (leb (length (pageOf rs)) (length bs)) (ap (λ (a : Answer). a .refusal) e)
+  where
+    go : (a b : Bool)
+        → guardedPage (andThen (cond a Passed (Failed NoFigure)) (cond b Passed (Failed ShortPage))) bs (paged (counted (length (pageOf rs) ∷ [])) (write bs 0 (pageOf rs))) .reply .refusal ≡ 8 → ⊥
+    go true true z = omega arith
+    go true false z = omega arith
+    go false b z = omega arith
+
+page-not : (m : Mesh) (ss : List Place) (bs : List ℕ) → pageAfresh m ss bs .reply ≡ refused Unfinished → ⊥
+unfolding pageAfresh
+page-not m ss bs = paged-not (freshRows m 0 ss) bs
+
+module _ (o : Paged) (bs : List ℕ) where
+  page-eight : (o .reply ≡ refused Unfinished → ⊥) → (b : Bool) → cond b (paged (refused Unfinished) bs) o .reply ≡ refused Unfinished → b ≡ true
+  page-eight n true e = refl
+  page-eight n false e = absurd (n e)
+
+  page-other : (b : Bool) → (cond b (paged (refused Unfinished) bs) o .reply ≡ refused Unfinished → ⊥) → cond b (paged (refused Unfinished) bs) o ≡ o
+  page-other true n = absurd (n refl)
+  page-other false n = refl
+
+module _ (wd : ℕ) (fm : Layered wd) (exF : List Float) (exW : List ℕ) where
+  same : (m : Machine) → Valid (m .mesh) (m .places) → (c : Call) → Same wd exF exW m (holding wd m exF exW) c
+  same m v c =
+      let e = one-call wd fm m v exF exW c in
+      record { before = refl; reply = ap (λ (r : Result). r .reply) e; lent = ap (λ (r : Result). r .out) e; shown = ap (λ (r : Result). r .page) e; fields = ap (λ (r : Result). r .runs) e }
+
+  reading : (o : Mesh) (m : Machine) → Valid (m .mesh) (m .places) → From o (m .mesh)
+      → (layers : ℕ) (r : Reading) → Read wd o m (holding wd m exF exW) layers r
+  unfolding machine
+  reading o m v g layers r =
+      let e = one-call wd fm m v exF exW (read layers r) in
+      let er = ap (λ (x : Result). x .reply) e in
+      let eo = ap (λ (x : Result). x .out) e in
+      let ss = seenPlaces layers (m .places) in
+      let l = leftSum (m .mesh) ss in
+      let a = leb (2 ^ 16) layers in
+      let b = needs r && ltb 0 l in
+      let f = workedAfresh (m .mesh) ss r in
+      let j = joined (m .mesh) (v .mesh) ss r in
+      let n = subst (λ (x : Outcome). Answered (x .reply .refusal)) j (answered r (freshSeen (m .mesh) ss)) in
+      record {
+        no-layer = λ h. er ∙ rw (le-leb (2 ^ 16) layers h) (refuses-as r NoLayer);
+        one-of-sixteen = λ z. leb-true (2 ^ 16) layers (when-sixteen r f n a b (sym er ∙ z));
+        unfinished = λ h w p. er ∙ rw (lt-leb (2 ^ 16) layers h, w, lt-ltb 0 l p) (refuses-as r Unfinished);
+        only-then = λ z.
+            let t = when-eight r f n a b (sym er ∙ z) in
+            let u = and-eq-true-iff (needs r) (ltb 0 l) .0 (t .1) in
+            (leb-false (2 ^ 16) layers (t .0), (u .0, ltb-true 0 l (u .1)));
+        afresh = λ h z.
+            let t = when-not r f a b (lt-leb (2 ^ 16) layers h) (λ y. z (er ∙ y)) ∙ on-opened o (m .mesh) g ss r in
+            (er ∙ ap (λ (x : Outcome). x .reply) t, eo ∙ ap (λ (x : Outcome). x .out) t);
+        all-sixteen = all-seen (m .mesh) (m .places) (v .within);
+        none = none-seen (m .places);
+        kept = ap (λ (x : Result). x .runs) e;
+      }
+
+  -- the ordinary report of the store holding just the complete places
+  only-complete : (m : Machine) → Valid (m .mesh) (m .places) → (layers : ℕ) (cv : Convention)
+      → store wd (holding wd (onlyComplete m layers) exF exW) (read 65535 (report cv)) .reply
+      ≡ workedAfresh (m .mesh) (completePlaces (m .mesh) (seenPlaces layers (m .places))) (report cv) .reply
+  unfolding machine
+  only-complete m v layers cv =
+      let ss = seenPlaces layers (m .places) in
+      let w = complete-valid wd fm (m .mesh) (m .places) v exF exW layers in
+      let e = one-call wd fm (onlyComplete m layers) w exF exW (read 65535 (report cv)) in
+      ap (λ (x : Result). x .reply) e
+      ∙ rw (all-seen (m .mesh) (completePlaces (m .mesh) ss) (w .within), nothing-left (m .mesh) ss) refl
+
+  so-far : (o : Mesh) (m : Machine) → Valid (m .mesh) (m .places) → From o (m .mesh)
+      → (layers : ℕ) (cv : Convention) → Partly wd exF exW o m (holding wd m exF exW) layers cv
+  unfolding machine finishedAfresh
+  so-far o m v g layers cv =
+      let e = one-call wd fm m v exF exW (finished layers cv) in
+      let er = ap (λ (x : Result). x .reply) e in
+      let ss = seenPlaces layers (m .places) in
+      let cs = completePlaces (m .mesh) ss in
+      let f = workedAfresh (m .mesh) cs (report cv) .reply in
+      let j = joined (m .mesh) (v .mesh) cs (report cv) in
+      let n = subst (λ (x : Outcome). Answered (x .reply .refusal)) j (answered (report cv) (freshSeen (m .mesh) cs)) in
+      record {
+        no-layer = λ h. er ∙ rw (le-leb (2 ^ 16) layers h) refl;
+        one-of-sixteen = λ z.
+            leb-true (2 ^ 16) layers (finished-sixteen (passedPlaces (m .mesh) ss) f n (leb (2 ^ 16) layers) (sym er ∙ z));
+        never = λ z. finished-not (passedPlaces (m .mesh) ss) f n (leb (2 ^ 16) layers) (sym er ∙ z);
+        afresh = λ h. er ∙ rw (lt-leb (2 ^ 16) layers h) (finished-opened o (m .mesh) g ss cv);
+        alone = λ h.
+            er ∙ rw (lt-leb (2 ^ 16) layers h)
+            (ap (beside (passedPlaces (m .mesh) ss)) (sym (only-complete m v layers cv)));
+        whole = λ h z.
+            let r = ap (λ (x : Result). x .reply) (one-call wd fm m v exF exW (read layers (report cv))) in
+            let y : store wd (holding wd m exF exW) (read layers (report cv)) .reply
+            ≡ workedAfresh (m .mesh) ss (report cv) .reply
+            = r ∙ rw (lt-leb (2 ^ 16) layers h, z) refl in
+            er ∙ rw (lt-leb (2 ^ 16) layers h) (whole-afresh (m .mesh) ss cv z ∙ ap (beside 0) (sym y));
+        kept = ap (λ (x : Result). x .runs) e;
+      }
+
+  posting : (o : Mesh) (m : Machine) → Valid (m .mesh) (m .places) → From o (m .mesh) → (bs : List ℕ) → Post wd o m (holding wd m exF exW) bs
+  unfolding machine
+  posting o m v g bs =
+      let e = one-call wd fm m v exF exW (page bs) in
+      let er = ap (λ (x : Result). x .reply) e in
+      let ep = ap (λ (x : Result). x .page) e in
+      let l = leftSum (m .mesh) (m .places) in
+      let f = pageAfresh (m .mesh) (m .places) bs in
+      record {
+        unfinished = λ h. er ∙ rw (lt-ltb 0 l h) refl;
+        only-then = λ z. ltb-true 0 l (page-eight f bs (page-not (m .mesh) (m .places) bs) (ltb 0 l) (sym er ∙ z));
+        afresh = λ z.
+            let t = page-other f bs (ltb 0 l) (λ y. z (er ∙ y)) ∙ page-opened o (m .mesh) g (m .places) bs in
+            (er ∙ ap (λ (a : Paged). a .reply) t, ep ∙ ap (λ (a : Paged). a .page) t);
+        kept = ap (λ (x : Result). x .runs) e;
+      }
+
+  each : (o : Mesh) (cs : List Call) (m : Machine) → Valid (m .mesh) (m .places) → From o (m .mesh) → Each wd exF exW o m (holding wd m exF exW) cs
+  each o [] m v g = end
+  each o (c ∷ cs) m v g =
+      let s = same m v c in
+      next s (reading o m v g) (so-far o m v g) (posting o m v g) (subst (λ (t : Store). Each wd exF exW o (machine m c .next) t cs) (sym (s .fields)) (each o cs (machine m c .next) (kept m v c .valid) (from-next o m c g)))
+
+  pub last : (cs : List Call) (m : Machine) → Valid (m .mesh) (m .places) → (leaves wd (holding wd m exF exW) cs ≡ holding wd (after-all m cs) exF exW) × Valid (after-all m cs .mesh) (after-all m cs .places)
+  last [] m v = (refl, v)
+  last (c ∷ cs) m v =
+      let i = last cs (machine m c .next) (kept m v c .valid) in
+      (ap (λ (t : Store). leaves wd t cs) (same m v c .fields) ∙ i .0, i .1)
+
+  left-asked : (m : Machine) → Valid (m .mesh) (m .places) → leftIn (store wd (holding wd m exF exW) (advance 0) .reply) ≡ leftSum (m .mesh) (m .places)
+  unfolding machine
+  left-asked m v =
+      let z : min 0 (leftSum (m .mesh) (m .places)) ≡ 0 = omega arith in
+      ap (λ (x : Result). leftIn (x .reply)) (one-call wd fm m v exF exW (advance 0)) ∙ rw z refl
+
+  pub follows : (cs : List Call) (m : Machine) → Valid (m .mesh) (m .places) → m .charged ≡ leftSum (m .mesh) (m .places) + m .dropped → Follows wd exF exW m (holding wd m exF exW) cs
+  follows cs m v z =
+      let i = last cs m v in
+      let l : leftIn (store wd (leaves wd (holding wd m exF exW) cs) (advance 0) .reply) ≡ leftSum (after-all m cs .mesh) (after-all m cs .places)
+      = ap (λ (t : Store). leftIn (store wd t (advance 0) .reply)) (i .0) ∙ left-asked (after-all m cs) (i .1) in
+      let b = books wd fm cs m v exF exW in
+      record { calls = each (m .mesh) cs m v (from-start (m .mesh) (v .mesh)); valid = i .1; pieces = listed (m .mesh .radius) (kernelsOf (after-all m cs .places)); sums = omega arith; charged = charges wd fm cs m v exF exW }
+
+-- ---- from an opening on
+module _ (wd : ℕ) (fm : Width wd) (r : Float) (xs : List Float) (ks : List ℕ) (fs : List Float) (ws : List ℕ) where
+  abbrev n : ℕ
+  n = openRow wd xs ks (length fs) (length ws)
+
+  abbrev exF : List Float
+  exF = excessF xs fs
+
+  abbrev exW : List ℕ
+  exW = excessW wd ks ws
+
+  pub passed : n ≡ 0 → openCheck wd (length xs) ks (length fs) (length ws) ≡ Passed
+  passed = row wd xs ks (length fs) (length ws) .none
+
+  refuses : 0 < n → openStep wd fs ws r xs ks ≡ after (refusedBy n) fs ws
+  unfolding openStep
+  refuses h = row wd xs ks (length fs) (length ws) .some h fs ws _
+
+  pub holds : n ≡ 0 → leaving (openStep wd fs ws r xs ks) ≡ holding wd (opened r xs ks) exF exW
+  holds h = ap leaving (opens wd fm r xs ks fs ws (passed h))
+
+  -- the opened machine is valid
+  pub valid : n ≡ 0 → Valid (opened r xs ks .mesh) (opened r xs ks .places)
+  valid h = opened-valid wd fm r xs ks (length fs) (length ws) (passed h)
+
+module _ (wd : ℕ) (ly : Layered wd) (r : Float) (xs : List Float) (ks : List ℕ) (fs : List Float) (ws : List ℕ) where
+  accepts : openRow wd xs ks (length fs) (length ws) ≡ 0 → Accepted wd r xs ks fs ws
+  accepts h =
+      let fm = formed ly in
+      let m = opened r xs ks in
+      let v = valid wd fm r xs ks fs ws h in
+      let e = holds wd fm r xs ks fs ws h in
+      let f = excessF xs fs in
+      let w = excessW wd ks ws in
+      record {
+        reply = ap (λ (a : After). a .reply) (opens wd fm r xs ks fs ws (passed wd fm r xs ks fs ws h));
+        holds = e;
+        every-list = λ cs. subst (λ (s : Store). Follows wd f w m s cs) (sym e) (follows wd ly f w cs m v refl);
+        unaltered = λ cs. subst (λ (s : Store). heard wd s cs ≡ heard wd s (without cs)) (sym e) (unaltered wd ly f w m v cs);
+      }
+
+  pub opens-at : Opens wd r xs ks fs ws
+  opens-at = record { refused-as = refuses wd (formed ly) r xs ks fs ws; accepted = accepts }

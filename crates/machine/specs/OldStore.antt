@@ -1,0 +1,88 @@
+-- 02, L6: "The claims here take old runs as the old store's opening and calls left them, whole": the calls on a store of
+-- the form before L5, with three words to a place, and its machine. Definitions only.
+use mathlib.Core.Bool.{cond}
+use mathlib.Core.List.{List, [], _∷_}
+use Prim.Native.Nat.{ℕ, _≤_}
+use lib.Dec.{ltb}
+use lib.Ieee.{Float}
+use Rattle.base.specs.Answers.{done}
+use Rattle.kernel.specs.declared.kernel.Kernel.{Kernel}
+use Rattle.pieces.specs.declared.pieces.Pieces.{Pieces}
+use Rattle.pieces.specs.PieceLaws.{Clean}
+use Rattle.layout.specs.Layout.{placeLimit, radiusOf}
+use Rattle.layout.specs.Soundness.{placeCheck}
+use Rattle.layout.specs.After.{After, after, guarded}
+use Rattle.store.specs.Calls.{clearStep, reweighStep}
+use Rattle.store.specs.Puts.{putFloats, putWords}
+use Rattle.store.specs.Squeeze.{squeezeStep}
+use Rattle.advance.specs.Steps.{advanceStep}
+use Rattle.readings.specs.Readings.{Reading}
+use Rattle.carry.specs.Carry.{oldWidth}
+use Rattle.machine.specs.Machine.{Provenance, Machine, putInto}
+use Rattle.machine.specs.Calls.{Call, put, clear, reweigh, advance, squeeze, read, page, machine, Store}
+
+-- what fits a kernel on a body of some radius: 01's decomposition and that with L2's powers are two of them
+abbrev pub Fitter : Type 0
+Fitter = Kernel → Float → Pieces
+
+-- all that the claims ask of it: "So a kernel has at most 16 pieces", and the arrays are +0 past the last
+pub record Fitting (fitter : Fitter) : Type 0 where
+  pub few : (k : Kernel) (radius : Float) → fitter k radius .count ≤ 16
+  pub clean : (k : Kernel) (radius : Float) → Clean (fitter k radius)
+
+-- the calls on an old store: no put had a layer, and no reading a set of layers
+pub data Old : Type 0 where
+  puts : ℕ → Kernel → Old
+  clears : ℕ → Old
+  reweighs : ℕ → Float → Old
+  advances : ℕ → Old
+  squeezes : Old
+  reads : Reading → Old
+  pages : List ℕ → Old
+
+-- each as a call of today: "its puts in layer 0", and readings of all sixteen layers
+abbrev pub nowadays : Old → Call
+nowadays (puts i k) = put i k 0
+nowadays (clears i) = clear i
+nowadays (reweighs i v) = reweigh i v
+nowadays (advances n) = advance n
+nowadays squeezes = squeeze
+nowadays (reads r) = read 65535 r
+nowadays (pages bs) = page bs
+
+-- ---- the runs that a call on an old store leaves, by its contract at three words to a place
+abbrev pub oldPut : Fitter → List Float → List ℕ → ℕ → Kernel → After
+oldPut fitter fs ws i k =
+    let fit = fitter k (radiusOf fs) in
+    guarded (placeCheck oldWidth fs ws i) fs ws (after done (putFloats fs i k fit) (putWords oldWidth ws i fit 0))
+
+abbrev pub runsOf : After → Store
+runsOf a = record { floats = a .floats; words = a .words }
+
+unfoldable pub oldStore : Fitter → Store → Old → Store
+oldStore fitter s (puts i k) = runsOf (oldPut fitter (s .floats) (s .words) i k)
+oldStore fitter s (clears i) = runsOf (clearStep oldWidth (s .floats) (s .words) i)
+oldStore fitter s (reweighs i v) = runsOf (reweighStep oldWidth (s .floats) (s .words) i v)
+oldStore fitter s (advances n) = runsOf (advanceStep oldWidth (s .floats) (s .words) n)
+oldStore fitter s squeezes = runsOf (squeezeStep oldWidth (s .floats) (s .words))
+oldStore fitter s (reads r) = s
+oldStore fitter s (pages bs) = s
+
+abbrev pub oldLeaves : Fitter → Store → List Old → Store
+oldLeaves fitter s [] = s
+oldLeaves fitter s (c ∷ cs) = oldLeaves fitter (oldStore fitter s c) cs
+
+-- ---- its machine: as today's, but for a put's fit; o says where the pieces of its places count as coming from
+unfoldable pub oldMachine : Fitter → Provenance → Machine → Old → Machine
+oldMachine fitter o m (puts i k) =
+    cond (ltb i placeLimit) (putInto m i k (fitter k (m .mesh .radius)) o 0) m
+oldMachine fitter o m (clears i) = machine m (clear i) .next
+oldMachine fitter o m (reweighs i v) = machine m (reweigh i v) .next
+oldMachine fitter o m (advances n) = machine m (advance n) .next
+oldMachine fitter o m squeezes = machine m squeeze .next
+oldMachine fitter o m (reads r) = m
+oldMachine fitter o m (pages bs) = m
+
+abbrev pub oldAfter : Fitter → Provenance → Machine → List Old → Machine
+oldAfter fitter o m [] = m
+oldAfter fitter o m (c ∷ cs) = oldAfter fitter o (oldMachine fitter o m c) cs
