@@ -1,5 +1,5 @@
--- 02, L6: "The claims here take old runs as the old store's opening and calls left them, whole": the calls on a store of
--- the form before L5, with three words to a place, and its machine. Definitions only.
+-- 02, L6: "The claims here take old runs as the old store's opening and calls left them, whole": the calls on a store
+-- of the form before L5, with three words to a place, and its machine. Definitions only.
 use mathlib.Core.Bool.{cond}
 use mathlib.Core.List.{List, [], _∷_}
 use Prim.Native.Nat.{ℕ, _≤_}
