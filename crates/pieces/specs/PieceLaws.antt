@@ -17,7 +17,7 @@ use Rattle.solve.specs.Elimination.{eliminated}
 use Rattle.solve.specs.Solve.{answers}
 use Rattle.pieces.specs.Fit.{zeros, scalesOf, coefficientsOf}
 use Rattle.pieces.specs.FitLaws.{zero-least, error-least, error-one}
-use Rattle.pieces.specs.Pieces.{delta, stays, sizeOf, mostPieces, curveOf, none, itself, keep, keepAt, kept, fitted, decomposed, pieceAlpha}
+use Rattle.pieces.specs.Pieces.{delta, stays, sizeOf, mostPieces, none, itself, keep, keepAt, kept, fitted, decomposed, pieceAlpha}
 use Rattle.kernel.specs.declared.kernel.Kernel.{Kernel}
 use Rattle.pieces.specs.declared.pieces.Size.{Size}
 use Rattle.pieces.specs.declared.pieces.Pieces.{Pieces}
