@@ -1,5 +1,5 @@
--- 02, L6: an old store whose puts were made with today's fit has all its kernels in layer 0 of a machine that had the same
--- calls, its puts in layer 0; and what a store answers does not look at what a carry leaves out. Assumes nothing.
+-- 02, L6: the machine of an old store whose puts were made with today's fit is that of today's calls, its puts in layer
+-- 0; and no answer looks at what a carry leaves out. Assumes nothing.
 use mathlib.Core.Path.{_≡_, refl, sym, ap, _∙_}
 use mathlib.Core.Bool.{Bool, true, false, cond}
 use mathlib.Core.List.{List, [], _∷_, map}
@@ -131,7 +131,8 @@ module _ (m : Mesh) where
   rows-same [] h = refl
   rows-same (s ∷ ss) h = rw (row-same s (h zero), rows-same ss (λ i. h (suc i))) refl
 
-  words-same : (ss : List Place) → Low ss → (ys : List ℕ) → wordsOf width m (map carriedPlace ss) ys ≡ wordsOf width m ss ys
+  words-same : (ss : List Place) → Low ss → (ys : List ℕ)
+      → wordsOf width m (map carriedPlace ss) ys ≡ wordsOf width m ss ys
   unfolding wordsOf
   words-same ss h ys = rw (rows-same ss h) refl
 

@@ -123,7 +123,8 @@ module _ (m : Mesh) (ss : List Place) (v : Valid m ss) (xs : List Float) (ys : L
   all-rows : carriedRows WS 32 ≡ flat (map (placeRow width m) new)
   all-rows =
       rows-to 32 (omega arith)
-      ∙ ap (λ (t : List Place). flat (map (placeRow width m) (map carriedPlace t))) (take-all 32 ss (rw (v .places) (omega arith)))
+      ∙ ap (λ (t : List Place). flat (map (placeRow width m) (map carriedPlace t)))
+      (take-all 32 ss (rw (v .places) (omega arith)))
 
   -- the words, and what they are with an excess
   words-kept : carriedWords WS ≡ wordsOf width m new []
@@ -142,8 +143,12 @@ module _ (m : Mesh) (ss : List Place) (v : Valid m ss) (xs : List Float) (ys : L
   words-length =
       let rows = map (placeRow width m) new in
       let l : length rows ≡ 32 = length-map new (placeRow width m) ∙ (length-map ss carriedPlace ∙ v .places) in
-      rw (append-nil (m .corners), length-append (flat rows) (m .corners), flat-length width rows (each-row width width4 m new), l)
-      (omega arith)
+      rw (
+        append-nil (m .corners),
+        length-append (flat rows) (m .corners),
+        flat-length width rows (each-row width width4 m new),
+        l,
+      ) (omega arith)
 
   words-carried : (us : List ℕ) → write us 0 (carriedWords WS) ≡ wordsOf width m new (excessW width (m .corners) us)
   words-carried us =

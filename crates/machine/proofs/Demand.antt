@@ -28,7 +28,9 @@ use Rattle.machine.proofs.Carrying.{left-same, carried-valid, refuses, 
 use Rattle.machine.proofs.Always.{low-all, same-after, carried-told}
 
 -- ---- a carry of runs that hold the machine m, with the excess exF and exW
-module _ (m : Machine) (v : Valid (m .mesh) (m .places)) (exF : List Float) (exW : List ℕ) (gs : List Float) (us : List ℕ) where
+module _
+    (m : Machine) (v : Valid (m .mesh) (m .places)) (exF : List Float) (exW : List ℕ) (gs : List Float)
+    (us : List ℕ) where
   abbrev ofRuns : Store → After
   ofRuns s = carryStep (s .floats) (s .words) gs us
 
@@ -119,7 +121,8 @@ module _
         let low = low-all fitter own cs M (λ i. rw (none-at 32 i) refl) in
         let new = ofRuns m (put .sound) exF exW gs us in
         let a = ap (λ (s : Store). leaving (new s)) (put .runs) ∙ carried-to m (put .sound) exF exW gs us z .1 in
-        let l = last width layered4 (excessF xs hs) (excessW width ks vs) (map nowadays cs) M (valid width width4 r xs ks hs vs g) in
+        let u = valid width width4 r xs ks hs vs g in
+        let l = last width layered4 (excessF xs hs) (excessW width ks vs) (map nowadays cs) M u in
         let b = ap (λ (s : Store). leaves width s (map nowadays cs)) (holds width width4 r xs ks hs vs g) ∙ l .0 in
         ap (λ (s : Store). answers width s ds) a
         ∙ (carried-told m (put .sound) low (excessF (m .mesh .coords) gs) (excessW width (m .mesh .corners) us) ds

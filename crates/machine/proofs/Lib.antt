@@ -20,6 +20,7 @@ pub mod Refused
 pub mod Listed
 pub mod Follow
 pub mod OldCalls
+pub mod Fitters
 pub mod Carrying
 pub mod Tally
 pub mod Billed

@@ -56,7 +56,8 @@ module _ (fitter : Fitter) (o : Provenance) (source : Source fitter o) where
     call-in (puts i k) = go (decLt i 32)
       where
         go : Dec (i < 32)
-            → oldStore fitter (inner oldWidth m xs ys) (puts i k) ≡ inner oldWidth (oldMachine fitter o m (puts i k)) xs ys
+            → oldStore fitter (inner oldWidth m xs ys) (puts i k)
+            ≡ inner oldWidth (oldMachine fitter o m (puts i k)) xs ys
         go (yes h) =
             rw (place-in oldWidth width3 m v xs ys i h, lt-ltb i 32 h, radius-held oldWidth width3 m v xs ys)
             (put-runs oldWidth width3 m v xs ys i k (fit k) o 0 h)

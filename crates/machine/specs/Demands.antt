@@ -1,4 +1,5 @@
--- Demand 3, one statement: `Demand3`, at the end: of an opening, or of a carry (02, L6), and every list of calls after it. Each clause stands below the owner's words that it says.
+-- Demand 3, one statement: `Demand3`, at the end: of an opening, or of a carry (02, L6), and every list of calls after
+-- it. Each clause stands below the owner's words that it says.
 -- r, xs and ks are the radius, coordinates and corners of an opening; fs and ws the runs lent to it, whatever was in
 -- them; q is the count of words to a place, which the contracts have as `width`. Definitions only.
 use mathlib.Core.Path.{_≡_}
@@ -173,15 +174,16 @@ pub record Opens (q : ℕ) (r : Float) (xs : List Float) (ks : List ℕ) (fs : L
       → openStep q fs ws r xs ks ≡ after (refusedBy (openRow q xs ks (length fs) (length ws))) fs ws
   pub accepted : openRow q xs ks (length fs) (length ws) ≡ 0 → Accepted q r xs ks fs ws
 
--- ---- 02, L6: a store of the form before L5 is carried over. r, xs, ks, fs and ws are those of its opening, cs its calls,
--- fitter is what fitted its puts' kernels; gs and us are the new runs, whatever was in them
-abbrev pub carrying : Fitter → Float → List Float → List ℕ → List Float → List ℕ → List Old → List Float → List ℕ → After
+-- ---- 02, L6: a store of the form before L5 is carried over. r, xs, ks, fs and ws are those of its opening, cs its
+-- calls, fitter is what fitted its puts' kernels; gs and us are the new runs, whatever was in them
+abbrev pub carrying : Fitter → Float → List Float → List ℕ → List Float → List ℕ → List Old → List Float → List ℕ
+    → After
 carrying fitter r xs ks fs ws cs gs us =
     let old = oldLeaves fitter (leaving (openStep oldWidth fs ws r xs ks)) cs in
     carryStep (old .floats) (old .words) gs us
 
--- "demand 3's list begins at the carry, its machine with the mesh, radius, places and steps carried, and its charged with
--- the left that goes across": the machine m has had the old store's opening and calls
+-- "demand 3's list begins at the carry, its machine with the mesh, radius, places and steps carried, and its charged
+-- with the left that goes across": the machine m has had the old store's opening and calls
 abbrev pub carriedPlace : Place → Place
 carriedPlace empty = empty
 carriedPlace (full k fit o p l) = full k fit carried p 0
@@ -202,12 +204,15 @@ pub record Carried
   pub reply : a .reply ≡ counted (m .mesh .verts ∷ m .mesh .faces ∷ [])
   -- "with every kernel in layer 0. Unfinished sums and step counts go along": each word of the new runs, their excess
   -- untouched
-  pub holds : leaving a ≡ holding width (carriedOver m) (excessF (m .mesh .coords) gs) (excessW width (m .mesh .corners) us)
+  pub holds : leaving a
+      ≡ holding width (carriedOver m) (excessF (m .mesh .coords) gs) (excessW width (m .mesh .corners) us)
   pub every-list : (ds : List Call)
-      → Follows width (excessF (m .mesh .coords) gs) (excessW width (m .mesh .corners) us) (carriedOver m) (leaving a) ds
+      → Follows width (excessF (m .mesh .coords) gs) (excessW width (m .mesh .corners) us) (carriedOver m) (leaving a)
+      ds
   pub unaltered : (ds : List Call) → heard width (leaving a) ds ≡ heard width (leaving a) (without ds)
-  -- "For every list of later calls, the new store answers as one would that had received the old store's calls, its puts
-  -- in layer 0, where those puts were made with L2's powers": that one was opened in runs hs and vs, whatever was in them
+  -- "For every list of later calls, the new store answers as one would that had received the old store's calls, its
+  -- puts in layer 0, where those puts were made with L2's powers": that one was opened in runs hs and vs, whatever was
+  -- in them
   pub as-if-always : ((k : Kernel) (radius : Float) → fitter k radius ≡ decomposed k radius)
       → (hs : List Float) (vs : List ℕ) → openRow width xs ks (length hs) (length vs) ≡ 0 → (ds : List Call)
       → answers width (leaving a) ds

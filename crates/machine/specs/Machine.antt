@@ -31,7 +31,8 @@ pub data Provenance : Type 0 where
   carried : Provenance
 
 -- "each place is empty or (kernel, steps p)"; a filled one keeps its pieces, and where they come from. 02, L5: "Each
--- place, the machine's too, gets a layer number from 0 to 15". In `full k fit o p l`, p are the steps and l is the layer
+-- place, the machine's too, gets a layer number from 0 to 15". In `full k fit o p l`, o says where the pieces fit come
+-- from, p are the steps and l is the layer
 pub data Place : Type 0 where
   empty : Place
   full : Kernel → Pieces → Provenance → ℕ → ℕ → Place
@@ -102,8 +103,8 @@ abbrev pub looseIn : ℕ → List ℕ → Bool
 looseIn v [] = false
 looseIn v (k ∷ ks) = leb v k || looseIn v ks
 
--- row 4, of runs of a floats and b words for v vertices and f faces: "below 1,761+3V floats or 98+3F words", and by 02's
--- L5 "below 130+3F words": 98 and 130 are 2 + 32q
+-- row 4, of runs of a floats and b words for v vertices and f faces: "below 1,761+3V floats or 98+3F words", and by
+-- 02's L5 "below 130+3F words": 98 and 130 are 2 + 32q
 abbrev pub shortRow : ℕ → ℕ → ℕ → ℕ → ℕ → ℕ
 shortRow q v f a b = cond (ltb a (1761 + 3 * v) || ltb b (2 + 32 * q + 3 * f)) 4 0
 

@@ -1,5 +1,5 @@
--- 02, L6: "The claims here take old runs as the old store's opening and calls left them, whole": the calls on a store of
--- the form before L5, with three words to a place, and its machine. Definitions only.
+-- 02, L6: "The claims here take old runs as the old store's opening and calls left them, whole": the calls on a store
+-- of the form before L5, with three words to a place, and its machine. Definitions only.
 use mathlib.Core.Bool.{cond}
 use mathlib.Core.List.{List, [], _∷_}
 use Prim.Native.Nat.{ℕ, _≤_}
@@ -19,7 +19,7 @@ use Rattle.advance.specs.Steps.{advanceStep}
 use Rattle.readings.specs.Readings.{Reading}
 use Rattle.carry.specs.Carry.{oldWidth}
 use Rattle.machine.specs.Machine.{Provenance, Machine, putInto}
-use Rattle.machine.specs.Calls.{Call, put, clear, reweigh, advance, squeeze, read, page, machine, Store}
+use Rattle.machine.specs.Calls.{Call, put, clear, reweigh, advance, squeeze, read, page, machine, Store, result}
 
 -- what fits a kernel on a body of some radius: 01's decomposition and that with L2's powers are two of them
 abbrev pub Fitter : Type 0
@@ -56,15 +56,12 @@ oldPut fitter fs ws i k =
     let fit = fitter k (radiusOf fs) in
     guarded (placeCheck oldWidth fs ws i) fs ws (after done (putFloats fs i k fit) (putWords oldWidth ws i fit 0))
 
-abbrev pub runsOf : After → Store
-runsOf a = record { floats = a .floats; words = a .words }
-
 unfoldable pub oldStore : Fitter → Store → Old → Store
-oldStore fitter s (puts i k) = runsOf (oldPut fitter (s .floats) (s .words) i k)
-oldStore fitter s (clears i) = runsOf (clearStep oldWidth (s .floats) (s .words) i)
-oldStore fitter s (reweighs i v) = runsOf (reweighStep oldWidth (s .floats) (s .words) i v)
-oldStore fitter s (advances n) = runsOf (advanceStep oldWidth (s .floats) (s .words) n)
-oldStore fitter s squeezes = runsOf (squeezeStep oldWidth (s .floats) (s .words))
+oldStore fitter s (puts i k) = result (oldPut fitter (s .floats) (s .words) i k) .runs
+oldStore fitter s (clears i) = result (clearStep oldWidth (s .floats) (s .words) i) .runs
+oldStore fitter s (reweighs i v) = result (reweighStep oldWidth (s .floats) (s .words) i v) .runs
+oldStore fitter s (advances n) = result (advanceStep oldWidth (s .floats) (s .words) n) .runs
+oldStore fitter s squeezes = result (squeezeStep oldWidth (s .floats) (s .words)) .runs
 oldStore fitter s (reads r) = s
 oldStore fitter s (pages bs) = s
 

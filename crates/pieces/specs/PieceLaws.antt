@@ -17,7 +17,7 @@ use Rattle.solve.specs.Elimination.{eliminated}
 use Rattle.solve.specs.Solve.{answers}
 use Rattle.pieces.specs.Fit.{zeros, scalesOf, coefficientsOf}
 use Rattle.pieces.specs.FitLaws.{zero-least, error-least, error-one}
-use Rattle.pieces.specs.Pieces.{delta, stays, sizeOf, mostPieces, curveOf, none, itself, keep, keepAt, kept, fitted, decomposed, pieceAlpha}
+use Rattle.pieces.specs.Pieces.{delta, stays, sizeOf, mostPieces, none, itself, keep, keepAt, kept, fitted, decomposed, pieceAlpha}
 use Rattle.kernel.specs.declared.kernel.Kernel.{Kernel}
 use Rattle.pieces.specs.declared.pieces.Size.{Size}
 use Rattle.pieces.specs.declared.pieces.Pieces.{Pieces}
@@ -53,21 +53,35 @@ kept-count terms sigma scales coefs p h = omega (arith, go terms 0 0 p (omega ar
     go zero i j q l = omega arith
     go (suc k) i j q l = omega (arith, go k (suc i) (j + 1) (keepAt sigma scales coefs i q) (keep-count q (sigma ⊗ getD scales i nan) (getD coefs i nan) l))
 
-pub pieces-within : (k : Kernel) (radius : Float) → decomposed k radius .count ≤ mostPieces (k .alpha)
-unfolding decomposed fitted
-pieces-within k radius = go (stays (k .alpha))
+-- a kernel's pieces by any scales, coefficients and error, whatever powers they were worked with
+abbrev pub fittedWith : Kernel → List Float → List Float → Float → Pieces
+fittedWith k scales coefs e =
+    cond (stays (k .alpha)) (itself k) (kept (sizeOf (delta (k .alpha)) .terms) (k .sigma) scales coefs (none e))
+
+pub with-within : (k : Kernel) (scales coefs : List Float) (e : Float)
+    → fittedWith k scales coefs e .count ≤ mostPieces (k .alpha)
+with-within k scales coefs e = go (stays (k .alpha))
   where
     terms : ℕ
     terms = sizeOf (delta (k .alpha)) .terms
 
-    go : (b : Bool) → cond b (itself k) (fitted terms (curveOf k radius) (k .sigma)) .count ≤ cond b 1 terms
+    go : (b : Bool) → cond b (itself k) (kept terms (k .sigma) scales coefs (none e)) .count ≤ cond b 1 terms
     go true = omega arith
     go false = kept-count _ _ _ _ _ refl
 
+pub pieces-within : (k : Kernel) (radius : Float) → decomposed k radius .count ≤ mostPieces (k .alpha)
+unfolding decomposed fitted
+pieces-within k radius = with-within k _ _ _
+
 -- "So a kernel has at most 16 pieces"
+most-16 : (k : Kernel) → mostPieces (k .alpha) ≤ 16
+most-16 k = cond-of (λ (n : ℕ). n ≤ 16) (stays (k .alpha)) (omega arith) (sized (delta (k .alpha)) .few)
+
+pub with-at-most-16 : (k : Kernel) (scales coefs : List Float) (e : Float) → fittedWith k scales coefs e .count ≤ 16
+with-at-most-16 k scales coefs e = le-trans (with-within k scales coefs e) (most-16 k)
+
 pub at-most-16 : (k : Kernel) (radius : Float) → decomposed k radius .count ≤ 16
-at-most-16 k radius =
-    le-trans (pieces-within k radius) (cond-of (λ (n : ℕ). n ≤ 16) (stays (k .alpha)) (omega arith) (sized (delta (k .alpha)) .few))
+at-most-16 k radius = le-trans (pieces-within k radius) (most-16 k)
 
 -- ---- what is not a piece is +0
 
@@ -101,15 +115,18 @@ kept-clean terms sigma scales coefs p h = go terms 0 p h
     go zero i q c = c
     go (suc k) i q c = go k (suc i) (keepAt sigma scales coefs i q) (keep-clean q _ _ c)
 
-pub clean : (k : Kernel) (radius : Float) → Clean (decomposed k radius)
-unfolding decomposed fitted
-clean k radius =
+pub with-clean : (k : Kernel) (scales coefs : List Float) (e : Float) → Clean (fittedWith k scales coefs e)
+with-clean k scales coefs e =
     cond-of Clean (stays (k .alpha))
     (record {
       no-sigma = λ i l b. set-below zeros 0 i (k .sigma) l ∙ all-zero 16 i b;
       no-coefficient = λ i l b. set-below zeros 0 i one l ∙ all-zero 16 i b;
     })
     (kept-clean _ _ _ _ _ (record { no-sigma = λ i l b. all-zero 16 i b; no-coefficient = λ i l b. all-zero 16 i b }))
+
+pub clean : (k : Kernel) (radius : Float) → Clean (decomposed k radius)
+unfolding decomposed fitted
+clean k radius = with-clean k _ _ _
 
 -- ---- the peak error
 
