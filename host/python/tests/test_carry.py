@@ -105,7 +105,7 @@ class Carry(unittest.TestCase):
         self.goes_on(store)
         # what stands past the old store's own is left behind
         self.assertEqual(Store.carry_from_old(floats + array("d", [7.0]), words + array("I", [1, 2])).to_bytes(), data)
-        self.assertEqual((floats, words), old_runs())
+        self.assertEqual([bytes(run) for run in (floats, words)], [bytes(run) for run in old_runs()])
 
     def test_a_put_after_the_carry_is_as_in_any_store(self):
         store = Store.from_bytes(SNAPSHOT)

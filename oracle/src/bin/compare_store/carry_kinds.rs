@@ -24,7 +24,7 @@ const OF_POWERS: [&str; 13] = [
 ];
 
 /// What must be met besides.
-const BESIDES: [&str; 29] = [
+const BESIDES: [&str; 27] = [
     "01's: pieces that L2's powers do not give",
     "then a put over a carried kernel",
     "then a clear of a carried kernel",
@@ -52,14 +52,19 @@ const BESIDES: [&str; 29] = [
     "as 4, not sound besides",
     "as 5, by a place",
     "as 5, by a corner",
-    "as 0, the largest counts",
-    "as 5, by a count above the limits",
 ];
 
 /// All that must be met.
 pub fn all() -> Vec<String> {
     let of_both = ["01's", "L2's"].into_iter().flat_map(|powers| OF_POWERS.map(|name| format!("{powers}: {name}")));
     of_both.chain(BESIDES.map(String::from)).collect()
+}
+
+/// Some kinds of carries of stores with these powers, with how often each was met.
+pub fn shown(kinds: &Kinds, powers: &str) -> String {
+    let of = |name: &str| format!("{} {name}", kinds.times(&format!("{powers}: {name}")));
+    let apart = if powers == "01's" { format!(", {}", of("pieces that L2's powers do not give")) } else { String::new() };
+    format!("{}, {}{apart}", of(OF_POWERS[1]), of(OF_POWERS[3]))
 }
 
 /// What the calls on an old store did.

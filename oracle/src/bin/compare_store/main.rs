@@ -48,7 +48,7 @@ fn work() {
     total.add(carries::unopened(plan.count(60, 3_000), plan.rng(11)));
     total.add(carries::short(plan.count(400, 20_000), plan.rng(12), &mut kinds));
     total.add(carries::every_word(plan.count(2, 60), plan.rng(13), &mut kinds));
-    total.add(carries::at_the_limits(plan.rng(14), &mut kinds));
+    total.add(carries::at_the_limits(plan.rng(14)));
     total.add(kinds.all_met("carry", "carries", &carry_kinds::all(), plan.count(1, 20)));
     total.end();
 }
