@@ -22,13 +22,14 @@ use Rattle.layout.specs.SoundLaws.{Ready, Worded, every-at, fine}
 use Rattle.layout.specs.Left.{leftAt, leftOf}
 use Rattle.layout.specs.Layers.{inSet, allLayers, hiding, inLayers}
 
+-- ---- the words of a place end where those of the next begin
+pub rows-apart : (q i k : ℕ) → i < k → q * i + q ≤ q * k
+rows-apart q i k h = let z : q * suc i ≤ q * k = mul-le-mul (le-refl q) h in let y = rw (mul-suc q i) at z in omega arith
+
 -- ---- the places that a test hides
 module _ (q : ℕ) (test : ℕ → Bool) (ws : List ℕ) (long : cornersFrom q ≤ length ws) where
-  rows-apart : (i k : ℕ) → i < k → q * i + q ≤ q * k
-  rows-apart i k h = let z : q * suc i ≤ q * k = mul-le-mul (le-refl q) h in let y = rw (mul-suc q i) at z in omega arith
-
   row-ends : (k : ℕ) → suc k ≤ 32 → stateFrom q k + length (replicate {A = ℕ} q 0) ≤ cornersFrom q
-  row-ends k h = let z = rows-apart k 32 h in rw (length-replicate {A = ℕ} q 0) (omega arith)
+  row-ends k h = let z = rows-apart q k 32 h in rw (length-replicate {A = ℕ} q 0) (omega arith)
 
   pub hiding-length : (k : ℕ) → k ≤ 32 → length (hiding q test ws k) ≡ length ws
   unfolding hiding
@@ -79,7 +80,7 @@ module _ (q : ℕ) (test : ℕ → Bool) (ws : List ℕ) (long : cornersFrom q �
           → getD (cond t H (write H (stateFrom q k) (replicate q 0))) n 0 ≡ cond (test i) (getD ws n 0) 0
       go (yes g) true s ih = ih g
       go (yes g) false s ih =
-          let z = rows-apart i k g in
+          let z = rows-apart q i k g in
           let y = row-ends k h in
           let m = hiding-length k (omega arith) in
           write-before H (stateFrom q k) (replicate q 0) n 0 (omega arith) (omega arith) ∙ ih g

@@ -107,14 +107,13 @@ module _ {A : Type 0} where
       let e : i + (length vs + (n - (i + length vs))) ≡ n = omega arith in
       rw e at (write-in l i vs (n - (i + length vs)) (omega arith))
 
-  -- a head, zeros and a copy, one behind the other
-  pub laid : (l h : List A) (n : ℕ) (z : A) (xs : List A) (a : ℕ) → length h + n ≡ a → a + length xs ≤ length l
-      → write (write (write l 0 h) (length h) (replicate n z)) a xs ≡ write l 0 (h ++ (replicate n z ++ xs))
-  laid l h n z xs a e b =
-      let k : length (replicate n z) ≡ n = length-replicate n z in
-      let m : length (h ++ replicate n z) ≡ a = length-append h (replicate n z) ∙ omega arith in
-      let w : write (write l 0 h) (length h) (replicate n z) ≡ write l 0 (h ++ replicate n z) = rw zero-add at (write-more l 0 h (replicate n z) (omega arith)) in
-      rw (w, ← m) ((rw zero-add at (write-more l 0 (h ++ replicate n z) xs (omega arith))) ∙ ap (write l 0) (append-assoc h (replicate n z) xs))
+  -- three parts, one behind the other
+  pub laid : (l xs ys zs : List A) (a : ℕ) → length xs + length ys ≡ a → a + length zs ≤ length l
+      → write (write (write l 0 xs) (length xs) ys) a zs ≡ write l 0 (xs ++ (ys ++ zs))
+  laid l xs ys zs a e b =
+      let m : length (xs ++ ys) ≡ a = length-append xs ys ∙ e in
+      let w : write (write l 0 xs) (length xs) ys ≡ write l 0 (xs ++ ys) = rw zero-add at (write-more l 0 xs ys (omega arith)) in
+      rw (w, ← m) ((rw zero-add at (write-more l 0 (xs ++ ys) zs (omega arith))) ∙ ap (write l 0) (append-assoc xs ys zs))
 
   -- ---- a run copied word by word: i of the words xs stand from `at` on
   pub record Copied (l : List A) (at : ℕ) (xs : List A) (i : ℕ) (f : List A) : Type 0 where

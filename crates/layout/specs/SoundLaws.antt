@@ -100,6 +100,15 @@ layer-in status layer e = go (eqb status 0) e
     go true h = let z = eqb-true layer 0 h in omega arith
     go false h = ltb-true layer layerLimit h
 
+-- layer 0 goes with any status
+pub layer-none : (status : ℕ) → layerSound status 0 ≡ true
+unfolding layerSound
+layer-none status = go (eqb status 0)
+  where
+    go : (b : Bool) → cond b (eqb 0 0) (ltb 0 layerLimit) ≡ true
+    go true = refl
+    go false = refl
+
 -- "with F = 0 all are finished"
 pub none-unfinished : (i s n d : ℕ) → i < 32 → placeSound s n d 0 ≡ true → n ≡ s - 1
 none-unfinished i s n d h e = let r = place-ready 0 i s n d h e in go (decLt n (s - 1)) r

@@ -3,10 +3,10 @@ ghost use mathlib.Core.Path.{_≡_};
 ghost use mathlib.Core.Bool.{_&&_};
 ghost use Prim.Native.Nat.{_+_, _*_, _≤_};
 ghost use lib.ListN.{length};
-ghost use Rattle.layout.specs.Layout.{width, placeLimit, cornersFrom, facesOf};
+ghost use lib.Dec.{leb};
+ghost use Rattle.layout.specs.Layout.{width, placeLimit, coordsFrom, stateFrom, cornersFrom, facesOf};
 ghost use Rattle.layout.specs.Soundness.{every, longEnough, placeSound, placeSoundAt, layerSound, layerCheck, sound, storeCheck, placeCheck, filledCheck};
 use crate::offsets::COORDS;
-use crate::offsets::CORNERS;
 use crate::offsets::LAYERS;
 use crate::offsets::PIECES;
 use crate::offsets::PLACES;
@@ -17,16 +17,25 @@ use base::refusal::Refusal;
 use mesh::check::FACE_LIMIT;
 use mesh::check::VERTEX_LIMIT;
 
-// Whether both runs are as long as the counts of vertices and faces ask. The counts may be anything up to 2^32 - 1.
-fn long_enough(floats: &[f64], words: &[u32]) -> bool
-    ensures { λ r. ⌜ r ≡ longEnough width (now (floats .entry)) (now (words .entry)) ⌝ }
+// Whether runs of so many floats and words are as long as the counts of vertices and faces ask, where the corners begin
+// at word `corners`. The counts may be anything up to 2^32 - 1.
+pub fn room(floats: usize, words: usize, corners: usize, verts: u32, faces: u32) -> bool
+    requires { ⌜ corners ≤ cornersFrom width ⌝ }
+    ensures { λ r. ⌜ r ≡ (leb (corners + 3 * faces) words && leb (coordsFrom + 3 * verts) floats) ⌝ }
 {
-    if words.len() < CORNERS {
+    (words >= corners + 3 * (faces as usize)) & (floats >= COORDS + 3 * (verts as usize))
+}
+
+// Whether both runs are as long as their counts ask, with q words to a place.
+pub fn long_enough(floats: &[f64], words: &[u32], q: usize) -> bool
+    requires { ⌜ q ≤ width ⌝ }
+    ensures { λ r. ⌜ r ≡ longEnough q (now (floats .entry)) (now (words .entry)) ⌝ }
+{
+    let corners = STATE + q * PLACES;
+    if words.len() < corners {
         return false;
     }
-    let verts = words[0] as usize;
-    let faces = words[1] as usize;
-    (words.len() >= CORNERS + 3 * faces) & (floats.len() >= COORDS + 3 * verts)
+    room(floats.len(), words.len(), corners, words[0], words[1])
 }
 
 // Whether a place's status, pieces finished and faces done go together.
@@ -61,33 +70,35 @@ fn layer_sound(status: u32, layer: u32) -> bool
     }
 }
 
-// Whether a place's four words go together.
-fn record_sound(status: u32, finished: u32, done: u32, layer: u32, faces: u32) -> bool
-    ensures { λ r. ⌜ r ≡ (placeSound status finished done faces && layerSound status layer) ⌝ }
+// Whether the words of place i go together, with q of them to a place: only a fourth is a layer.
+fn record_sound(words: &[u32], q: usize, i: usize) -> bool
+    requires { ⌜ (3 ≤ q) × (q ≤ width) × (stateFrom q i + q ≤ length (now words)) ⌝ }
+    ensures { λ r. ⌜ r ≡ placeSoundAt q (now (words .entry)) i ⌝ }
 {
-    if place_sound(status, finished, done, faces) {
-        layer_sound(status, layer)
-    } else {
-        false
+    let at = q * i;
+    let status = words[STATE + at];
+    if !place_sound(
+        status,
+        words[STATE + 1 + at],
+        words[STATE + 2 + at],
+        words[1],
+    ) {
+        return false;
     }
+    if q < WIDTH {
+        return true;
+    }
+    layer_sound(status, words[STATE + 3 + at])
 }
 
 // Whether every place's words go together.
-fn places_sound(words: &[u32]) -> bool
-    requires { ⌜ cornersFrom width ≤ length (now words) ⌝ }
-    ensures { λ r. ⌜ r ≡ every (placeSoundAt width (now (words .entry))) placeLimit ⌝ }
+fn places_sound(words: &[u32], q: usize) -> bool
+    requires { ⌜ (3 ≤ q) × (q ≤ width) × (cornersFrom q ≤ length (now words)) ⌝ }
+    ensures { λ r. ⌜ r ≡ every (placeSoundAt q (now (words .entry))) placeLimit ⌝ }
 {
-    let faces = words[1];
     let mut i: usize = 0;
     while i < PLACES {
-        let at = WIDTH * i;
-        if !record_sound(
-            words[STATE + at],
-            words[STATE + 1 + at],
-            words[STATE + 2 + at],
-            words[STATE + 3 + at],
-            faces,
-        ) {
+        if !record_sound(words, q, i) {
             return false;
         }
         i += 1;
@@ -96,17 +107,18 @@ fn places_sound(words: &[u32]) -> bool
 }
 
 // Whether the counts, the places and the corners are sound, in runs that are long enough.
-fn words_sound(words: &[u32]) -> bool
-    requires { ⌜ cornersFrom width + 3 * facesOf (now words) ≤ length (now words) ⌝ }
-    ensures { λ r. ⌜ r ≡ sound width (now (words .entry)) ⌝ }
+pub fn words_sound(words: &[u32], q: usize) -> bool
+    requires { ⌜ (3 ≤ q) × (q ≤ width) × (cornersFrom q + 3 * facesOf (now words) ≤ length (now words)) ⌝ }
+    ensures { λ r. ⌜ r ≡ sound q (now (words .entry)) ⌝ }
 {
     let verts = words[0];
     let faces = words[1];
     let few = (verts <= VERTEX_LIMIT) & (faces <= FACE_LIMIT);
     if few {
-        if places_sound(words) {
-            let end = CORNERS + 3 * (faces as usize);
-            mesh::check::all_below(&words[CORNERS..end], verts)
+        if places_sound(words, q) {
+            let corners = STATE + q * PLACES;
+            let end = corners + 3 * (faces as usize);
+            mesh::check::all_below(&words[corners..end], verts)
         } else {
             false
         }
@@ -119,8 +131,8 @@ fn words_sound(words: &[u32]) -> bool
 pub fn check_store(floats: &[f64], words: &[u32]) -> Checked
     ensures { λ r. ⌜ r ≡ storeCheck width (now (floats .entry)) (now (words .entry)) ⌝ }
 {
-    if long_enough(floats, words) {
-        if words_sound(words) {
+    if long_enough(floats, words, WIDTH) {
+        if words_sound(words, WIDTH) {
             Checked::Passed
         } else {
             Checked::Failed(Refusal::Unsound)

@@ -1,5 +1,6 @@
 -- `layout::check::check_store` meets its contract. Assumes nothing.
 use mathlib.Core.Path.{sym, _∙_}
+use native.Mathlib.Omega.{arith}
 use Rattle.layout.specs.Layout.{width}
 use Rattle.layout.specs.Soundness.{storeCheck}
 use Rattle.layout.specs.SoundLaws.{long-words}
@@ -21,4 +22,10 @@ returns-3 c = rw (← c .before .long-enough .ensures, c .if1 .left)
 
 pub check-store-spec : {M : Type 1} → statement M
 check-store-spec =
-    tie.close (tie.spec (λ c κs. search needs) (λ c κs. long-words width _ _ (sym (c .before .long-enough .ensures) ∙ c .if1 .taken)) returns returns-2 returns-3)
+    tie.close
+    (tie.spec
+    (λ c κs. search needs)
+    (λ c κs. (omega arith, omega arith, long-words width _ _ (sym (c .before .long-enough .ensures) ∙ c .if1 .taken)))
+    returns
+    returns-2
+    returns-3)

@@ -4,7 +4,7 @@ use mathlib.Core.Bool.{true}
 use Prim.Native.Nat.{_-_, _≤_}
 use native.Mathlib.Numerals.{add-one}
 use native.Mathlib.Omega.{arith}
-use Rattle.layout.specs.Layout.{width}
+use Rattle.layout.specs.LayerLaws.{rows-apart}
 use Rattle.layout.specs.Soundness.{every, placeSoundAt}
 use Rattle.layout.specs.SoundLaws.{every-not}
 use borrow.Author.Tests.{not-true, not-false}
@@ -13,27 +13,30 @@ use Rattle.layout.proofs.check.places_sound.Statement.{statement}
 use Rattle.layout.proofs.check.places_sound.Tie as tie
 
 abbrev Inv-loop : tie.InvT-loop
-Inv-loop w faces i₀ i = (i ≤ 32) × (every (placeSoundAt width w) i ≡ true)
+Inv-loop w q i₀ i = (i ≤ 32) × (every (placeSoundAt q w) i ≡ true)
 
 abbrev μ-loop : tie.MeasureT-loop
-μ-loop w faces i₀ i = 32 - i
+μ-loop w q i₀ i = 32 - i
 
 loop-holds : tie.Need-loop-holds Inv-loop μ-loop
 unfolding every
 loop-holds c = (omega arith, refl)
 
+record-sound-requires : tie.Need-record-sound-requires Inv-loop μ-loop
+record-sound-requires c κs =
+    let z = rows-apart (c .before .before .before .args .q) (c .before .loop .i) 32 (omega arith) in
+    (omega arith, omega arith, omega arith)
+
 returns : tie.Need-returns Inv-loop μ-loop
-unfolding placeSoundAt
 returns c =
-    let l = c .before .before .before .before .before .before .before .loop in
-    let w = c .before .before .before .before .before .before .before .before .before .before .args .words .now in
-    sym (every-not (placeSoundAt width w) 32 (l .i) (omega arith) (sym (c .before .record-sound .ensures) ∙ not-true _ (c .if1 .taken)))
+    let a = c .before .before .before .before .before .args in
+    let l = c .before .before .before .loop in
+    sym (every-not (placeSoundAt (a .q) (a .words .now)) 32 (l .i) (omega arith) (sym (c .before .record-sound .ensures) ∙ not-true _ (c .if1 .taken)))
 
 loop-again : tie.Need-loop-again Inv-loop μ-loop
-unfolding every placeSoundAt
+unfolding every
 loop-again c =
-    let l = c .before .before .before .before .before .before .before .loop in
-    (omega arith, rw (add-one, l .inv .1) (sym (c .before .record-sound .ensures) ∙ not-false _ (c .if1 .left)))
+    (omega arith, rw (add-one, c .before .before .before .loop .inv .1) (sym (c .before .record-sound .ensures) ∙ not-false _ (c .if1 .left)))
 
 pub places-sound-spec : {M : Type 1} → statement M
 places-sound-spec =
@@ -41,25 +44,8 @@ places-sound-spec =
     (tie.spec
     Inv-loop
     μ-loop
-    (λ c. search needs)
     loop-holds
-    (λ c. search needs)
-    (λ c. search needs)
-    (λ c. search needs)
-    (λ c. search needs)
-    (λ c. search needs)
-    (λ c. search needs)
-    (λ c. search needs)
-    (λ c. search needs)
-    (λ c. search needs)
-    (λ c. search needs)
-    (λ c. search needs)
-    (λ c. search needs)
-    (λ c. search needs)
-    (λ c. search needs)
-    (λ c. search needs)
-    (λ c. search needs)
-    (λ c κs. search needs)
+    record-sound-requires
     returns
     (λ c. search needs)
     (λ c. search needs)

@@ -2,7 +2,7 @@
 use Prim.Native.Nat.{_+_, _-_, _*_}
 use mathlib.Core.Path.{_≡_}
 use native.Mathlib.Omega.{arith}
-use Rattle.layout.specs.Layout.{facesOf}
+use Rattle.layout.specs.Layout.{cornersFrom, facesOf}
 use Rattle.layout.specs.Soundness.{sound}
 use borrow.Author.Needs.{needs}
 use Rattle.layout.proofs.check.words_sound.Statement.{statement}
@@ -11,8 +11,9 @@ use Rattle.layout.proofs.check.words_sound.Tie as tie
 returns : tie.Need-returns
 unfolding sound
 returns c =
-    let w = c .before .before .before .before .before .before .before .before .args .words .now in
-    let n : 130 + 3 * facesOf w - 130 ≡ 3 * facesOf w = omega arith in
+    let a = c .before .before .before .before .before .before .before .before .args in
+    let f = facesOf (a .words .now) in
+    let n : cornersFrom (a .q) + 3 * f - cornersFrom (a .q) ≡ 3 * f = omega arith in
     rw (c .before .before .before .before .if1 .taken, ← c .before .before .before .places-sound .ensures, c .before .before .if2 .taken) (rw n at (c .all-below .ensures))
 
 returns-2 : tie.Need-returns-2
@@ -30,6 +31,9 @@ words-sound-spec =
     (λ c. search needs)
     (λ c. search needs)
     (λ c κs. search needs)
+    (λ c. search needs)
+    (λ c. search needs)
+    (λ c. search needs)
     (λ c. search needs)
     (λ c. search needs)
     (λ c. search needs)
