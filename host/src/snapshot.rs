@@ -175,10 +175,11 @@ mod tests {
     #[test]
     fn whole_bytes_that_hold_no_store_are_refused() {
         for (magic, before_mesh) in [(MAGIC, 130), (OLD_MAGIC, 98)] {
-            let refused = |floats: &[f64], words: &[u32]| match Store::from_bytes(&forged(magic, floats, words)) {
-                Err(SnapshotError::Refused(refusal)) => refusal,
-                other => panic!("{other:?}"),
-            };
+            let refused =
+                |floats: &[f64], words: &[u32]| match Store::from_bytes(&forged(magic, floats, words)) {
+                    Err(SnapshotError::Refused(refusal)) => refusal,
+                    other => panic!("{other:?}"),
+                };
             let empty = &vec![0; before_mesh];
             assert_eq!(refused(&[], &[]), Refusal::ShortStore);
             assert_eq!(refused(&[0.0; 1761], &empty[1..]), Refusal::ShortStore);
@@ -204,7 +205,9 @@ mod tests {
 
     #[test]
     fn counts_that_overflow_are_refused() {
-        for (count, magic) in [u64::MAX, 1 << 61, 1 << 62].into_iter().flat_map(|n| [(n, MAGIC), (n, OLD_MAGIC)]) {
+        for (count, magic) in
+            [u64::MAX, 1 << 61, 1 << 62].into_iter().flat_map(|n| [(n, MAGIC), (n, OLD_MAGIC)])
+        {
             let mut bytes = magic.to_vec();
             bytes.extend(count.to_le_bytes());
             bytes.extend(count.to_le_bytes());

@@ -143,7 +143,8 @@ impl Store {
         let count = |at: usize| words.get(at).map_or(0, |count| *count as usize);
         // old runs that are too short for these counts are refused: so no more is needed than they have
         let n_floats = floats.len().min(FLOATS_BEFORE_MESH + 3 * count(0));
-        let n_words = (words.len() + WORDS_BEFORE_MESH - OLD_WORDS_BEFORE_MESH).min(WORDS_BEFORE_MESH + 3 * count(1));
+        let n_words =
+            (words.len() + WORDS_BEFORE_MESH - OLD_WORDS_BEFORE_MESH).min(WORDS_BEFORE_MESH + 3 * count(1));
         let (mut new_floats, mut new_words) = (vec![0.0; n_floats], vec![0; n_words]);
         // SAFETY: slices, borrowed for the call; those that are written are new.
         let told = unsafe {

@@ -73,7 +73,11 @@ fn goes_on(store: &mut Store) -> usize {
                 for x in masses.into_iter().chain([m.target_mass, m.volume]) {
                     assert_eq!(x.to_bits(), fields.bits(), "{line}");
                 }
-                assert_eq!((told.kernels.into(), told.pieces.into()), (fields.count(), fields.count()), "{line}");
+                assert_eq!(
+                    (told.kernels.into(), told.pieces.into()),
+                    (fields.count(), fields.count()),
+                    "{line}"
+                );
                 assert_eq!(told.error.to_bits(), fields.bits(), "{line}");
                 assert!(pieces.is_empty());
                 pieces = store.list(by).unwrap().into();
@@ -85,7 +89,9 @@ fn goes_on(store: &mut Store) -> usize {
                 }
             }
             "page" => {
-                let page = page.get_or_insert_with(|| VecDeque::from_iter(store.page().unwrap().lines().map(str::to_owned)));
+                let page = page.get_or_insert_with(|| {
+                    VecDeque::from_iter(store.page().unwrap().lines().map(str::to_owned))
+                });
                 assert_eq!(page.pop_front().as_deref(), Some(rest));
             }
             _ => panic!("{line}"),

@@ -90,8 +90,7 @@ const BEFORE_LAYERS: &[u8] = include_bytes!("data/before-layers.snapshot");
 fn a_snapshot_of_the_version_before_layers_is_carried_over_with_a_note() {
     let folder = Folder::new("before-layers");
     folder.write("old.snap", BEFORE_LAYERS);
-    let note =
-        "carried over from the form before layers: every kernel in layer 0, pieces and work done as they were";
+    let note = "carried over from the form before layers: every kernel in layer 0, pieces and work done as they were";
     let reads = "--mass 4.5e11 --track t.txt --overwrite --csv c.csv --list l.csv";
     let files = || ["c.csv", "l.csv"].map(|name| folder.read(name));
     let said = folder.goes(&format!("resume old.snap {reads} --snapshot whole.snap"));

@@ -68,7 +68,9 @@ fn fit(held: &Held, radius: f64) -> String {
         Ok((Fit::NoExponent, _)) => ": no exponent, so no piece".into(),
         Ok((_, false)) => format!(", fitted by an earlier version {error}"),
         Ok((Fit::Fitted { pivot }, _)) => format!(", fitted {error}, smallest pivot {}", rounded(pivot, 2)),
-        Ok((Fit::Fallback { column }, _)) => format!(", by the fallback {error}: flat pivot in column {column}"),
+        Ok((Fit::Fallback { column }, _)) => {
+            format!(", by the fallback {error}: flat pivot in column {column}")
+        }
         Err(refusal) => format!(": {refusal}"),
     }
 }
