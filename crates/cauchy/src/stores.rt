@@ -9,6 +9,7 @@ ghost use mathlib.Core.Path.{_≡_};
 ghost use Rattle.layout.specs.Layout.{width};
 ghost use Rattle.store.specs.Calls.{openStep, clearStep, reweighStep};
 ghost use Rattle.store.specs.OpenAnswer.{opened};
+ghost use Rattle.carry.specs.Carry.{carryStep};
 ghost use Rattle.store.specs.EditAnswer.{edited};
 ghost use Rattle.store.specs.Puts.{putStep};
 ghost use Rattle.store.specs.PutAnswer.{placed};
@@ -37,6 +38,7 @@ use crate::volumes::value_of;
 use advance::advance::Advanced;
 use advance::advance::advance;
 use base::refusal::refusal_number;
+use carry::carry::carry;
 use density::convention::Convention;
 use density::report::MassReport;
 use kernel::kernel::Kernel;
@@ -124,6 +126,21 @@ pub extern "C" fn cauchy_store_open(
     ensures { λ r. ⌜ crossed r (now (floats .exit)) (now (words .exit)) ≡ across openedFrom (openStep width (now (floats .entry)) (now (words .entry)) radius (now (xyz .entry)) (now (faces .entry))) ⌝ }
 {
     opened_of(open(floats, words, radius, xyz, faces))
+}
+
+// Carries a store of the form before layers, with three words to a place, into other runs as a store of today's form,
+// every kernel in layer 0: 4 below 1,761 + 3V floats in either store, 98 + 3F old words or 130 + 3F new ones; 5 of the
+// old store. The old runs are only read; what the new ones held does not matter, and words past these stay.
+#[no_mangle]
+pub extern "C" fn cauchy_store_carry(
+    old_floats: &[f64],
+    old_words: &[u32],
+    floats: &mut [f64],
+    words: &mut [u32],
+) -> CauchyOpened
+    ensures { λ r. ⌜ crossed r (now (floats .exit)) (now (words .exit)) ≡ across openedFrom (carryStep (now («old_floats» .entry)) (now («old_words» .entry)) (now (floats .entry)) (now (words .entry))) ⌝ }
+{
+    opened_of(carry(old_floats, old_words, floats, words))
 }
 
 fn placed_of(p: Placed) -> CauchyPlaced
