@@ -34,7 +34,6 @@ const char *cauchy_refusal_text(uint32_t no) {
     case CAUCHY_HOST_CHECKSUM: return "damaged: its checksum does not fit its bytes";
     case CAUCHY_HOST_FLOAT_STATE: return "floating-point state is not the default";
     case CAUCHY_HOST_SHORT_BYTES: return "short bytes: the snapshot needs more of them";
-    case CAUCHY_HOST_OLDER: return "a snapshot of the form before layers, which this version does not read";
     default: return "a number that no refusal has";
     }
 }
@@ -51,7 +50,7 @@ int cauchy_float_state_default(void) {
 
 enum { HEAD = 24, CHECKSUM = 8 };
 static const uint8_t magic[8] = {'C', 'A', 'U', 'C', 'H', 'Y', '0', '2'};
-static const uint8_t older_magic[8] = {'C', 'A', 'U', 'C', 'H', 'Y', '0', '1'};
+static const uint8_t old_magic[8] = {'C', 'A', 'U', 'C', 'H', 'Y', '0', '1'};
 
 static void put_number(uint8_t *at, uint64_t number, int size) {
     for (int i = 0; i < size; i++) at[i] = (uint8_t)(number >> 8 * i);
@@ -77,7 +76,7 @@ static uint64_t crc64(const uint8_t *bytes, size_t count) {
 }
 
 static CauchySnapshot snapshot(uint32_t no, size_t floats, size_t words) {
-    CauchySnapshot told = {no, 0, 0, 0};
+    CauchySnapshot told = {no, 0, 0, 0, 0};
     if (no != CAUCHY_ACCEPTED) return told;
     told.bytes = HEAD + 8 * floats + 4 * words + CHECKSUM, told.floats = floats, told.words = words;
     return told;
@@ -90,12 +89,13 @@ static uint32_t unsound(const double *floats, size_t n_floats, const uint32_t *w
     return cauchy_store_density(floats, n_floats, words, n_words, raw, CAUCHY_ALL_LAYERS, origin).no;
 }
 
-/* Whether all that stands past the mesh is what squeezes leave: no word, and the zeros of whole vertices. */
-static int exact(const double *floats, size_t n_floats, const uint32_t *words, size_t n_words) {
+/* Whether all that stands past the mesh is what squeezes leave: no word, and the zeros of whole vertices. A store of this
+ * form, or of the one before it, has `own_words` words. */
+static int exact(const double *floats, size_t n_floats, const uint32_t *words, size_t n_words, size_t own_words) {
     uint64_t bits, stray = 0;
     const size_t own = CAUCHY_STORE_FLOATS(words[0]);
     for (size_t i = own; i < n_floats; i++) memcpy(&bits, floats + i, sizeof bits), stray |= bits;
-    return n_words == CAUCHY_STORE_WORDS(words[1]) && (n_floats - own) % 3 == 0 && stray == 0;
+    return n_words == own_words && (n_floats - own) % 3 == 0 && stray == 0;
 }
 
 CauchySnapshot cauchy_snapshot_write(const double *floats, size_t n_floats, const uint32_t *words, size_t n_words,
@@ -115,10 +115,11 @@ CauchySnapshot cauchy_snapshot_write(const double *floats, size_t n_floats, cons
     return told;
 }
 
-CauchySnapshot cauchy_snapshot_look(const uint8_t *bytes, size_t n_bytes) {
+/* Whether bytes are a whole snapshot, of either form, and the counts of its two runs. */
+static CauchySnapshot whole_snapshot(const uint8_t *bytes, size_t n_bytes) {
     const int long_enough = n_bytes >= sizeof magic;
-    if (long_enough && !memcmp(bytes, older_magic, sizeof magic)) return snapshot(CAUCHY_HOST_OLDER, 0, 0);
-    if (!long_enough || memcmp(bytes, magic, sizeof magic) != 0) return snapshot(CAUCHY_HOST_FOREIGN, 0, 0);
+    const int old = long_enough && !memcmp(bytes, old_magic, sizeof magic);
+    if (!old && (!long_enough || memcmp(bytes, magic, sizeof magic) != 0)) return snapshot(CAUCHY_HOST_FOREIGN, 0, 0);
     if (n_bytes < HEAD + CHECKSUM) return snapshot(CAUCHY_HOST_LENGTH, 0, 0);
     const size_t body = n_bytes - HEAD - CHECKSUM;
     const uint64_t floats = get_number(bytes + 8, 8), words = get_number(bytes + 16, 8);
@@ -127,27 +128,62 @@ CauchySnapshot cauchy_snapshot_look(const uint8_t *bytes, size_t n_bytes) {
     if (!fits) return snapshot(CAUCHY_HOST_LENGTH, 0, 0);
     const size_t covered = n_bytes - CHECKSUM;
     if (crc64(bytes, covered) != get_number(bytes + covered, CHECKSUM)) return snapshot(CAUCHY_HOST_CHECKSUM, 0, 0);
-    return snapshot(CAUCHY_ACCEPTED, floats, words);
-}
-
-static CauchyOpened not_opened(uint32_t no) {
-    const CauchyOpened told = {no, 0, 0};
+    CauchySnapshot told = snapshot(CAUCHY_ACCEPTED, floats, words);
+    told.carried = (uint32_t)old;
     return told;
 }
 
-CauchyOpened cauchy_snapshot_read(double *floats, size_t n_floats, uint32_t *words, size_t n_words,
-                                  const uint8_t *bytes, size_t n_bytes) {
-    if (!cauchy_float_state_default()) return not_opened(CAUCHY_HOST_FLOAT_STATE);
-    const CauchySnapshot whole = cauchy_snapshot_look(bytes, n_bytes);
-    if (whole.no != CAUCHY_ACCEPTED) return not_opened(whole.no);
-    if (n_floats < whole.floats || n_words < whole.words) return not_opened(CAUCHY_SHORT_STORE);
+/* The lengths that reading it needs. An old store has as many floats as the new one and 32 words less; its runs stand
+ * behind the new ones while it is carried over. */
+static CauchySnapshot needed(CauchySnapshot whole) {
+    if (whole.carried) whole.floats += whole.floats, whole.words += whole.words + CAUCHY_PLACES;
+    return whole;
+}
+
+CauchySnapshot cauchy_snapshot_look(const uint8_t *bytes, size_t n_bytes) { return needed(whole_snapshot(bytes, n_bytes)); }
+
+static CauchyRestored restored(uint32_t no, const uint32_t *words, uint32_t carried) {
+    CauchyRestored told = {no, 0, 0, 0};
+    if (no == CAUCHY_ACCEPTED) told.verts = words[0], told.faces = words[1], told.carried = carried;
+    return told;
+}
+
+/* The two runs of a whole snapshot. */
+static void get_runs(CauchySnapshot whole, const uint8_t *bytes, double *floats, uint32_t *words) {
     const uint8_t *at = bytes + HEAD;
     uint64_t bits;
     for (size_t i = 0; i < whole.floats; i++, at += 8) bits = get_number(at, 8), memcpy(floats + i, &bits, 8);
     for (size_t i = 0; i < whole.words; i++, at += 4) words[i] = (uint32_t)get_number(at, 4);
+}
+
+/* The store of a snapshot of this form; `no`. */
+static uint32_t read_store(CauchySnapshot whole, const uint8_t *bytes, double *floats, uint32_t *words) {
+    get_runs(whole, bytes, floats, words);
     const uint32_t no = unsound(floats, whole.floats, words, whole.words);
-    if (no != CAUCHY_ACCEPTED) return not_opened(no);
-    if (!exact(floats, whole.floats, words, whole.words)) return not_opened(CAUCHY_UNSOUND);
-    const CauchyOpened told = {CAUCHY_ACCEPTED, words[0], words[1]};
-    return told;
+    if (no != CAUCHY_ACCEPTED) return no;
+    const int own = exact(floats, whole.floats, words, whole.words, CAUCHY_STORE_WORDS(words[1]));
+    return own ? CAUCHY_ACCEPTED : CAUCHY_UNSOUND;
+}
+
+/* The store of a snapshot of the form before layers, carried over; `no`. */
+static uint32_t carry_store(CauchySnapshot whole, const uint8_t *bytes, double *floats, uint32_t *words) {
+    const size_t n_floats = whole.floats, n_words = whole.words + CAUCHY_PLACES;
+    double *old_floats = floats + n_floats;
+    uint32_t *old_words = words + n_words;
+    get_runs(whole, bytes, old_floats, old_words);
+    const CauchyOpened told =
+        cauchy_store_carry(old_floats, whole.floats, old_words, whole.words, floats, n_floats, words, n_words);
+    if (told.no != CAUCHY_ACCEPTED) return told.no;
+    const int own = exact(old_floats, whole.floats, old_words, whole.words, CAUCHY_OLD_STORE_WORDS(told.faces));
+    return own ? CAUCHY_ACCEPTED : CAUCHY_UNSOUND;
+}
+
+CauchyRestored cauchy_snapshot_read(double *floats, size_t n_floats, uint32_t *words, size_t n_words,
+                                    const uint8_t *bytes, size_t n_bytes) {
+    if (!cauchy_float_state_default()) return restored(CAUCHY_HOST_FLOAT_STATE, words, 0);
+    const CauchySnapshot whole = whole_snapshot(bytes, n_bytes), needs = needed(whole);
+    if (whole.no != CAUCHY_ACCEPTED) return restored(whole.no, words, 0);
+    if (n_floats < needs.floats || n_words < needs.words) return restored(CAUCHY_SHORT_STORE, words, 0);
+    const uint32_t no = (whole.carried ? carry_store : read_store)(whole, bytes, floats, words);
+    return restored(no, words, whole.carried);
 }

@@ -3,13 +3,16 @@
 //! A snapshot is, numbers with their lowest byte first: the eight bytes `CAUCHY02`; the count of floats and the
 //! count of words, eight bytes each; the floats, eight bytes each, by their bits; the words, four bytes each; and
 //! the CRC-64/XZ of all bytes before it, eight bytes.
-use crate::{FloatState, Refusal, Store};
+//!
+//! One that begins with `CAUCHY01` is the same in the form before layers, which has three words to a place. It is read
+//! too, and its store carried over; none is written.
+use crate::store::{OLD_WORDS_BEFORE_MESH, check_excess};
+use crate::{FloatState, OpenError, Refusal, Store};
 use std::error::Error;
 use std::fmt;
 
 const MAGIC: &[u8; 8] = b"CAUCHY02";
-/// What a snapshot of the form before layers begins with: three words to a place.
-const OLDER_MAGIC: &[u8; 8] = b"CAUCHY01";
+const OLD_MAGIC: &[u8; 8] = b"CAUCHY01";
 const HEAD: usize = 24;
 const CHECKSUM: usize = 8;
 
@@ -18,8 +21,6 @@ const CHECKSUM: usize = 8;
 pub enum SnapshotError {
     /// They do not begin as a snapshot does.
     Foreign,
-    /// They are a snapshot of the form before layers.
-    Older,
     /// They are fewer or more than their counts say.
     Length,
     /// The checksum does not fit.
@@ -53,7 +54,8 @@ impl Store {
         bytes
     }
 
-    /// The store that [`Store::to_bytes`] wrote. Bytes that were damaged since are refused.
+    /// The store that [`Store::to_bytes`] wrote. Bytes that were damaged since are refused. A snapshot of the form before
+    /// layers is taken too, and its store carried over, as by [`Store::carry_from_old`]; [`Store::carried`] then tells it.
     ///
     /// ```
     /// # use cauchy::{Mesh, SnapshotError, Store};
@@ -62,23 +64,26 @@ impl Store {
     /// bytes[100] ^= 1;
     /// assert_eq!(Store::from_bytes(&bytes).unwrap_err(), SnapshotError::Checksum);
     /// assert_eq!(Store::from_bytes(b"v 0 0 0").unwrap_err(), SnapshotError::Foreign);
-    /// assert_eq!(Store::from_bytes(b"CAUCHY01..").unwrap_err(), SnapshotError::Older);
     /// # Ok::<(), Box<dyn std::error::Error>>(())
     /// ```
     pub fn from_bytes(bytes: &[u8]) -> Result<Store, SnapshotError> {
         FloatState::check().map_err(SnapshotError::FloatState)?;
-        let (floats, words) = runs(bytes)?;
-        let mut store = Store { floats, words };
+        if bytes.starts_with(OLD_MAGIC) {
+            let (floats, words) = runs(bytes, OLD_MAGIC)?;
+            let store = Store::carry_from_old(&floats, &words)?;
+            check_excess(&floats, &words, OLD_WORDS_BEFORE_MESH).map_err(SnapshotError::Refused)?;
+            return Ok(store);
+        }
+        let (floats, words) = runs(bytes, MAGIC)?;
+        let mut store = Store { floats, words, carried: false };
         store.check().map_err(SnapshotError::Refused)?;
         Ok(store)
     }
 }
 
-/// The two runs of a snapshot whose checksum fits.
-fn runs(bytes: &[u8]) -> Result<(Vec<f64>, Vec<u32>), SnapshotError> {
-    let of_no_form =
-        if bytes.starts_with(OLDER_MAGIC) { SnapshotError::Older } else { SnapshotError::Foreign };
-    let after_magic = bytes.strip_prefix(MAGIC).ok_or(of_no_form)?;
+/// The two runs of a snapshot that begins so, and whose checksum fits.
+fn runs(bytes: &[u8], magic: &[u8; 8]) -> Result<(Vec<f64>, Vec<u32>), SnapshotError> {
+    let after_magic = bytes.strip_prefix(magic).ok_or(SnapshotError::Foreign)?;
     let (counts, _) = after_magic.split_at_checked(16).ok_or(SnapshotError::Length)?;
     let [n_floats, n_words] = [&counts[..8], &counts[8..]].map(|count| number(count) as usize);
     let sizes = n_floats.checked_mul(8).zip(n_words.checked_mul(4));
@@ -128,9 +133,6 @@ impl fmt::Display for SnapshotError {
     fn fmt(&self, f: &mut fmt::Formatter<'_>) -> fmt::Result {
         match self {
             SnapshotError::Foreign => f.write_str("not a snapshot of a store"),
-            SnapshotError::Older => {
-                f.write_str("a snapshot of the form before layers, which this version does not read")
-            }
             SnapshotError::Length => f.write_str("damaged: bytes are missing, or there are too many"),
             SnapshotError::Checksum => f.write_str("damaged: its checksum does not fit its bytes"),
             SnapshotError::Refused(refusal) => write!(f, "whole, but no store: {refusal}"),
@@ -141,9 +143,18 @@ impl fmt::Display for SnapshotError {
 
 impl Error for SnapshotError {}
 
+impl From<OpenError> for SnapshotError {
+    fn from(fault: OpenError) -> SnapshotError {
+        match fault {
+            OpenError::Refused(refusal) => SnapshotError::Refused(refusal),
+            OpenError::FloatState(state) => SnapshotError::FloatState(state),
+        }
+    }
+}
+
 #[cfg(test)]
 mod tests {
-    use super::{MAGIC, SnapshotError, crc64};
+    use super::{MAGIC, OLD_MAGIC, SnapshotError, crc64};
     use crate::{Refusal, Store};
 
     #[test]
@@ -151,37 +162,53 @@ mod tests {
         assert_eq!(crc64(b"123456789"), 0x995d_c9bb_df19_39fa);
     }
 
-    /// A snapshot of these runs, with a checksum that fits.
-    fn forged(floats: &[f64], words: &[u32]) -> Vec<u8> {
-        Store { floats: floats.to_vec(), words: words.to_vec() }.to_bytes()
+    /// A snapshot of these runs, of either form, with a checksum that fits.
+    fn forged(magic: &[u8; 8], floats: &[f64], words: &[u32]) -> Vec<u8> {
+        let mut bytes = Store { floats: floats.to_vec(), words: words.to_vec(), carried: false }.to_bytes();
+        bytes[..8].copy_from_slice(magic);
+        let covered = bytes.len() - 8;
+        let checksum = crc64(&bytes[..covered]);
+        bytes[covered..].copy_from_slice(&checksum.to_le_bytes());
+        bytes
     }
 
     #[test]
     fn whole_bytes_that_hold_no_store_are_refused() {
-        let refused = |floats: &[f64], words: &[u32]| match Store::from_bytes(&forged(floats, words)) {
-            Err(SnapshotError::Refused(refusal)) => refusal,
-            other => panic!("{other:?}"),
-        };
-        assert_eq!(refused(&[], &[]), Refusal::ShortStore);
-        assert_eq!(refused(&[0.0; 1760], &[0; 130]), Refusal::ShortStore);
-        assert_eq!(refused(&[0.0; 1762], &[0; 130]), Refusal::Unsound);
-        assert_eq!(refused(&[0.0; 1761], &[0; 133]), Refusal::Unsound);
-        for stray in [1.0, -0.0, f64::NAN] {
-            let mut floats = [0.0; 1764];
-            floats[1763] = stray;
-            assert_eq!(refused(&floats, &[0; 130]), Refusal::Unsound);
+        for (magic, before_mesh) in [(MAGIC, 130), (OLD_MAGIC, 98)] {
+            let refused =
+                |floats: &[f64], words: &[u32]| match Store::from_bytes(&forged(magic, floats, words)) {
+                    Err(SnapshotError::Refused(refusal)) => refusal,
+                    other => panic!("{other:?}"),
+                };
+            let empty = &vec![0; before_mesh];
+            assert_eq!(refused(&[], &[]), Refusal::ShortStore);
+            assert_eq!(refused(&[0.0; 1761], &empty[1..]), Refusal::ShortStore);
+            assert_eq!(refused(&[0.0; 1760], empty), Refusal::ShortStore);
+            assert_eq!(refused(&[0.0; 1762], empty), Refusal::Unsound);
+            assert_eq!(refused(&[0.0; 1761], &vec![0; before_mesh + 3]), Refusal::Unsound);
+            for stray in [1.0, -0.0, f64::NAN] {
+                let mut floats = [0.0; 1764];
+                floats[1763] = stray;
+                assert_eq!(refused(&floats, empty), Refusal::Unsound);
+            }
+            for (at, to, refusal) in [(2, 18, Refusal::Unsound), (0, u32::MAX, Refusal::ShortStore)] {
+                let mut words = empty.clone();
+                words[at] = to;
+                assert_eq!(refused(&[0.0; 1761], &words), refusal);
+            }
+            for floats in [vec![f64::NAN; 1761], vec![0.0; 1764]] {
+                let taken = Store::from_bytes(&forged(magic, &floats, empty)).unwrap();
+                assert_eq!((taken.carried(), taken.words.len()), (magic == OLD_MAGIC, 130));
+            }
         }
-        let mut words = [0; 130];
-        words[2] = 18;
-        assert_eq!(refused(&[0.0; 1761], &words), Refusal::Unsound);
-        assert!(Store::from_bytes(&forged(&[f64::NAN; 1761], &[0; 130])).is_ok());
-        assert!(Store::from_bytes(&forged(&[0.0; 1764], &[0; 130])).is_ok());
     }
 
     #[test]
     fn counts_that_overflow_are_refused() {
-        for count in [u64::MAX, 1 << 61, 1 << 62] {
-            let mut bytes = MAGIC.to_vec();
+        for (count, magic) in
+            [u64::MAX, 1 << 61, 1 << 62].into_iter().flat_map(|n| [(n, MAGIC), (n, OLD_MAGIC)])
+        {
+            let mut bytes = magic.to_vec();
             bytes.extend(count.to_le_bytes());
             bytes.extend(count.to_le_bytes());
             bytes.extend([0; 8]);

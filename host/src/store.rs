@@ -20,6 +20,8 @@ const KERNEL_FLOATS: usize = 7;
 const STATES_AT: usize = 2;
 const STATE_WORDS: usize = 4;
 const LAYER_IN_STATE: usize = 3;
+/// What stands before the corners in the words of the form before layers: three words to a place.
+pub(crate) const OLD_WORDS_BEFORE_MESH: usize = 98;
 
 /// Up to 32 kernels inside a mesh, with the work on them as far as it is done.
 ///
@@ -30,6 +32,7 @@ const LAYER_IN_STATE: usize = 3;
 pub struct Store {
     pub(crate) floats: Vec<f64>,
     pub(crate) words: Vec<u32>,
+    pub(crate) carried: bool,
 }
 
 /// What a put answers.
@@ -108,7 +111,70 @@ impl Store {
             )
         };
         Refusal::check(told.no)?;
-        Ok(Store { floats, words })
+        Ok(Store { floats, words, carried: false })
+    }
+
+    /// Carries a store of the form before layers over, which had three words to a place: a store like it, with every
+    /// kernel in layer 0 and all work as far as it was done. Nothing is fitted anew: pieces go across as they are held,
+    /// also those of a version whose powers were others. The two runs are only read; what they have past the old
+    /// store's own is left behind. [`Store::from_bytes`] does the same with a snapshot of that form.
+    ///
+    /// ```
+    /// use cauchy::{Convention, Kernel, OpenError, Refusal, Store};
+    ///
+    /// // a body of 3 vertices and 4 faces, and in place 7 a kernel of one piece, 3 faces of which are done
+    /// let (mut floats, mut words) = (vec![0.0; 1761 + 3 * 3], vec![0; 98 + 3 * 4]);
+    /// floats[1 + 7 * 7..][..6].copy_from_slice(&[0.0, 0.0, 0.0, 0.01, 300.0, 1.0]);
+    /// floats[225 + 48 * 7..][..3].copy_from_slice(&[0.01, 1.0, 0.0]);
+    /// (words[0], words[1]) = (3, 4);
+    /// words[2 + 3 * 7..][..3].copy_from_slice(&[2, 0, 3]);
+    /// let mut store = Store::carry_from_old(&floats, &words)?;
+    /// assert!(store.carried());
+    /// let kernel = Kernel { c: [0.0; 3], sigma: 0.01, w: 300.0, alpha: 1.0 };
+    /// assert_eq!(store.held(7).map(|held| (held.kernel, held.layer)), Some((kernel, 0)));
+    /// assert_eq!((store.left()?, store.density(Convention::Raw, [0.0; 3])?), (1, 300.0));
+    ///
+    /// let short = Store::carry_from_old(&floats, &words[..97]);
+    /// assert_eq!(short.unwrap_err(), OpenError::Refused(Refusal::ShortStore));
+    /// # Ok::<(), Box<dyn std::error::Error>>(())
+    /// ```
+    pub fn carry_from_old(floats: &[f64], words: &[u32]) -> Result<Store, OpenError> {
+        FloatState::check()?;
+        let count = |at: usize| words.get(at).map_or(0, |count| *count as usize);
+        // old runs that are too short for these counts are refused: so no more is needed than they have
+        let n_floats = floats.len().min(FLOATS_BEFORE_MESH + 3 * count(0));
+        let n_words =
+            (words.len() + WORDS_BEFORE_MESH - OLD_WORDS_BEFORE_MESH).min(WORDS_BEFORE_MESH + 3 * count(1));
+        let (mut new_floats, mut new_words) = (vec![0.0; n_floats], vec![0; n_words]);
+        // SAFETY: slices, borrowed for the call; those that are written are new.
+        let told = unsafe {
+            sys::cauchy_store_carry(
+                floats.as_ptr(),
+                floats.len(),
+                words.as_ptr(),
+                words.len(),
+                new_floats.as_mut_ptr(),
+                n_floats,
+                new_words.as_mut_ptr(),
+                n_words,
+            )
+        };
+        Refusal::check(told.no)?;
+        Ok(Store { floats: new_floats, words: new_words, carried: true })
+    }
+
+    /// Whether the store was carried over from the form before layers, by [`Store::carry_from_old`] or, from a snapshot
+    /// of that form, by [`Store::from_bytes`]. Clones know it too, and snapshots of this store do not: they are of the
+    /// form with layers.
+    ///
+    /// ```
+    /// # use cauchy::{Mesh, Store};
+    /// # let mesh = Mesh { vertices: &[[0.0; 3]; 3], faces: &[[0, 1, 2]] };
+    /// assert!(!Store::open(500.0, mesh)?.carried());
+    /// # Ok::<(), cauchy::OpenError>(())
+    /// ```
+    pub fn carried(&self) -> bool {
+        self.carried
     }
 
     /// Puts a kernel into a place, whatever that held, with all its work to do, in layer 0.
@@ -531,15 +597,20 @@ impl Store {
         self.floats[FLOATS_BEFORE_MESH..].split_at(3 * self.vertices() as usize)
     }
 
-    /// Whether the runs are a sound store as an opening and squeezes leave it: past the mesh there is no word,
-    /// and no float but the zeros of whole vertices.
+    /// Whether the runs are a sound store as an opening and squeezes leave it.
     pub(crate) fn check(&mut self) -> Result<(), Refusal> {
         self.left()?;
-        let (_, freed) = self.coordinates();
-        let zeros = freed.len().is_multiple_of(3) && freed.iter().all(|x| x.to_bits() == 0);
-        let exact = self.words.len() == WORDS_BEFORE_MESH + 3 * self.faces() as usize;
-        if zeros && exact { Ok(()) } else { Err(Refusal::Unsound) }
+        check_excess(&self.floats, &self.words, WORDS_BEFORE_MESH)
     }
+}
+
+/// Whether the runs of a sound store, of either form, have past the mesh no word, and no float but the zeros of whole
+/// vertices that squeezes have freed.
+pub(crate) fn check_excess(floats: &[f64], words: &[u32], before_mesh: usize) -> Result<(), Refusal> {
+    let freed = &floats[FLOATS_BEFORE_MESH + 3 * words[0] as usize..];
+    let zeros = freed.len().is_multiple_of(3) && freed.iter().all(|x| x.to_bits() == 0);
+    let exact = words.len() == before_mesh + 3 * words[1] as usize;
+    if zeros && exact { Ok(()) } else { Err(Refusal::Unsound) }
 }
 
 impl fmt::Debug for Store {

@@ -173,6 +173,16 @@ unsafe extern "C" {
         faces: *const u32,
         n_faces: usize,
     ) -> Opened;
+    pub fn cauchy_store_carry(
+        old_floats: *const f64,
+        n_old_floats: usize,
+        old_words: *const u32,
+        n_old_words: usize,
+        floats: *mut f64,
+        n_floats: usize,
+        words: *mut u32,
+        n_words: usize,
+    ) -> Opened;
     pub fn cauchy_store_put(
         floats: *mut f64,
         n_floats: usize,

@@ -235,6 +235,54 @@ static void squeeze(void) {
     CHECK(cauchy_store_squeeze(f, N_OLD, w, N_WORDS).freed == 0);
 }
 
+/* A store of the form before layers, by hand: places 3 and 31, the first with a volume so far. */
+static void carry(void) {
+    enum { N_OLD_WORDS = 98 + N_FACES + 2, N_NEW = 1761 + N_XYZ + 2 };
+    static double old_f[N_NEW], old_f_before[N_NEW], f[N_NEW], f_before[N_NEW];
+    static uint32_t old_w[N_OLD_WORDS], old_w_before[N_OLD_WORDS], w[N_WORDS], w_before[N_WORDS];
+    for (int i = 0; i < N_NEW; i++) old_f[i] = 0.25 + i, f[i] = 500 + i;
+    for (int i = 0; i < N_WORDS; i++) w[i] = 600 + (uint32_t)i;
+    memset(old_w, 0, sizeof old_w);
+    old_w[0] = V, old_w[1] = F, old_w[98 + N_FACES] = 71, old_w[99 + N_FACES] = 72;
+    old_w[2 + 3 * 3] = 2, old_w[4 + 3 * 3] = 3;
+    old_w[2 + 3 * 31] = 14, old_w[3 + 3 * 31] = 12, old_w[4 + 3 * 31] = 1;
+    memcpy(old_w + 98, faces, sizeof faces), memcpy(old_f + 1761, xyz, sizeof xyz);
+    memcpy(old_f_before, old_f, sizeof f), memcpy(old_w_before, old_w, sizeof old_w);
+    memcpy(f_before, f, sizeof f), memcpy(w_before, w, sizeof w);
+
+    const size_t own_f = CAUCHY_STORE_FLOATS(V), own_old = CAUCHY_OLD_STORE_WORDS(F), own_w = CAUCHY_STORE_WORDS(F);
+    CHECK(own_old == 98 + N_FACES);
+    const size_t shorter[5][4] = {{own_f - 1, own_old, own_f, own_w}, {own_f, own_old - 1, own_f, own_w},
+                                  {own_f, own_old, own_f - 1, own_w}, {own_f, own_old, own_f, own_w - 1},
+                                  {own_f, 97, own_f, own_w}};
+    for (int i = 0; i < 5; i++) {
+        const size_t *n = shorter[i];
+        CauchyOpened no = cauchy_store_carry(old_f, n[0], old_w, n[1], f, n[2], w, n[3]);
+        CHECK(no.no == CAUCHY_SHORT_STORE && no.verts == 0 && no.faces == 0);
+    }
+    old_w[4 + 3 * 31] = F;
+    CauchyOpened no = cauchy_store_carry(old_f, N_NEW, old_w, N_OLD_WORDS, f, N_NEW, w, N_WORDS);
+    CHECK(no.no == CAUCHY_UNSOUND && no.verts == 0 && no.faces == 0);
+    no = cauchy_store_carry(old_f, N_NEW, old_w, N_OLD_WORDS, f, N_NEW, w, own_w - 1);
+    CHECK(no.no == CAUCHY_SHORT_STORE && no.verts == 0 && no.faces == 0);
+    CHECK(!memcmp(f, f_before, sizeof f) && !memcmp(w, w_before, sizeof w));
+    old_w[4 + 3 * 31] = 1;
+
+    CauchyOpened o = cauchy_store_carry(old_f, N_NEW, old_w, N_OLD_WORDS, f, N_NEW, w, N_WORDS);
+    CHECK(o.no == CAUCHY_ACCEPTED && o.verts == V && o.faces == F);
+    CHECK(!memcmp(old_f, old_f_before, sizeof old_f) && !memcmp(old_w, old_w_before, sizeof old_w));
+    CHECK(!memcmp(f, old_f, own_f * sizeof *f) && w[0] == V && w[1] == F);
+    for (int place = 0; place < 32; place++) {
+        for (int i = 0; i < 3; i++) CHECK(w[2 + 4 * place + i] == old_w[2 + 3 * place + i]);
+        CHECK(w[5 + 4 * place] == 0);
+    }
+    CHECK(!memcmp(w + 130, faces, sizeof faces) && !memcmp(w + own_w, w_before + own_w, 3 * sizeof *w));
+    CHECK(!memcmp(f + own_f, f_before + own_f, 2 * sizeof *f));
+    /* one face of place 3 is left and three of place 31, and the volume so far goes on */
+    CHECK(cauchy_store_advance(f, N_NEW, w, N_WORDS, 1).left == 3 && w[3 + 4 * 3] == 1);
+    CHECK(f[225 + 48 * 3 + 2] != old_f[225 + 48 * 3 + 2] && f[225 + 48 * 3 + 5] == old_f[225 + 48 * 3 + 5]);
+}
+
 static void advance(void) {
     remember();
     CauchySteps s = cauchy_store_advance(floats, N_FLOATS, words, 129, 5);
@@ -908,6 +956,7 @@ int main(void) {
     open_store();
     put_clear_reweigh();
     squeeze();
+    carry();
     advance();
     list_store();
     decompose_lists();

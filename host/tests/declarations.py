@@ -144,7 +144,7 @@ def same_numbers(ours, rattle):
 # What the library calls a size of the store, and what Rust's crate does.
 SIZES = {
     "PLACES": "PLACES", "KERNEL": "KERNELS_AT", "KERNEL_SIZE": "KERNEL_FLOATS", "COORDS": "FLOATS_BEFORE_MESH",
-    "STATE": "STATES_AT", "WIDTH": "STATE_WORDS", "CORNERS": "WORDS_BEFORE_MESH",
+    "STATE": "STATES_AT", "WIDTH": "STATE_WORDS", "CORNERS": "WORDS_BEFORE_MESH", "OLD_CORNERS": "OLD_WORDS_BEFORE_MESH",
 }
 
 
@@ -152,9 +152,10 @@ def same_sizes(text, sizes, rattle, rust):
     """A store's sizes and offsets: the library's, the header's and Rust's."""
     constants = re.compile(r"const (\w+): \w+ = (\d+);")
     library, crate = ({name: int(number) for name, number in constants.findall(one)} for one in (rattle, rust))
-    before = dict(re.findall(r"#define CAUCHY_STORE_(\w+)\(\w\) \(\(size_t\)(\d+) ", text))
+    before = dict(re.findall(r"#define CAUCHY_((?:OLD_)?STORE_\w+)\(\w\) \(\(size_t\)(\d+) ", text))
     in_header = {"PLACES": sizes["CAUCHY_PLACES"], "PIECES": sizes["CAUCHY_MAX_PIECES"]}
-    in_header.update(COORDS=int(before["FLOATS"]), CORNERS=int(before["WORDS"]))
+    in_header.update(COORDS=int(before["STORE_FLOATS"]), CORNERS=int(before["STORE_WORDS"]))
+    in_header.update(OLD_CORNERS=int(before["OLD_STORE_WORDS"]))
     in_rust = {name: crate[theirs] for name, theirs in SIZES.items()}
     for there, found in (("cauchy.h", in_header), ("store.rs", in_rust)):
         for name, number in found.items():
@@ -171,7 +172,7 @@ def texts(root):
     host += [f"src/{name}.rs" for name in ("sys", "kernel", "report", "refusal", "store")]
     paths = [root / "host" / name for name in host] + sorted((root / "crates/cauchy/src").glob("*.rt"))
     others = ("kernel/src/kernel.rt", "mesh/src/vectors.rt", "density/src/report.rt")
-    others += ("base/src/refusal.rt", "layout/src/offsets.rt")
+    others += ("base/src/refusal.rt", "layout/src/offsets.rt", "carry/src/check.rt")
     paths += [root / "crates" / name for name in others]
     return {path.relative_to(root).as_posix(): path.read_text(encoding="utf-8") for path in paths}
 
@@ -189,8 +190,8 @@ def compare(has):
     same_refusals(refusals, host_enums[0], has["host/src/refusal.rs"], has["host/c/cauchy_host.c"])
     same_numbers(refusals, has["crates/base/src/refusal.rt"])
     (sizes,) = [names for names in enums if "CAUCHY_PLACES" in names]
-    offsets, crate = has["crates/layout/src/offsets.rt"], has["host/src/store.rs"]
-    same_sizes(has["host/include/cauchy.h"], sizes, offsets, crate)
+    offsets = has["crates/layout/src/offsets.rt"] + has["crates/carry/src/check.rt"]
+    same_sizes(has["host/include/cauchy.h"], sizes, offsets, has["host/src/store.rs"])
     for name, (_, answer) in functions.items():
         marked = name in must_use
         need(marked == may_refuse(answer, structs), f"{name}: CAUCHY_MUST_USE goes with an answer that may refuse")
@@ -228,6 +229,8 @@ EDITS = [
     ("crates/base/src/refusal.rt", "Refusal::NoPlace => 6", "Refusal::NoPlace => 7", "CAUCHY_NO_PLACE"),
     ("crates/layout/src/offsets.rt", "COORDS: usize = 1761", "COORDS: usize = 1762", "COORDS"),
     ("host/include/cauchy.h", "((size_t)1761", "((size_t)1760", "COORDS"),
+    ("host/include/cauchy.h", "((size_t)98", "((size_t)97", "OLD_CORNERS"),
+    ("host/src/sys.rs", "old_words: *const u32", "old_words: *mut u32", "cauchy_store_carry, argument 3"),
     ("host/src/store.rs", "KERNEL_FLOATS: usize = 7", "KERNEL_FLOATS: usize = 6", "KERNEL_SIZE"),
     ("crates/cauchy/src/stores.rt", "pub verts: u32,\n    pub faces: u32,",
      "pub faces: u32,\n    pub verts: u32,", "CauchyOpened, field 2"),

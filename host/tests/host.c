@@ -2,7 +2,10 @@
  *   host              the checks
  *   host --valgrind   fewer damaged bytes, and the floating-point state stays: valgrind does not follow its changes
  *   host IN OUT       takes the snapshot IN, which another host wrote, writes it again and finds the same bytes;
- *                     then does its work and writes the snapshot OUT */
+ *                     then does its work and writes the snapshot OUT
+ *   host --old SNAPSHOT ANSWERS
+ *                     takes a snapshot of the version before layers, goes on as the lines of ANSWERS ask, and finds the
+ *                     answers that that version gave, bit for bit; data/make.py tells of the lines */
 #include "cauchy_host.h"
 #include "check.h"
 
@@ -46,11 +49,13 @@ static int again_untouched(void) {
     return 1;
 }
 
-static CauchyOpened read_again(const uint8_t *from, size_t count) {
+static CauchyRestored read_again(const uint8_t *from, size_t count) {
     return cauchy_snapshot_read(again_floats, N_FLOATS + SPARE, again_words, N_WORDS + SPARE, from, count);
 }
 
-static int refused(CauchyOpened told, uint32_t no) { return told.no == no && told.verts == 0 && told.faces == 0; }
+static int refused(CauchyRestored told, uint32_t no) {
+    return told.no == no && told.verts == 0 && told.faces == 0 && told.carried == 0;
+}
 
 /* ---- Texts, version, floating-point state ----------------------------------------------------------- */
 
@@ -69,7 +74,7 @@ static void float_state(void) {
     for (int bit = 0; bit < 16; bit++) {
         _mm_setcsr(0x1f80u ^ 1u << bit);
         const int told = cauchy_float_state_default();
-        const CauchyOpened opened = read_again(bytes, BYTES);
+        const CauchyRestored opened = read_again(bytes, BYTES);
         _mm_setcsr(before);
         CHECK(told == (bit < 6) && opened.no == (bit < 6 ? 0u : (uint32_t)CAUCHY_HOST_FLOAT_STATE));
     }
@@ -104,13 +109,13 @@ static void writing(void) {
 
 static void reading(void) {
     fill_again();
-    CauchyOpened short_floats = cauchy_snapshot_read(again_floats, N_FLOATS - 1, again_words, N_WORDS, bytes, BYTES);
-    CauchyOpened short_words = cauchy_snapshot_read(again_floats, N_FLOATS, again_words, N_WORDS - 1, bytes, BYTES);
+    CauchyRestored short_floats = cauchy_snapshot_read(again_floats, N_FLOATS - 1, again_words, N_WORDS, bytes, BYTES);
+    CauchyRestored short_words = cauchy_snapshot_read(again_floats, N_FLOATS, again_words, N_WORDS - 1, bytes, BYTES);
     CHECK(refused(short_floats, CAUCHY_SHORT_STORE) && refused(short_words, CAUCHY_SHORT_STORE) && again_untouched());
     CauchySnapshot s = cauchy_snapshot_look(bytes, BYTES);
-    CHECK(s.no == 0 && s.bytes == BYTES && s.floats == N_FLOATS && s.words == N_WORDS);
-    CauchyOpened o = read_again(bytes, BYTES);
-    CHECK(o.no == 0 && o.verts == V && o.faces == F);
+    CHECK(s.no == 0 && s.bytes == BYTES && s.floats == N_FLOATS && s.words == N_WORDS && s.carried == 0);
+    CauchyRestored o = read_again(bytes, BYTES);
+    CHECK(o.no == 0 && o.verts == V && o.faces == F && o.carried == 0);
     CHECK(!memcmp(again_floats, floats, 8 * N_FLOATS) && !memcmp(again_words, words, 4 * N_WORDS));
     CHECK(again_floats[N_FLOATS] == 700 + N_FLOATS && again_words[N_WORDS] == 800 + N_WORDS);
 
@@ -135,7 +140,7 @@ static void damage(int stride) {
     CHECK(refused(read_again(again, BYTES + 1), CAUCHY_HOST_LENGTH));
     CHECK(refused(read_again(NULL, 0), CAUCHY_HOST_FOREIGN) && again_untouched());
     memcpy(again, "CAUCHY01", 8);
-    CHECK(refused(read_again(again, BYTES), CAUCHY_HOST_OLDER) && again_untouched());
+    CHECK(refused(read_again(again, BYTES), CAUCHY_HOST_CHECKSUM) && again_untouched());
 }
 
 static uint64_t crc_bit_by_bit(const uint8_t *from, size_t count) {
@@ -147,16 +152,82 @@ static uint64_t crc_bit_by_bit(const uint8_t *from, size_t count) {
     return ~sum;
 }
 
-/* A snapshot of any runs, with a checksum that fits. */
-static size_t forge(const double *f, size_t n_f, const uint32_t *w, size_t n_w) {
+/* A snapshot of any runs, of either form, with a checksum that fits. */
+static size_t forge_form(const char *magic, const double *f, size_t n_f, const uint32_t *w, size_t n_w) {
     const uint64_t counts[2] = {n_f, n_w};
     const size_t covered = 24 + 8 * n_f + 4 * n_w;
-    memcpy(again, "CAUCHY02", 8), memcpy(again + 8, counts, 16);
+    memcpy(again, magic, 8), memcpy(again + 8, counts, 16);
     memcpy(again + 24, f, 8 * n_f), memcpy(again + 24 + 8 * n_f, w, 4 * n_w);
     const uint64_t sum = crc_bit_by_bit(again, covered);
     memcpy(again + covered, &sum, 8);
     return covered + 8;
 }
+
+static size_t forge(const double *f, size_t n_f, const uint32_t *w, size_t n_w) {
+    return forge_form("CAUCHY02", f, n_f, w, n_w);
+}
+
+/* ---- Snapshots of the form before layers ------------------------------------------------------------- */
+
+enum { OLD_N_WORDS = 98 + N_FACES, CARRY_FLOATS = 2 * (N_FLOATS + 3), CARRY_WORDS = 2 * OLD_N_WORDS + 32 + 3 };
+
+static double carry_floats[CARRY_FLOATS + SPARE];
+static uint32_t carry_words[CARRY_WORDS + SPARE];
+
+static CauchyRestored read_old(size_t count) {
+    for (int i = 0; i < CARRY_FLOATS + SPARE; i++) carry_floats[i] = 900 + i;
+    for (int i = 0; i < CARRY_WORDS + SPARE; i++) carry_words[i] = 1000 + (uint32_t)i;
+    return cauchy_snapshot_read(carry_floats, CARRY_FLOATS + SPARE, carry_words, CARRY_WORDS + SPARE, again, count);
+}
+
+static size_t forge_old(const double *f, size_t n_f, const uint32_t *w, size_t n_w) {
+    return forge_form("CAUCHY01", f, n_f, w, n_w);
+}
+
+/* the store above as the form before layers has it; what is carried over is that store with every kernel in layer 0 */
+static void carrying(void) {
+    static uint32_t old_words[OLD_N_WORDS], new_words[N_WORDS];
+    memcpy(old_words, words, 8), memcpy(old_words + 98, words + 130, 4 * N_FACES);
+    memcpy(new_words, words, 4 * N_WORDS);
+    for (int place = 0; place < 32; place++) {
+        memcpy(old_words + 2 + 3 * place, words + 2 + 4 * place, 12);
+        new_words[5 + 4 * place] = 0;
+    }
+    size_t count = forge_old(floats, N_FLOATS, old_words, OLD_N_WORDS);
+    CauchySnapshot s = cauchy_snapshot_look(again, count);
+    CHECK(s.no == 0 && s.bytes == count && s.carried == 1);
+    CHECK(s.floats == 2 * N_FLOATS && s.words == N_WORDS + OLD_N_WORDS);
+    CauchyRestored o = read_old(count);
+    CHECK(o.no == 0 && o.verts == V && o.faces == F && o.carried == 1);
+    CHECK(!memcmp(carry_floats, floats, 8 * N_FLOATS) && !memcmp(carry_words, new_words, 4 * N_WORDS));
+    CHECK(carry_floats[s.floats] == 900 + s.floats && carry_words[s.words] == 1000 + s.words);
+    /* runs that have just the lengths told, and shorter ones, of which no element changes */
+    CHECK(cauchy_snapshot_read(carry_floats, s.floats, carry_words, s.words, again, count).no == 0);
+    fill_again();
+    CHECK(refused(read_again(again, count), CAUCHY_SHORT_STORE) && again_untouched());
+    CHECK(cauchy_snapshot_read(carry_floats, s.floats - 1, carry_words, s.words, again, count).no == CAUCHY_SHORT_STORE);
+    CHECK(cauchy_snapshot_read(carry_floats, s.floats, carry_words, s.words - 1, again, count).no == CAUCHY_SHORT_STORE);
+
+    /* what squeezes left is taken; other excess, damage and short runs are not */
+    static double f[N_FLOATS + 3];
+    memcpy(f, floats, 8 * N_FLOATS);
+    f[N_FLOATS] = f[N_FLOATS + 1] = f[N_FLOATS + 2] = 0;
+    CHECK(read_old(forge_old(f, N_FLOATS + 3, old_words, OLD_N_WORDS)).no == 0);
+    CHECK(refused(read_old(forge_old(f, N_FLOATS + 1, old_words, OLD_N_WORDS)), CAUCHY_UNSOUND));
+    f[N_FLOATS + 2] = -0.0;
+    CHECK(refused(read_old(forge_old(f, N_FLOATS + 3, old_words, OLD_N_WORDS)), CAUCHY_UNSOUND));
+    CHECK(refused(read_old(forge_old(f, N_FLOATS - 1, old_words, OLD_N_WORDS)), CAUCHY_SHORT_STORE));
+    CHECK(refused(read_old(forge_old(f, N_FLOATS, old_words, OLD_N_WORDS - 1)), CAUCHY_SHORT_STORE));
+    CHECK(refused(read_old(forge_old(f, 0, old_words, 0)), CAUCHY_SHORT_STORE));
+    old_words[98] = V;
+    CHECK(refused(read_old(forge_old(f, N_FLOATS, old_words, OLD_N_WORDS)), CAUCHY_UNSOUND));
+    old_words[98] = faces[0];
+    count = forge_old(f, N_FLOATS, old_words, OLD_N_WORDS);
+    again[count / 2] ^= 4;
+    CHECK(refused(read_old(count), CAUCHY_HOST_CHECKSUM) && carry_floats[0] == 900 && carry_words[0] == 1000);
+}
+
+/* ---- Other snapshots ----------------------------------------------------------------------------------- */
 
 /* the cases of the Rust crate's own test, with the same answers */
 static void forgeries(void) {
@@ -188,7 +259,7 @@ static void squeezed(void) {
     CHECK(cauchy_store_squeeze(floats, N_FLOATS, words, N_WORDS).freed == 3);
     CauchySnapshot s = cauchy_snapshot_write(floats, N_FLOATS, words, N_WORDS, bytes, sizeof bytes);
     CHECK(s.no == 0 && s.bytes == CAUCHY_SNAPSHOT_BYTES(V - 1, F) && s.floats == N_FLOATS - 3 && s.words == N_WORDS);
-    CauchyOpened o = read_again(bytes, s.bytes);
+    CauchyRestored o = read_again(bytes, s.bytes);
     CHECK(o.no == 0 && o.verts == V - 1 && o.faces == F && !memcmp(again_floats, floats, 8 * (N_FLOATS - 3)));
     o = read_again(again, forge(floats, N_FLOATS, words, N_WORDS));
     CHECK(o.no == 0 && o.verts == V - 1 && o.faces == F && !memcmp(again_floats, floats, 8 * N_FLOATS));
@@ -202,15 +273,21 @@ static uint8_t *room(size_t count) {
     return at;
 }
 
-static void exchange(const char *in, const char *out) {
+static uint8_t *file_bytes(const char *name, size_t *count) {
     const size_t most = 1 << 24;
     uint8_t *had = room(most);
-    FILE *file = fopen(in, "rb");
+    FILE *file = fopen(name, "rb");
     CHECK(file != NULL);
-    const size_t count = fread(had, 1, most, file);
-    CHECK(count > 0 && count < most && fclose(file) == 0);
+    *count = fread(had, 1, most, file);
+    CHECK(*count > 0 && *count < most && fclose(file) == 0);
+    return had;
+}
+
+static void exchange(const char *in, const char *out) {
+    size_t count;
+    uint8_t *had = file_bytes(in, &count);
     const CauchySnapshot s = cauchy_snapshot_look(had, count);
-    CHECK(s.no == 0 && s.bytes == count);
+    CHECK(s.no == 0 && s.bytes == count && s.carried == 0);
     double *f = (double *)room(8 * s.floats);
     uint32_t *w = (uint32_t *)room(4 * s.words);
     CHECK(cauchy_snapshot_read(f, s.floats, w, s.words, had, count).no == 0);
@@ -220,18 +297,120 @@ static void exchange(const char *in, const char *out) {
     const CauchySteps steps = cauchy_store_advance(f, s.floats, w, s.words, UINT64_MAX);
     CHECK(steps.no == 0 && steps.done > 0 && steps.left == 0);
     CHECK(cauchy_snapshot_write(f, s.floats, w, s.words, mine, count).bytes == count);
-    file = fopen(out, "wb");
+    FILE *file = fopen(out, "wb");
     CHECK(file != NULL && fwrite(mine, 1, count, file) == count && fclose(file) == 0);
     free(had), free(f), free(w), free(mine);
 }
 
+/* ---- A snapshot of the version before layers ---------------------------------------------------------- */
+
+/* A store, and what a line asks of it. */
+typedef struct Gone {
+    double *f;
+    uint32_t *w;
+    size_t n_f, n_w;
+    CauchyConvention by;
+    double list[32 * 16 * 6];
+    int pieces, shown; /* of the list by the last report: how many, and how many lines were compared */
+    uint8_t page[CAUCHY_PAGE_BYTES(32)];
+    size_t paged, page_at;
+} Gone;
+
+/* The next fields of a line: a float by its bits, a count. */
+static double next_float(char **at) {
+    const uint64_t bits = strtoull(*at, at, 16);
+    double x;
+    memcpy(&x, &bits, sizeof x);
+    return x;
+}
+
+static uint64_t next_count(char **at) { return strtoull(*at, at, 10); }
+
+static int next_is(char **at, double x) {
+    const double want = next_float(at);
+    return !memcmp(&x, &want, sizeof x);
+}
+
+static void report_line(Gone *g, char *at) {
+    const CauchyStoreReport r = cauchy_store_report(g->f, g->n_f, g->w, g->n_w, g->by, CAUCHY_ALL_LAYERS);
+    const CauchyMassReport m = r.report;
+    CHECK(r.no == 0 && next_is(&at, m.raw_mass) && next_is(&at, m.rho0_scale) && next_is(&at, m.rho0_mass));
+    CHECK(next_is(&at, m.applied_scale) && next_is(&at, m.applied_mass) && next_is(&at, m.target_mass));
+    CHECK(next_is(&at, m.volume) && next_count(&at) == r.kernels && next_count(&at) == r.pieces && next_is(&at, r.error));
+    CHECK(g->shown == g->pieces);
+    const CauchyListed l =
+        cauchy_store_list(g->f, g->n_f, g->w, g->n_w, g->by, CAUCHY_ALL_LAYERS, g->list, sizeof g->list / sizeof *g->list);
+    CHECK(l.no == 0);
+    g->pieces = (int)l.pieces, g->shown = 0;
+}
+
+static void page_line(Gone *g, const char *rest) {
+    if (g->paged == 0) {
+        const CauchyBytes b = cauchy_store_page(g->f, g->n_f, g->w, g->n_w, g->page, sizeof g->page);
+        CHECK(b.no == 0);
+        g->paged = (size_t)b.bytes;
+    }
+    CHECK(g->page_at + 65 <= g->paged && !memcmp(rest, g->page + g->page_at, 64) && rest[64] == 0);
+    g->page_at += 65;
+}
+
+static void answer_line(Gone *g, char *line) {
+    char *at = strchr(line, ' ');
+    CHECK(at != NULL);
+    *at++ = 0;
+    if (!strcmp(line, "state")) {
+        const uint32_t *state = g->w + 2 + 4 * next_count(&at);
+        for (int i = 0; i < 3; i++) CHECK(next_count(&at) == state[i]);
+        CHECK(state[3] == 0);
+    } else if (!strcmp(line, "left")) {
+        CHECK(cauchy_store_advance(g->f, g->n_f, g->w, g->n_w, 0).left == next_count(&at));
+    } else if (!strcmp(line, "advance")) {
+        const CauchySteps s = cauchy_store_advance(g->f, g->n_f, g->w, g->n_w, next_count(&at));
+        CHECK(s.no == 0 && s.done == next_count(&at) && s.left == next_count(&at));
+    } else if (!strcmp(line, "by")) {
+        g->by.kind = (uint32_t)next_count(&at), g->by.target = next_float(&at), g->by.bulk = next_float(&at);
+    } else if (!strcmp(line, "density")) {
+        CauchyVector p;
+        p.x = next_float(&at), p.y = next_float(&at), p.z = next_float(&at);
+        const CauchyValue v = cauchy_store_density(g->f, g->n_f, g->w, g->n_w, g->by, CAUCHY_ALL_LAYERS, p);
+        CHECK(v.no == 0 && next_is(&at, v.value));
+    } else if (!strcmp(line, "report")) {
+        report_line(g, at);
+    } else if (!strcmp(line, "piece")) {
+        CHECK(g->shown < g->pieces);
+        for (int i = 0; i < 6; i++) CHECK(next_is(&at, g->list[6 * g->shown + i]));
+        g->shown++;
+    } else {
+        CHECK(!strcmp(line, "page"));
+        page_line(g, at);
+    }
+}
+
+static void old_snapshot(const char *snapshot, const char *answers) {
+    static Gone g;
+    size_t count, length;
+    uint8_t *had = file_bytes(snapshot, &count);
+    char *text = (char *)file_bytes(answers, &length);
+    const CauchySnapshot s = cauchy_snapshot_look(had, count);
+    CHECK(s.no == 0 && s.bytes == count && s.carried == 1);
+    g.f = (double *)room(8 * s.floats), g.w = (uint32_t *)room(4 * s.words), g.n_f = s.floats, g.n_w = s.words;
+    CHECK(cauchy_snapshot_read(g.f, g.n_f, g.w, g.n_w, had, count).carried == 1);
+    int lines = 0;
+    for (char *line = strtok(text, "\n"); line != NULL; line = strtok(NULL, "\n"), lines++) answer_line(&g, line);
+    CHECK(lines > 100 && g.pieces > 0 && g.shown == g.pieces && g.paged > 0 && g.page_at == g.paged);
+    printf("%d answers as the version before layers gave them, %d checks\n", lines, checks);
+    free(had), free(text), free(g.f), free(g.w);
+}
+
 int main(int count, char **arguments) {
+    if (count == 4 && !strcmp(arguments[1], "--old")) return old_snapshot(arguments[2], arguments[3]), 0;
     if (count == 3) return exchange(arguments[1], arguments[2]), 0;
     const int whole = count == 1;
     texts();
     make_store();
     writing();
     if (whole) float_state();
+    carrying();
     reading();
     damage(whole ? 1 : 31);
     forgeries();

@@ -83,6 +83,39 @@ fn a_stopped_run_goes_on_from_its_snapshot() {
     assert!(["c.csv", "l.csv", "s.svg"].map(|name| folder.read(name)) == whole);
 }
 
+/// A half worked store, as the version before layers wrote it; see `data/make.py`.
+const BEFORE_LAYERS: &[u8] = include_bytes!("data/before-layers.snapshot");
+
+#[test]
+fn a_snapshot_of_the_version_before_layers_is_carried_over_with_a_note() {
+    let folder = Folder::new("before-layers");
+    folder.write("old.snap", BEFORE_LAYERS);
+    let note = "carried over from the form before layers: every kernel in layer 0, pieces and work done as they were";
+    let reads = "--mass 4.5e11 --track t.txt --overwrite --csv c.csv --list l.csv";
+    let files = || ["c.csv", "l.csv"].map(|name| folder.read(name));
+    let said = folder.goes(&format!("resume old.snap {reads} --snapshot whole.snap"));
+    assert!(said.contains(&format!("mesh      of the snapshot old.snap\n          {note}\n")), "{said}");
+    assert!(said.contains(", fitted by an earlier version with an error of "), "{said}");
+    let whole = files();
+    // the snapshot that is kept is of the form with layers, and goes on to the same figures
+    folder.goes("resume old.snap --raw --steps 77 --snapshot part.snap");
+    let said = folder.goes(&format!("resume part.snap {reads} --snapshot whole-too.snap"));
+    assert!(!said.contains("carried over") && said.contains(", fitted by an earlier version "), "{said}");
+    assert!(files() == whole && folder.read("whole-too.snap") == folder.read("whole.snap"));
+    assert!(folder.read("old.snap") == BEFORE_LAYERS);
+
+    folder.fails("page old.snap", 1, "old.snap: unfinished: work is left");
+    // an old store of no vertex, no face and no kernel; its page goes to standard output, and the note to standard error
+    let counts = [1761_u64, 98].map(u64::to_le_bytes).concat();
+    let checksum = 0x85b8_10a7_8262_8a08_u64.to_le_bytes();
+    folder.write("empty.snap", [b"CAUCHY01", &counts[..], &[0; 8 * 1761 + 4 * 98], &checksum].concat());
+    let output = folder.run("page empty.snap");
+    assert_eq!(String::from_utf8(output.stdout).unwrap(), format!("TOTAL{:>59}\n", 0));
+    assert_eq!(String::from_utf8(output.stderr).unwrap(), format!("cauchy: empty.snap: note: {note}\n"));
+    folder.write("cut.snap", &BEFORE_LAYERS[..1000]);
+    folder.fails("resume cut.snap --raw", 1, "cut.snap: damaged: bytes are missing");
+}
+
 #[test]
 fn the_bill_comes_before_the_work() {
     let folder = Folder::new("bill");

@@ -2,7 +2,7 @@
 //! the store holds ("Readings use pieces and volumes as the store holds them"). Written from 01's text, sharing nothing with the proved
 //! code but the powers.
 use crate::conventions::{Convention, Reading, Report, write_list, write_track};
-use crate::machine::{ALL_LAYERS, CORNERS, RECORD, in_set, set_number, squeezed};
+use crate::machine::{ALL_LAYERS, CORNERS, OLD_RECORD, RECORD, corners, in_set, room, set_number, squeezed};
 use crate::page::{self, Row};
 use crate::pieces::Kernel;
 use crate::recorder::{Fit, watched};
@@ -10,17 +10,34 @@ use crate::text::{ByArchive, Text, volume_on};
 
 /// Rows 4 and 5, of a store given to a call; 0 where it is sound.
 pub fn store_number(floats: &[f64], words: &[u32]) -> u32 {
-    if words.len() < CORNERS {
+    store_number_in(RECORD, floats, words)
+}
+
+/// The same of a store in a form with so many words to a place.
+pub fn store_number_in(record: usize, floats: &[f64], words: &[u32]) -> u32 {
+    if words.len() < corners(record) {
         return 4;
     }
     let (v, f) = (u64::from(words[0]), u64::from(words[1]));
-    if (floats.len() as u64) < 1_761 + 3 * v || (words.len() as u64) < CORNERS as u64 + 3 * f {
+    if (floats.len() as u64) < 1_761 + 3 * v || (words.len() as u64) < corners(record) as u64 + 3 * f {
         return 4;
     }
     let in_limit = v <= 1_048_576 && f <= 2_097_152;
-    let places = || words[2..CORNERS].chunks(RECORD).all(|s| place_sound(s[0], s[1], s[2], words[1]) && layer_sound(s[0], s[3]));
-    let corners = || words[CORNERS..][..3 * f as usize].iter().all(|i| *i < words[0]);
-    if in_limit && places() && corners() { 0 } else { 5 }
+    let sound = |s: &[u32]| place_sound(s[0], s[1], s[2], words[1]) && s.get(3).is_none_or(|layer| layer_sound(s[0], *layer));
+    let places = || words[2..corners(record)].chunks(record).all(sound);
+    let named = || words[corners(record)..][..3 * f as usize].iter().all(|i| *i < words[0]);
+    if in_limit && places() && named() { 0 } else { 5 }
+}
+
+/// 02's L6: "Unsound and short-store refusals apply to the old runs as in 01, and 4 to new runs below L5's lengths".
+pub fn carry_number(old_floats: &[f64], old_words: &[u32], floats: usize, words: usize) -> u32 {
+    match store_number_in(OLD_RECORD, old_floats, old_words) {
+        4 => 4,
+        no => {
+            let (need_floats, need_words) = room(old_words[0] as usize, old_words[1] as usize);
+            if floats < need_floats || words < need_words { 4 } else { no }
+        }
+    }
 }
 
 /// "status ≤ 17, empty means two zeros, finished ≤ pieces, faces done 0 if all are finished and else below F".
@@ -46,6 +63,17 @@ pub struct Held {
 }
 
 impl Held {
+    /// 02's L6: a sound store of the form before layers "into the new one [..] with every kernel in layer 0": without excess.
+    pub fn carried(old_floats: &[f64], old_words: &[u32]) -> Held {
+        let mut words = old_words[..2].to_vec();
+        for state in old_words[2..corners(OLD_RECORD)].chunks(OLD_RECORD) {
+            words.extend_from_slice(state);
+            words.push(0);
+        }
+        words.extend_from_slice(&old_words[corners(OLD_RECORD)..][..3 * old_words[1] as usize]);
+        Held { floats: old_floats[..1_761 + 3 * old_words[0] as usize].to_vec(), words }
+    }
+
     fn sound(&self) -> Result<(), u32> {
         match store_number(&self.floats, &self.words) {
             0 => Ok(()),

@@ -3,7 +3,7 @@ use crate::cases::{self, either_sign, near, odd, one};
 use crate::conventions::{Convention, MASS, RAW, RHO0, Report};
 use crate::held::Held;
 use crate::inputs::{self, Rng};
-use crate::machine::{ALL_LAYERS, Machine};
+use crate::machine::{ALL_LAYERS, Machine, RECORD};
 use crate::page;
 use crate::pieces::Kernel;
 use crate::recorder::Fit;
@@ -366,6 +366,11 @@ pub fn track(r: &mut Rng) -> Call {
 
 /// A sound store that nobody opened: places in any state that 01 calls sound, floats of any kind where no mesh stands.
 pub fn unopened(r: &mut Rng, body: &Body) -> Held {
+    unopened_in(RECORD, r, body)
+}
+
+/// The two runs of such a store in a form with so many words to a place.
+pub fn unopened_in(record: usize, r: &mut Rng, body: &Body) -> Held {
     let (verts, faces) = (body.xyz.len() / 3, body.faces.len() / 3);
     let mut floats: Vec<f64> = (0..1_761).map(|_| cases::value(r, 10.0)).collect();
     let mut words = vec![verts as u32, faces as u32];
@@ -375,7 +380,7 @@ pub fn unopened(r: &mut Rng, body: &Body) -> Held {
         let finished = if faces == 0 { pieces } else { r.below(pieces + 1) };
         let done = if finished == pieces { 0 } else { r.below(faces as u64) };
         let layer = if status == 0 { 0 } else { r.below(16) };
-        words.extend([status, finished, done, layer].map(|x| x as u32));
+        words.extend([status, finished, done, layer][..record].iter().map(|x| *x as u32));
         let alpha = near(r, 1.0 + 1e-9, 3);
         if r.below(2) == 0 {
             floats[1 + 7 * i + 5] = alpha;

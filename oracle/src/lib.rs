@@ -59,6 +59,11 @@ unsafe extern "C" {
     pub safe fn cauchy_radial_g(t: f64) -> f64;
 }
 
+/// 01's "T(y) = E(y·3.321928094887362)" for every y, as it was before 02's L2.
+pub fn ten_before(y: f64) -> f64 {
+    cauchy_exp(y * 3.321928094887362)
+}
+
 /// The bits by which results are compared: every NaN counts as one (01), signs of zero and infinity do not.
 /// To the compiler all NaNs are alike, so where it sees the float's making it drops a step that only folds them: this one stays behind a
 /// call and looks at the bits.

@@ -13,7 +13,15 @@ use std::rc::Rc;
 pub const PLACES: usize = 32;
 /// 02's L5: "place records grow from three words to four, with the layer last [..] Corners then start at word 130".
 pub const RECORD: usize = 4;
-pub const CORNERS: usize = 130;
+pub const CORNERS: usize = corners(RECORD);
+/// The words of a place in the form before that, which 02's L6 carries over.
+pub const OLD_RECORD: usize = 3;
+
+/// The word at which corners start, by the words of a place.
+pub const fn corners(record: usize) -> usize {
+    2 + PLACES * record
+}
+
 /// The set of all sixteen layers; bit l is layer l.
 pub const ALL_LAYERS: u32 = 0xFFFF;
 pub const VERTS: usize = 1_048_576;
@@ -48,12 +56,14 @@ pub fn squeezed(xyz: &[f64], faces: &[u32]) -> (Vec<f64>, Vec<u32>) {
     (kept, corners)
 }
 
-/// A filled place: its kernel, its layer and the steps done on it.
-#[derive(Clone, Copy, Debug)]
+/// A filled place: its kernel, its layer and the steps done on it. 02's L6, of a kernel that was carried over: "demand 3's machine and
+/// fresh working start from those pieces and the error held with them".
+#[derive(Clone)]
 struct Filled {
     kernel: Kernel,
     layer: u32,
     p: u64,
+    carried: Option<Rc<Known>>,
 }
 
 /// Whether a layer is in a set.
@@ -94,12 +104,27 @@ impl<T: Text> Machine<T> {
             xyz: xyz.to_vec(),
             faces: faces.to_vec(),
             radius,
-            places: [None; PLACES],
+            places: [const { None }; PLACES],
             charged: 0,
             dropped: 0,
             known: RefCell::default(),
             text: PhantomData,
         }
+    }
+
+    /// 02's L6, after a carry: "its machine with the mesh, radius, places and steps carried, and its charged with the left that goes
+    /// across". Every kernel is in layer 0, with the pieces that the old machine has of it.
+    pub fn carried<U: Text>(old: &Machine<U>) -> Machine<T> {
+        let mut machine = Machine::open(&old.xyz, &old.faces, old.radius);
+        for (at, place) in machine.places.iter_mut().zip(&old.places) {
+            *at = place.as_ref().map(|from| {
+                let Known { pieces, error, fit, .. } = &*old.known_of(from);
+                let known = Known { pieces: pieces.clone(), error: *error, fit: *fit, volumes: RefCell::default() };
+                Filled { carried: Some(Rc::new(known)), layer: 0, ..from.clone() }
+            });
+        }
+        machine.charged = machine.left();
+        machine
     }
 
     /// F.
@@ -116,14 +141,19 @@ impl<T: Text> Machine<T> {
         self.known.borrow_mut().entry(key).or_insert_with(work).clone()
     }
 
+    /// What a filled place's decomposition is.
+    fn known_of(&self, at: &Filled) -> Rc<Known> {
+        at.carried.clone().unwrap_or_else(|| self.known(&at.kernel))
+    }
+
     /// "pieces is how many its decomposition gives, need = pieces times F".
-    fn need(&self, k: &Kernel) -> u64 {
-        self.known(k).pieces.len() as u64 * self.face_count() as u64
+    fn need(&self, known: &Known) -> u64 {
+        known.pieces.len() as u64 * self.face_count() as u64
     }
 
     /// The steps that a place has left.
     fn owed(&self, place: usize) -> u64 {
-        self.places[place].map_or(0, |at| self.need(&at.kernel) - at.p)
+        self.places[place].as_ref().map_or(0, |at| self.need(&self.known_of(at)) - at.p)
     }
 
     /// "left, the sum of need - p".
@@ -137,8 +167,8 @@ impl<T: Text> Machine<T> {
     }
 
     /// What a reading of these layers sees of a place: "sees only places in it".
-    fn seen(&self, layers: u32, place: usize) -> Option<Filled> {
-        self.places[place].filter(|at| in_set(layers, at.layer))
+    fn seen(&self, layers: u32, place: usize) -> Option<&Filled> {
+        self.places[place].as_ref().filter(|at| in_set(layers, at.layer))
     }
 
     /// Row 6.
@@ -159,11 +189,11 @@ impl<T: Text> Machine<T> {
         if layer > 15 {
             return Err(16);
         }
-        let need = self.need(&kernel);
+        let known = self.known(&kernel);
+        let need = self.need(&known);
         self.charged += need;
         self.dropped += self.owed(i);
-        self.places[i] = Some(Filled { kernel, layer, p: 0 });
-        let known = self.known(&kernel);
+        self.places[i] = Some(Filled { kernel, layer, p: 0, carried: None });
         Ok((known.pieces.len() as u32, need as u32, known.fit))
     }
 
@@ -198,13 +228,29 @@ impl<T: Text> Machine<T> {
     pub fn squeeze(&mut self) -> u32 {
         let before = self.xyz.len();
         (self.xyz, self.faces) = squeezed(&self.xyz, &self.faces);
-        self.known.borrow().values().for_each(|known| known.volumes.borrow_mut().clear());
+        let carried = self.places.iter().flatten().filter_map(|at| at.carried.as_ref());
+        self.known.borrow().values().chain(carried).for_each(|known| known.volumes.borrow_mut().clear());
         (before - self.xyz.len()) as u32
     }
 
-    /// The kernels of the filled places in these layers, in order.
-    fn kernels(&self, layers: u32) -> Vec<Kernel> {
-        (0..PLACES).filter_map(|i| self.seen(layers, i)).map(|at| at.kernel).collect()
+    /// The filled places in these layers, in order.
+    fn all_seen(&self, layers: u32) -> Vec<&Filled> {
+        (0..PLACES).filter_map(|i| self.seen(layers, i)).collect()
+    }
+
+    /// The pieces of these places, in order, and the greatest error: afresh, or from the pieces that were carried over.
+    fn decomposed(&self, places: &[&Filled]) -> (Vec<Kernel>, f64) {
+        let (mut pieces, mut most) = (Vec::new(), 0.0);
+        for alike in places.chunk_by(|a, b| a.carried.is_none() && b.carried.is_none()) {
+            let kernels: Vec<Kernel> = alike.iter().map(|at| at.kernel).collect();
+            let (more, error) = match &alike[0].carried {
+                Some(known) => (known.pieces.iter().map(|p| Kernel { w: kernels[0].w * p.w, ..*p }).collect(), known.error),
+                None => T::decompose(&kernels, self.radius),
+            };
+            pieces.extend(more);
+            most = if error > most { error } else { most };
+        }
+        (pieces, most)
     }
 
     /// 16, then row 8.
@@ -215,7 +261,7 @@ impl<T: Text> Machine<T> {
 
     /// The rescaled pieces, afresh.
     fn rescaled(&self, by: Convention, layers: u32) -> Vec<Kernel> {
-        let (pieces, _) = T::decompose(&self.kernels(layers), self.radius);
+        let (pieces, _) = self.decomposed(&self.all_seen(layers));
         by.rescaled::<T>(&pieces, || T::kernel_field_mass(&self.xyz, &self.faces, &pieces))
     }
 
@@ -226,11 +272,11 @@ impl<T: Text> Machine<T> {
 
     pub fn report(&self, by: Convention, layers: u32) -> Result<Report, u32> {
         self.finished_for(Reading::Report, by, layers)?;
-        let kernels = self.kernels(layers);
-        let (pieces, error) = T::decompose(&kernels, self.radius);
+        let places = self.all_seen(layers);
+        let (pieces, error) = self.decomposed(&places);
         let raw_mass = T::kernel_field_mass(&self.xyz, &self.faces, &pieces);
         let mass = by.mass::<T>(&pieces, raw_mass, T::body_volume(&self.xyz, &self.faces));
-        Ok(Report { mass, kernels: kernels.len() as u32, pieces: pieces.len() as u32, error })
+        Ok(Report { mass, kernels: places.len() as u32, pieces: pieces.len() as u32, error })
     }
 
     /// 02's L7: "It covers only the places whose steps are complete, and says how many filled places of its layers it passed over. It
@@ -241,7 +287,7 @@ impl<T: Text> Machine<T> {
         let mut passed = 0;
         for place in (0..PLACES).filter(|place| self.seen(layers, *place).is_some()) {
             match self.owed(place) {
-                0 => just.places[place] = self.places[place],
+                0 => just.places[place] = self.places[place].clone(),
                 _ => passed += 1,
             }
         }
@@ -263,7 +309,7 @@ impl<T: Text> Machine<T> {
     /// 02's L8: "The mass is the place's own field mass", afresh.
     pub fn page_rows(&self) -> Vec<Row> {
         let row = |(place, at): (usize, &Option<Filled>)| {
-            let (pieces, _) = T::decompose(&[at.as_ref()?.kernel], self.radius);
+            let (pieces, _) = self.decomposed(&[at.as_ref()?]);
             Some(Row { place, pieces: pieces.len(), mass: T::kernel_field_mass(&self.xyz, &self.faces, &pieces) })
         };
         self.places.iter().enumerate().filter_map(row).collect()
@@ -281,7 +327,7 @@ impl<T: Text> Machine<T> {
 
     /// How many pieces the filled places have.
     pub fn piece_count(&self) -> usize {
-        self.kernels(ALL_LAYERS).iter().map(|k| self.known(k).pieces.len()).sum()
+        self.places.iter().flatten().map(|at| self.known_of(at).pieces.len()).sum()
     }
 
     /// The volume so far: `kernel_volume` over a piece's first faces.
@@ -293,13 +339,19 @@ impl<T: Text> Machine<T> {
 
     /// 01's fields of both runs, without excess.
     pub fn fields(&self) -> (Vec<f64>, Vec<u32>) {
-        let (mut floats, mut words) = (vec![0.0; 1_761], vec![0; CORNERS]);
+        self.fields_in(RECORD)
+    }
+
+    /// The same in a form with so many words to a place; that of three has no layer.
+    pub fn fields_in(&self, record: usize) -> (Vec<f64>, Vec<u32>) {
+        let (mut floats, mut words) = (vec![0.0; 1_761], vec![0; corners(record)]);
         floats[0] = self.radius;
         words[0] = (self.xyz.len() / 3) as u32;
         words[1] = self.face_count() as u32;
         for (i, at) in self.places.iter().enumerate() {
             if let Some(at) = at {
-                self.place_fields(i, at, &mut floats, &mut words);
+                let state = self.place_fields(i, at, &mut floats);
+                words[2 + record * i..][..record].copy_from_slice(&state[..record]);
             }
         }
         floats.extend_from_slice(&self.xyz);
@@ -307,8 +359,9 @@ impl<T: Text> Machine<T> {
         (floats, words)
     }
 
-    fn place_fields(&self, i: usize, at: &Filled, floats: &mut [f64], words: &mut [u32]) {
-        let (k, known, all) = (at.kernel, self.known(&at.kernel), self.face_count());
+    /// The floats of a place; its words: status, pieces finished, faces done, layer.
+    fn place_fields(&self, i: usize, at: &Filled, floats: &mut [f64]) -> [u32; RECORD] {
+        let (k, known, all) = (at.kernel, self.known_of(at), self.face_count());
         let count = known.pieces.len();
         // with no face every piece is finished
         let (finished, done) = match all {
@@ -325,6 +378,6 @@ impl<T: Text> Machine<T> {
             let so_far = self.volume(&known, j, faces);
             floats[225 + 48 * i + 3 * j..][..3].copy_from_slice(&[piece.sigma, piece.w, so_far]);
         }
-        words[2 + RECORD * i..][..RECORD].copy_from_slice(&[1 + count as u32, finished as u32, done as u32, at.layer]);
+        [1 + count as u32, finished as u32, done as u32, at.layer]
     }
 }

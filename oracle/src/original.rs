@@ -4,6 +4,7 @@
 //! |---|---|
 //! | [`native`], [`source`] | 01's, by the archive's C functions |
 //! | [`native_steps`], [`source_steps`] | 01's, by the second transcription |
+//! | [`native_before`] | 01's, by the archive's C functions, and ten to a power without 02's L2 |
 //! | [`native_platform`] | the platform's: the text unchanged |
 //!
 //! Beside the text each has doors to the functions that are private in it.
@@ -44,6 +45,7 @@ macro_rules! functions {
 }
 
 functions!(archive, crate::cauchy_root, crate::cauchy_arc, crate::cauchy_power, crate::cauchy_log10, crate::cauchy_ten);
+functions!(before_tens, crate::cauchy_root, crate::cauchy_arc, crate::cauchy_power, crate::cauchy_log10, crate::ten_before);
 functions!(transcribed, crate::steps::root, crate::steps::arc, crate::steps::power, crate::steps::log10, crate::steps::ten);
 
 /// The doors to a native module's private functions.
@@ -93,6 +95,13 @@ pub mod native {
 #[allow(dead_code, clippy::all)]
 pub mod native_steps {
     use super::transcribed::{Functions, ten};
+    include!(concat!(env!("OUT_DIR"), "/native.rs"));
+    native_doors!();
+}
+
+#[allow(dead_code, clippy::all)]
+pub mod native_before {
+    use super::before_tens::{Functions, ten};
     include!(concat!(env!("OUT_DIR"), "/native.rs"));
     native_doors!();
 }

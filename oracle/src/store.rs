@@ -1,7 +1,7 @@
 //! The archive's calls on a store. A store is two lent runs, floats and words.
 use crate::pieces::{Fit, Kernel};
 
-/// What an opening answers: 01's number of a refusal or 0, vertices, faces.
+/// What an opening and a carry answer: 01's number of a refusal or 0, vertices, faces.
 #[repr(C)]
 #[derive(Clone, Copy, Debug, PartialEq, Eq)]
 pub struct Opened {
@@ -49,6 +49,16 @@ unsafe extern "C" {
         faces: *const u32,
         faces_len: usize,
     ) -> Opened;
+    fn cauchy_store_carry(
+        old_floats: *const f64,
+        old_floats_len: usize,
+        old_words: *const u32,
+        old_words_len: usize,
+        floats: *mut f64,
+        floats_len: usize,
+        words: *mut u32,
+        words_len: usize,
+    ) -> Opened;
     fn cauchy_store_put(
         floats: *mut f64,
         floats_len: usize,
@@ -69,6 +79,12 @@ unsafe extern "C" {
 pub fn open(floats: &mut [f64], words: &mut [u32], radius: f64, xyz: &[f64], faces: &[u32]) -> Opened {
     let (f, w) = (floats.as_mut_ptr(), words.as_mut_ptr());
     unsafe { cauchy_store_open(f, floats.len(), w, words.len(), radius, xyz.as_ptr(), xyz.len(), faces.as_ptr(), faces.len()) }
+}
+
+pub fn carry(old_floats: &[f64], old_words: &[u32], floats: &mut [f64], words: &mut [u32]) -> Opened {
+    let (old_f, old_w) = (old_floats.as_ptr(), old_words.as_ptr());
+    let (f, w) = (floats.as_mut_ptr(), words.as_mut_ptr());
+    unsafe { cauchy_store_carry(old_f, old_floats.len(), old_w, old_words.len(), f, floats.len(), w, words.len()) }
 }
 
 pub fn put(floats: &mut [f64], words: &mut [u32], place: u32, k: Kernel, layer: u32) -> Placed {

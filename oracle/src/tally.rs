@@ -1,5 +1,6 @@
 //! What a comparison counts, and how much it is asked to compare.
 use crate::inputs::Rng;
+use std::collections::BTreeMap;
 
 /// What the command line asks for.
 pub struct Plan {
@@ -79,5 +80,46 @@ impl Tally {
         if self.differ > 0 {
             std::process::exit(1);
         }
+    }
+}
+
+/// How often each kind of case was met.
+#[derive(Default)]
+pub struct Kinds(BTreeMap<String, u64>);
+
+impl Kinds {
+    pub fn many(&mut self, name: impl Into<String>, times: u64) {
+        *self.0.entry(name.into()).or_default() += times;
+    }
+
+    /// Those that are true.
+    pub fn met(&mut self, kinds: &[(&str, bool)]) {
+        kinds.iter().filter(|kind| kind.1).for_each(|kind| self.many(kind.0, 1));
+    }
+
+    pub fn times(&self, name: &str) -> u64 {
+        self.0.get(name).copied().unwrap_or(0)
+    }
+
+    pub fn add(&mut self, other: Kinds) {
+        other.0.into_iter().for_each(|(name, times)| self.many(name, times));
+    }
+
+    /// How often each of some was met.
+    pub fn text(&self, names: &[&str]) -> String {
+        names.iter().map(|name| format!("{} {name}", self.times(name))).collect::<Vec<_>>().join(", ")
+    }
+
+    /// A comparison that seldom meets a kind says little of it: each must be met so often.
+    pub fn all_met(&self, what: &str, kinds_of: &str, names: &[impl AsRef<str>], least: u64) -> Tally {
+        let mut tally = Tally::new();
+        let names: Vec<&str> = names.iter().map(AsRef::as_ref).collect();
+        for name in &names {
+            let times = self.times(name);
+            tally.count(times < least.max(1), || format!("only {times} {kinds_of}: {name}"));
+        }
+        let rarest = names.into_iter().min_by_key(|name| self.times(name)).unwrap_or_default();
+        tally.line(what, &format!("kinds of {kinds_of} that must be met"), &format!("the rarest {} {rarest}", self.times(rarest)));
+        tally
     }
 }

@@ -1,6 +1,6 @@
-//! The original's functions that a store's machine rests on, by either text: with 01's powers by the archive, or by the second
-//! transcription.
-use crate::original::{native, native_steps};
+//! The original's functions that a store's machine rests on, by any of its texts: with 01's powers by the archive, or by the second
+//! transcription, or by the archive but without 02's L2, as stores were worked before it.
+use crate::original::{native, native_before, native_steps};
 use crate::pieces::Kernel;
 
 pub trait Text {
@@ -49,6 +49,7 @@ macro_rules! text {
 
 text!(ByArchive, native);
 text!(ByTranscription, native_steps);
+text!(BeforeTens, native_before);
 
 /// `kernel_volume`'s running sum, brought on from `sum` over the faces `from` to `to`: the original's loop, which starts at 0 and at the
 /// first face, written again over its own quadrature and helpers. It is asked where a store holds a volume that no such sum gave.

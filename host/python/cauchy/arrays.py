@@ -185,6 +185,10 @@ class Run:
         """Where the items are; 0 where there is none."""
         return 0 if self.first is None else addressof(self.first)
 
+    def head(self, count: int, code: str) -> List[Any]:
+        """The first items, as `array` has them by their code; fewer where there are fewer."""
+        return array(code, string_at(self.address(), self.size * min(count, self.count))).tolist()
+
 
 def _of(memory: Any, count: int, kind: _Kind) -> Run:
     """The run of a writable buffer that has the library's layout."""

@@ -16,6 +16,7 @@ MAX_PIECES = 16
 MAX_TRACK = 4096
 FLOATS_BEFORE_MESH = 1761
 WORDS_BEFORE_MESH = 130
+OLD_WORDS_BEFORE_MESH = 98  # of the form before layers: three words to a place
 LAYERS = 16
 ALL_LAYERS = 0xFFFF
 
@@ -137,6 +138,7 @@ _STORE = _MESH = (*_FLOATS, *_WORDS)
 # Each function without its "cauchy_": what it answers, then its arguments.
 PROTOTYPES: Dict[str, Tuple[Any, ...]] = {
     "store_open": (CauchyOpened, *_STORE, c_double, *_MESH),
+    "store_carry": (CauchyOpened, *_STORE, *_STORE),
     "store_put": (CauchyPlaced, *_STORE, c_uint32, CauchyKernel, c_uint32),
     "store_clear": (c_uint32, *_STORE, c_uint32),
     "store_reweigh": (c_uint32, *_STORE, c_uint32, c_double),

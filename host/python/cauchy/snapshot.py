@@ -2,7 +2,8 @@
 
 A snapshot is, numbers with their lowest byte first: the eight bytes `CAUCHY02`; the count of floats and the count of
 words, eight bytes each; the floats, eight bytes each, by their bits; the words, four bytes each; and the CRC-64/XZ of
-all bytes before it, eight bytes.
+all bytes before it, eight bytes. One that begins with `CAUCHY01` is the same in the form before layers, with three words
+to a place: it is read too, and its store carried over; none is written.
 """
 import struct
 from functools import lru_cache
@@ -11,15 +12,15 @@ from typing import Any, List, Tuple
 from .memory import Runs
 
 _MAGIC = b"CAUCHY02"
-_OLDER_MAGIC = b"CAUCHY01"  # of the form before layers, with three words to a place
+_OLD_MAGIC = b"CAUCHY01"
 _HEAD = struct.Struct("<8sQQ")
 _CHECKSUM = struct.Struct("<Q")
 
 
 class SnapshotError(ValueError):
-    """Bytes were not taken as a snapshot. `fault` says why: "foreign" (they do not begin as one), "older" (they are
-    one of the form before layers), "length" (they are fewer or more than their counts say), "checksum" (it does not
-    fit), or "refused" (they are whole, but hold no store; the refusal is the `__cause__`).
+    """Bytes were not taken as a snapshot. `fault` says why: "foreign" (they do not begin as one), "length" (they are
+    fewer or more than their counts say), "checksum" (it does not fit), or "refused" (they are whole, but hold no
+    store; the refusal is the `__cause__`).
 
     >>> Store.from_bytes(b"v 0 0 0")
     Traceback (most recent call last):
@@ -28,7 +29,6 @@ class SnapshotError(ValueError):
 
     _SAID = {
         "foreign": "not a snapshot of a store",
-        "older": "a snapshot of the form before layers, which this version does not read",
         "length": "damaged: bytes are missing, or there are too many",
         "checksum": "damaged: its checksum does not fit its bytes",
         "refused": "whole, but no store",
@@ -50,8 +50,8 @@ def write(runs: Runs) -> bytes:
     return body + _CHECKSUM.pack(crc64(memoryview(body)))
 
 
-def read(data: Any) -> Runs:
-    """The two runs of a snapshot whose checksum fits."""
+def read(data: Any) -> Tuple[Runs, bool]:
+    """The two runs of a snapshot whose checksum fits, and whether it is of the form before layers."""
     try:
         given = memoryview(data).cast("B")
     except TypeError:
@@ -64,14 +64,12 @@ def read(data: Any) -> Runs:
     middle = _HEAD.size + 8 * n_floats
     runs.floats.cast("B")[:] = covered[_HEAD.size:middle]
     runs.words.cast("B")[:] = covered[middle:]
-    return runs
+    return runs, bytes(given[:8]) == _OLD_MAGIC
 
 
 def _counts(given: memoryview) -> Tuple[int, int]:
     """The counts of floats and words, which fit the bytes."""
-    if bytes(given[:8]) == _OLDER_MAGIC:
-        raise SnapshotError("older")
-    if bytes(given[:8]) != _MAGIC:
+    if bytes(given[:8]) not in (_MAGIC, _OLD_MAGIC):
         raise SnapshotError("foreign")
     if len(given) < _HEAD.size:
         raise SnapshotError("length")

@@ -4,7 +4,8 @@ from typing import Any, Collection, Iterator, List, Optional, Tuple, Union, over
 
 from . import arrays, snapshot
 from .library import (
-    ALL_LAYERS, FLOATS_BEFORE_MESH, LAYERS, MAX_PIECES, MAX_TRACK, PAGE_LINE, PLACES, WORDS_BEFORE_MESH, call,
+    ALL_LAYERS, FLOATS_BEFORE_MESH, LAYERS, MAX_PIECES, MAX_TRACK, OLD_WORDS_BEFORE_MESH, PAGE_LINE, PLACES,
+    WORDS_BEFORE_MESH, call,
 )
 from .memory import Runs
 from .refusals import NoPlace, Refused, Unsound, check_float_state
@@ -57,9 +58,10 @@ class Store:
     cauchy.NoPlace: no place: the places are 0 to 31 (no 6)
     """
 
-    __slots__ = ("_runs", "_turns", "__weakref__")
+    __slots__ = ("_runs", "_turns", "_carried", "__weakref__")
     _runs: Runs
     _turns: Turns
+    _carried: bool
 
     def __init__(self, radius: float, vertices: arrays.Items, faces: arrays.Items) -> None:
         check_float_state()
@@ -67,7 +69,40 @@ class Store:
         xyz, corners = arrays.floats(vertices, "vertices", 3), arrays.words(faces, "faces", 3)
         runs = Runs(FLOATS_BEFORE_MESH + xyz.count, WORDS_BEFORE_MESH + corners.count)
         call("store_open", *runs.lent(), size, *xyz.lent(), *corners.lent())
-        self._runs, self._turns = runs, Turns()
+        self._runs, self._turns, self._carried = runs, Turns(), False
+
+    @classmethod
+    def carry_from_old(cls, floats: arrays.Items, words: arrays.Items) -> "Store":
+        """Carries a store of the form before layers over, which had three words to a place: a store like it, with every
+        kernel in layer 0 and all work as far as it was done. Nothing is fitted anew: pieces go across as they are held,
+        also those of a version whose powers were others. The two runs are flat arrays and only read; what they have past
+        the old store's own is left behind. `from_bytes` does the same with a snapshot of that form.
+
+        >>> from array import array
+        >>> floats, words = array("d", [0.0] * (1761 + 3 * 3)), array("I", [0] * (98 + 3 * 4))
+        >>> words[0], words[1] = 3, 4                                           # vertices and faces
+        >>> floats[1 + 7 * 7:1 + 7 * 7 + 6] = array("d", [0, 0, 0, 0.01, 300, 1])  # the kernel of place 7,
+        >>> floats[225 + 48 * 7:225 + 48 * 7 + 3] = array("d", [0.01, 1, 0])       # its piece,
+        >>> words[2 + 3 * 7:2 + 3 * 7 + 3] = array("I", [2, 0, 3])                 # of whose faces 3 are done
+        >>> store = Store.carry_from_old(floats, words)
+        >>> store.carried, store.left(), store.held(7).layer, store.density(RAW, (0, 0, 0))
+        (True, 1, 0, 300.0)
+        >>> Store.carry_from_old(floats, words[:97])
+        Traceback (most recent call last):
+        cauchy.ShortStore: short store: a run is too short for its mesh (no 4)
+        """
+        check_float_state()
+        return cls._carry(arrays.floats(floats, "floats", 1), arrays.words(words, "words", 1))
+
+    @classmethod
+    def _carry(cls, floats: arrays.Run, words: arrays.Run) -> "Store":
+        """The store of two runs of the form before layers."""
+        verts, faces = (words.head(2, "I") + [0, 0])[:2]
+        # old runs that are too short for these counts are refused: so no more is needed than they have
+        n_words = words.count + WORDS_BEFORE_MESH - OLD_WORDS_BEFORE_MESH
+        runs = Runs(min(floats.count, FLOATS_BEFORE_MESH + 3 * verts), min(n_words, WORDS_BEFORE_MESH + 3 * faces))
+        call("store_carry", *floats.lent(), *words.lent(), *runs.lent())
+        return cls._of(runs, True)
 
     def _call(self, name: str, *arguments: Any) -> Any:
         """Calls a function of the library on this store, in its turn."""
@@ -334,6 +369,17 @@ class Store:
         return array("d", xyz.tobytes()), array("I", corners.tobytes())
 
     @property
+    def carried(self) -> bool:
+        """Whether the store was carried over from the form before layers, by `carry_from_old` or, from a snapshot of that
+        form, by `from_bytes`. Copies know it too, and snapshots and pickles of this store do not: they are of the form with
+        layers.
+
+        >>> Store(500, [0] * 9, [0, 1, 2]).carried
+        False
+        """
+        return self._carried
+
+    @property
     def radius(self) -> float:
         """The body's radius, m, as the store was opened with."""
         return float(self._runs.floats[0])
@@ -376,7 +422,8 @@ class Store:
 
     @classmethod
     def from_bytes(cls, data: Union[bytes, bytearray, memoryview]) -> "Store":
-        """The store of a snapshot, from which it goes on. `SnapshotError` where the bytes are not one.
+        """The store of a snapshot, from which it goes on. `SnapshotError` where the bytes are not one. The store of a
+        snapshot of the form before layers is carried over, as by `carry_from_old`, and has `carried` set.
 
         >>> data = bytearray(Store(500, [0] * 9, [0, 1, 2]).to_bytes())
         >>> data[100] ^= 1
@@ -385,32 +432,36 @@ class Store:
         cauchy.SnapshotError: damaged: its checksum does not fit its bytes
         """
         check_float_state()
-        store = cls._of(snapshot.read(data))
+        runs, old = snapshot.read(data)
         try:
-            store._check()
+            return cls._from_old(runs) if old else cls._from_runs(runs)
         except Refused as refusal:
             raise snapshot.SnapshotError("refused") from refusal
+
+    @classmethod
+    def _from_runs(cls, runs: Runs) -> "Store":
+        """The store of runs that are a sound store as an opening and squeezes leave it."""
+        store = cls._of(runs, False)
+        store.left()
+        _check_excess(runs, WORDS_BEFORE_MESH)
+        return store
+
+    @classmethod
+    def _from_old(cls, runs: Runs) -> "Store":
+        """The store of such runs of the form before layers."""
+        store = cls._carry(arrays.floats(runs.floats, "floats", 1), arrays.words(runs.words, "words", 1))
+        _check_excess(runs, OLD_WORDS_BEFORE_MESH)
         return store
 
     def copy(self) -> "Store":
         """A store like this one, with memory of its own."""
-        return self._of(self._turns.run(False, self._runs.copy))
+        return self._of(self._turns.run(False, self._runs.copy), self._carried)
 
     @classmethod
-    def _of(cls, runs: Runs) -> "Store":
+    def _of(cls, runs: Runs, carried: bool) -> "Store":
         store = cls.__new__(cls)
-        store._runs, store._turns = runs, Turns()
+        store._runs, store._turns, store._carried = runs, Turns(), carried
         return store
-
-    def _check(self) -> None:
-        """Refuses runs that are no sound store as an opening and squeezes leave it: past the mesh there is no word,
-        and no float but the zeros of whole vertices."""
-        self.left()
-        verts, faces = self._runs.words[:2]
-        freed = self._runs.floats[FLOATS_BEFORE_MESH + 3 * verts:]
-        exact = len(self._runs.words) == WORDS_BEFORE_MESH + 3 * faces
-        if not exact or len(freed) % 3 != 0 or any(freed.cast("B")):
-            raise Unsound()
 
     def __copy__(self) -> "Store":
         return self.copy()
@@ -420,6 +471,16 @@ class Store:
 
     def __reduce__(self) -> Tuple[Any, ...]:
         return type(self).from_bytes, (self.to_bytes(),)
+
+
+def _check_excess(runs: Runs, before_mesh: int) -> None:
+    """Refuses the runs of a sound store, of either form, that have past the mesh a word, or a float that is not of the
+    zeros of whole vertices that squeezes have freed."""
+    verts, faces = runs.words[:2]
+    freed = runs.floats[FLOATS_BEFORE_MESH + 3 * verts:]
+    exact = len(runs.words) == before_mesh + 3 * faces
+    if not exact or len(freed) % 3 != 0 or any(freed.cast("B")):
+        raise Unsound()
 
 
 def _place(place: int) -> int:

@@ -89,6 +89,8 @@ RIGHT = {
     "count": lambda pick: pick.choice((0, 4, 1048576, 1048577, 2**32, 2**64, -1)),
     "lines": lambda pick: pick.choice((b"", LINE, LINE * 3, LINE[:-1], ZERO_LINE)),
     "loader": lambda pick: pick.choice(list(Loader)),
+    "floats": lambda pick: array("d", bytes(8 * pick.choice((0, 1760, 1761, 1800)))),
+    "words": lambda pick: array("I", bytes(4 * pick.choice((0, 97, 98, 130)))),
     "bytes": lambda pick: pick.choice((Store(1, [], []).to_bytes(), b"CAUCHY02", b"x" * 40)),
 }
 
@@ -98,7 +100,7 @@ METHODS = {
     "track": "convention points layers", "report": "convention layers", "finished": "convention layers", "list": "convention layers", "page": "", "held": "place", "mesh": "", "to_bytes": "", "copy": "",
 }
 FUNCTIONS = {
-    "Store": "number vertices faces", "Store.from_bytes": "bytes", "Kernel": "point number number number",
+    "Store": "number vertices faces", "Store.from_bytes": "bytes", "Store.carry_from_old": "floats words", "Kernel": "point number number number",
     "Convention": "kind number number", "rho0": "number", "mass": "number number",
     "kernel_from_file": "point number number number number", "convert": "lines number loader",
     "decompose": "kernel number", "decompose_list": "kernels number", "bill": "kernels count count",
@@ -112,6 +114,8 @@ FUNCTIONS = {
     "log10": "number", "radial_g": "number", "check_float_state": "",
 }
 
+MAKERS = {"Store.from_bytes": Store.from_bytes, "Store.carry_from_old": Store.carry_from_old}
+
 
 def arguments(pick, kinds):
     """Arguments of these kinds, some of them wrong, and at times one too few or too many."""
@@ -123,12 +127,12 @@ def arguments(pick, kinds):
 class Fuzz(unittest.TestCase):
     def test_the_tables_name_every_entry_point(self):
         methods = {name for name in vars(Store) if not name.startswith("_") and callable(getattr(Store, name))}
-        self.assertEqual(methods, {*METHODS, "from_bytes"})
+        self.assertEqual(methods, {*METHODS, "from_bytes", "carry_from_old"})
         functions = {name for name in cauchy.__all__ if callable(getattr(cauchy, name))}
         answers = {"Bill", "Held", "MassReport", "StoreReport", "Placed", "Fit", "Solution", "Steps", "Pieces", "Floats",
                    "Items", "KernelList", "Loader", "UnknownRefusal", "FloatStateError", "SnapshotError", "Refused"}
         refusals = {kind.__name__ for kind in cauchy.REFUSALS.values()}
-        self.assertEqual(functions - answers - refusals, set(FUNCTIONS) - {"Store.from_bytes"})
+        self.assertEqual(functions - answers - refusals, set(FUNCTIONS) - set(MAKERS))
 
     def test_nothing_but_documented_errors(self):
         pick, told = random.Random(20), {"accepted": 0, "refused": 0}
@@ -139,7 +143,7 @@ class Fuzz(unittest.TestCase):
         self.assertGreater(min(told.values()), CALLS // 5, told)
 
     def one_call(self, store, name, given, told):
-        call = Store.from_bytes if name == "Store.from_bytes" else getattr(store if name in METHODS else cauchy, name)
+        call = MAKERS.get(name) or getattr(store if name in METHODS else cauchy, name)
         before = bytes(store.floats), bytes(store.words)
         try:
             answer = call(*given)

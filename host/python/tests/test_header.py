@@ -67,6 +67,7 @@ class Declarations(unittest.TestCase):
             ("double cauchy_ten(double y);", "double cauchy_ten(double y); double cauchy_eleven(double y);"),
             ("CauchyListed cauchy_store_list(", "CauchyTrack cauchy_store_list("),
             ("uint32_t no, freed;", "uint32_t freed, no;"),
+            ("size_t n_old_words, double *floats, size_t n_floats,", "double *floats, size_t n_floats, size_t n_old_words,"),
             ("uint64_t steps, floats;", "uint64_t floats, steps;"),
             ("const uint8_t *lines, size_t n_lines, double", "const double *lines, size_t n_lines, double"),
             ("double default_alpha, uint32_t loader,", "uint32_t loader, double default_alpha,"),
@@ -86,7 +87,7 @@ class Declarations(unittest.TestCase):
     def test_readings_share_a_store_only_where_its_runs_are_const(self):
         functions, _, _, _ = header(TEXT)
         of_stores = {name[7:]: arguments for name, (arguments, _) in functions.items() if "_store_" in name}
-        const = {name for name, arguments in of_stores.items() if arguments[0][1] == "const double*"}
+        const = {name for name, arguments in of_stores.items() if arguments[0] == ("floats", "const double*")}
         self.assertEqual(const, store.READINGS)
         for name in const:
             self.assertEqual(of_stores[name][2], ("words", "const uint32_t*"))
@@ -134,6 +135,8 @@ class Numbers(unittest.TestCase):
         for name in ("FLOATS", "WORDS"):
             told = re.search(rf"#define CAUCHY_STORE_{name}\(\w\) \(\(size_t\)(\d+) \+ \(size_t\)3 \*", TEXT)
             self.assertEqual(getattr(library, f"{name}_BEFORE_MESH"), int(told[1]))
+        old = re.search(r"#define CAUCHY_OLD_STORE_WORDS\(\w\) \(\(size_t\)(\d+) \+ \(size_t\)3 \*", TEXT)
+        self.assertEqual(library.OLD_WORDS_BEFORE_MESH, int(old[1]))
 
     def test_refusals_say_the_words_of_the_crate(self):
         words = re.sub(r"\s+", " ", (HOST / "src/refusal.rs").read_text(encoding="utf-8"))

@@ -67,10 +67,11 @@ class Bytes(unittest.TestCase):
             self.assertEqual(self.fault(data[:at]), "foreign" if at < 8 else "length")
         self.assertEqual(self.fault(data + b"\0"), "length")
         self.assertEqual(self.fault(b"v 0 0 0"), "foreign")
-        self.assertEqual(self.fault(b"CAUCHY01" + data[8:]), "older")
+        self.assertEqual(self.fault(b"CAUCHY01" + data[8:]), "checksum")
         self.assertEqual(self.fault(b""), "foreign")
         for count in (2**64 - 1, 2**61, 2**62):
-            self.assertEqual(self.fault(b"CAUCHY02" + struct.pack("<QQQ", count, count, 0)), "length")
+            for magic in (b"CAUCHY01", b"CAUCHY02"):
+                self.assertEqual(self.fault(magic + struct.pack("<QQQ", count, count, 0)), "length")
 
     def test_whole_bytes_that_hold_no_store(self):
         def refusal(floats, words):

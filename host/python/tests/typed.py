@@ -16,6 +16,7 @@ masses: Tuple[float, int] = (report.applied_mass, report.kernels)
 density: float = store.density(cauchy.RAW, (0.0, 0.0, 0.0))
 densities: cauchy.Floats = store.density(cauchy.RAW, [(0.0, 0.0, 0.0)])
 again: cauchy.Store = cauchy.Store.from_bytes(store.to_bytes())
+carried: bool = cauchy.Store.carry_from_old(array("d", [0.0] * 1761), array("I", [0] * 98)).carried
 pieces: Tuple[cauchy.Kernel, ...] = cauchy.decompose(kernel, 500).pieces
 number: int = cauchy.NoPlace.number
 steps: int = cauchy.bill([kernel], 3, 1).steps
@@ -28,6 +29,7 @@ kernel.w = 5.0  # type: ignore[misc]
 store.put("0", kernel)  # type: ignore[arg-type]
 store.put(0, (0.0, 0.0, 0.0, 1.0, 2.0, 1.0))  # type: ignore[arg-type]
 store.floats = array("d")  # type: ignore[misc, assignment]
+store.carried = True  # type: ignore[misc]
 store.report(0)  # type: ignore[arg-type]
 store.advance(0.5)  # type: ignore[arg-type]
 cauchy.mass()  # type: ignore[call-arg]

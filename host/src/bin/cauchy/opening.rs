@@ -49,7 +49,10 @@ pub fn snapshot(path: &Path) -> Result<Store> {
 /// A snapshot has no bill: the steps that are left are known.
 fn open_snapshot(path: &Path) -> Result<Opened> {
     let store = snapshot(path)?;
-    let mesh = vec![format!("of the snapshot {}", path.display())];
+    let mut mesh = vec![format!("of the snapshot {}", path.display())];
+    if store.carried() {
+        mesh.push(page::CARRIED.to_string());
+    }
     Ok(Opened { store, mesh, kernels: vec!["of the snapshot".to_string()], bill: vec![] })
 }
 

@@ -58,14 +58,19 @@ pub fn places(store: &Store) -> Vec<String> {
 }
 
 /// How a place's fit ended. A store does not keep that, nor does a snapshot: the kernel is fitted once more, which
-/// gives the same, whatever its weight has become.
+/// gives the same, whatever its weight has become. Only pieces that a version with other powers fitted differ from it;
+/// of those the error alone is known.
 fn fit(held: &Held, radius: f64) -> String {
     let error = format!("with an error of {} of its peak", rounded(held.error, 2));
-    match held.kernel.pieces(radius).map(|pieces| pieces.fit) {
-        Ok(Fit::Kept) => ", kept".into(),
-        Ok(Fit::Fitted { pivot }) => format!(", fitted {error}, smallest pivot {}", rounded(pivot, 2)),
-        Ok(Fit::Fallback { column }) => format!(", by the fallback {error}: flat pivot in column {column}"),
-        Ok(Fit::NoExponent) => ": no exponent, so no piece".into(),
+    let again = Kernel { w: 1.0, ..held.kernel }.pieces(radius);
+    match again.map(|again| (again.fit, again.error.to_bits() == held.error.to_bits())) {
+        Ok((Fit::Kept, _)) => ", kept".into(),
+        Ok((Fit::NoExponent, _)) => ": no exponent, so no piece".into(),
+        Ok((_, false)) => format!(", fitted by an earlier version {error}"),
+        Ok((Fit::Fitted { pivot }, _)) => format!(", fitted {error}, smallest pivot {}", rounded(pivot, 2)),
+        Ok((Fit::Fallback { column }, _)) => {
+            format!(", by the fallback {error}: flat pivot in column {column}")
+        }
         Err(refusal) => format!(": {refusal}"),
     }
 }
@@ -197,6 +202,10 @@ pub fn passed_over(store: &Store, place: u32) -> String {
     };
     format!("  not in it: place {place}{layer}, {left} steps left\n")
 }
+
+/// What is said of the store of a snapshot of the form before layers.
+pub const CARRIED: &str =
+    "carried over from the form before layers: every kernel in layer 0, pieces and work done as they were";
 
 /// What is said of a mass on a mesh that is not closed.
 pub const NOT_CLOSED: &str = "the mesh is NOT closed: field mass means nothing on a shell with a hole";

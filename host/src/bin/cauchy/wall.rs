@@ -12,8 +12,12 @@ pub fn print(path: &Path) -> Result<()> {
         Refusal::Unfinished => Failure::of_file(path, format!("{refusal}; cauchy resume does it")),
         _ => Failure::of_file(path, refusal),
     })?;
+    let note = |said: &str| eprintln!("cauchy: {}: note: {said}", path.display());
+    if store.carried() {
+        note(page::CARRIED);
+    }
     if store.mesh().closed() == Err(Refusal::NotClosed) {
-        eprintln!("cauchy: {}: note: {}", path.display(), page::NOT_CLOSED);
+        note(page::NOT_CLOSED);
     }
     say(&wall)
 }

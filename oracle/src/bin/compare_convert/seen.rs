@@ -3,12 +3,11 @@ use crate::judge::Case;
 use oracle::convert::{NATIVE, SOURCE, STRICT, equal, read};
 use oracle::original::native::CauchyKernel;
 use oracle::original::{native, source};
-use oracle::tally::Tally;
-use std::collections::BTreeMap;
+use oracle::tally::{Kinds, Tally};
 
 /// How often each kind was met.
 #[derive(Default)]
-pub struct Seen(BTreeMap<String, u64>);
+pub struct Seen(Kinds);
 
 const ANSWERS: [&str; 4] = ["as 0", "as 9", "as 20", "as 21"];
 
@@ -49,28 +48,16 @@ const OFTEN: [&str; 31] = [
 
 impl Seen {
     fn add(&mut self, name: impl Into<String>) {
-        *self.0.entry(name.into()).or_default() += 1;
-    }
-
-    fn times(&self, name: &str) -> u64 {
-        self.0.get(name).copied().unwrap_or(0)
+        self.0.many(name, 1);
     }
 
     /// How many lists had each answer.
     pub fn text(&self) -> String {
-        ANSWERS.map(|name| format!("{} {name}", self.times(name))).join(", ")
+        self.0.text(&ANSWERS)
     }
 
-    /// A comparison that seldom meets an answer says little of it.
     pub fn all_met(&self, lists: u64) -> Tally {
-        let mut tally = Tally::new();
-        for name in OFTEN {
-            let times = self.times(name);
-            tally.count(times < lists / 500, || format!("only {times} lists are answered {name}"));
-        }
-        let rarest = OFTEN.into_iter().min_by_key(|name| self.times(name)).unwrap_or_default();
-        tally.line("convert", "kinds of answers that must be met", &format!("the rarest {} {rarest}", self.times(rarest)));
-        tally
+        self.0.all_met("convert", "answers", &OFTEN, lists / 500)
     }
 
     /// Every kind that a case is, whose lines were damaged in a way that has a name.

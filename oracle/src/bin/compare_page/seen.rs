@@ -1,12 +1,11 @@
 //! Which kinds of pages were met.
 use oracle::page::{Row, figure, no_figure};
 use oracle::step;
-use oracle::tally::Tally;
-use std::collections::BTreeMap;
+use oracle::tally::{Kinds, Tally};
 
 /// How often each kind was met.
 #[derive(Default)]
-pub struct Seen(BTreeMap<String, u64>);
+pub struct Seen(Kinds);
 
 /// What must be met, each by one page of 1,000 at least.
 const OFTEN: [&str; 36] = [
@@ -49,43 +48,23 @@ const OFTEN: [&str; 36] = [
 ];
 
 impl Seen {
-    fn many(&mut self, name: impl Into<String>, times: u64) {
-        *self.0.entry(name.into()).or_default() += times;
-    }
-
-    fn kinds(&mut self, kinds: &[(&str, bool)]) {
-        kinds.iter().filter(|kind| kind.1).for_each(|kind| self.many(kind.0, 1));
-    }
-
-    fn times(&self, name: &str) -> u64 {
-        self.0.get(name).copied().unwrap_or(0)
-    }
-
     pub fn add(&mut self, other: Seen) {
-        other.0.into_iter().for_each(|(name, times)| self.many(name, times));
+        self.0.add(other.0);
     }
 
     pub fn answer(&mut self, answer: Result<u64, u32>) {
-        self.many(format!("as {}", answer.err().unwrap_or(0)), 1);
+        self.0.many(format!("as {}", answer.err().unwrap_or(0)), 1);
     }
 
     /// How many pages had each answer, and what their lines have.
     pub fn text(&self) -> String {
         let shown = ["as 0", "as 4", "as 5", "as 8", "as 17", "as 18", "lines", "a minus"];
-        let halves = OFTEN.into_iter().filter(|name| name.starts_with("a half")).map(|name| self.times(name)).sum::<u64>();
-        format!("{}, {halves} a half", shown.map(|name| format!("{} {name}", self.times(name))).join(", "))
+        let halves = OFTEN.into_iter().filter(|name| name.starts_with("a half")).map(|name| self.0.times(name)).sum::<u64>();
+        format!("{}, {halves} a half", self.0.text(&shown))
     }
 
-    /// A comparison that seldom meets a kind says little of it.
     pub fn all_met(&self, pages: u64) -> Tally {
-        let mut tally = Tally::new();
-        for name in OFTEN {
-            let times = self.times(name);
-            tally.count(times < pages / 1_000, || format!("only {times} pages or lines: {name}"));
-        }
-        let rarest = OFTEN.into_iter().min_by_key(|name| self.times(name)).unwrap_or_default();
-        tally.line("page", "kinds of pages that must be met", &format!("the rarest {} {rarest}", self.times(rarest)));
-        tally
+        self.0.all_met("page", "pages", &OFTEN, pages / 1_000)
     }
 
     /// Every kind that a page of these rows is.
@@ -94,7 +73,7 @@ impl Seen {
         let any = |bad: fn(f64) -> bool| rows.iter().any(|r| bad(r.mass));
         match answer {
             Ok(bytes) => {
-                self.kinds(&[
+                self.0.met(&[
                     ("as 0, no place", rows.is_empty()),
                     ("as 0, 32 places", rows.len() == 32),
                     ("as 0, more bytes than needed", room as u64 > bytes),
@@ -104,22 +83,22 @@ impl Seen {
             }
             Err(8) => {
                 assert!(left > 0);
-                self.kinds(&[("as 8, a mass without figure besides", any(no_figure)), ("as 8, too few bytes besides", room < full)]);
+                self.0.met(&[("as 8, a mass without figure besides", any(no_figure)), ("as 8, too few bytes besides", room < full)]);
             }
-            Err(17) => self.kinds(&[
+            Err(17) => self.0.met(&[
                 ("as 17, too few bytes besides", room < full),
                 ("as 17, by the float after 10^15", any(|m| m.abs() == step(1e15, 1))),
                 ("as 17, by a NaN", any(f64::is_nan)),
                 ("as 17, by an infinity", any(f64::is_infinite)),
             ]),
-            _ => self.kinds(&[("as 18, a byte short", room + 1 == full), ("as 18, all but TOTAL", room + 65 == full)]),
+            _ => self.0.met(&[("as 18, a byte short", room + 1 == full), ("as 18, all but TOTAL", room + 65 == full)]),
         }
     }
 
     fn total(&mut self, rows: &[Row]) {
         let total: i64 = rows.iter().map(|r| figure(r.mass)).sum();
         let sum: f64 = rows.iter().map(|r| r.mass).sum();
-        self.kinds(&[
+        self.0.met(&[
             ("TOTAL below 0", total < 0),
             ("TOTAL of 0 with places", total == 0 && !rows.is_empty()),
             ("TOTAL of 17 digits", total.abs() >= 10_000_000_000_000_000),
@@ -133,7 +112,7 @@ impl Seen {
         let (half, below) = (is_half(mass), mass < 0.0);
         // of a half the figure is apart by one: to the one side or to the other
         let up = figure as f64 > mass;
-        self.kinds(&[
+        self.0.met(&[
             ("lines", true),
             ("lines of 0 pieces", r.pieces == 0),
             ("lines of 1 piece", r.pieces == 1),

@@ -218,7 +218,7 @@ fn written(answer: Answer) -> usize {
 }
 
 /// The set of layers that a reading names.
-fn set_of(call: Call) -> Option<u32> {
+pub fn set_of(call: Call) -> Option<u32> {
     match call {
         Call::Density(_, layers, _)
         | Call::Report(_, layers)
@@ -230,7 +230,7 @@ fn set_of(call: Call) -> Option<u32> {
 }
 
 /// Whether the call only reads the store.
-fn reads(call: Call) -> bool {
+pub fn reads(call: Call) -> bool {
     matches!(call, Call::Density(..) | Call::Report(..) | Call::Finished(..) | Call::List(..) | Call::Track(..) | Call::Page(_))
 }
 

@@ -3,9 +3,16 @@
 //! Beside each history a second store gets all its calls but the squeezes, and answers the same; each word of a track is also held to
 //! the archive's single reading at that point.
 //! Then openings, stores that nobody opened, wild runs, runs one word short, and every damage of one word: the number that a soundness
-//! check written from 01 expects, and what a sound store's fields ask for. `compare_store` takes a few seconds, `compare_store --long`
-//! 10,000 histories; `--seed N` draws others.
+//! check written from 01 expects, and what a sound store's fields ask for.
+//! Then carries of stores of the form before layers: random histories of one, with the powers of 02's L2 or with 01's alone, carried over
+//! at any moment and gone on with beside the machine; stores that nobody opened; runs too short and every damage of one word. Each kind
+//! of carry must have been met.
+//! `compare_store` takes a few seconds, `compare_store --long` 10,000 histories; `--seed N` draws others.
 //! The last line counts what differs; the exit status is 1 if anything does.
+#[cfg(original)]
+mod carries;
+#[cfg(original)]
+mod carry_kinds;
 #[cfg(original)]
 mod damage;
 #[cfg(original)]
@@ -34,5 +41,14 @@ fn work() {
     total.add(damage::wild(plan.count(2_000, 100_000), plan.rng(4)));
     total.add(damage::short(plan.count(40, 1_000), plan.rng(5)));
     total.add(damage::every_word(plan.count(2, 60), plan.rng(6)));
+    let mut kinds = oracle::tally::Kinds::default();
+    total.add(carries::received(plan.count(40, 4_000), plan.rng(8), &mut kinds));
+    total.add(carries::begun(plan.count(20, 2_000), plan.rng(9), &mut kinds));
+    total.add(carries::fitted_before(plan.count(60, 6_000), plan.rng(10), &mut kinds));
+    total.add(carries::unopened(plan.count(60, 3_000), plan.rng(11)));
+    total.add(carries::short(plan.count(400, 20_000), plan.rng(12), &mut kinds));
+    total.add(carries::every_word(plan.count(2, 60), plan.rng(13), &mut kinds));
+    total.add(carries::at_the_limits(plan.rng(14)));
+    total.add(kinds.all_met("carry", "carries", &carry_kinds::all(), plan.count(1, 20)));
     total.end();
 }

@@ -7,8 +7,8 @@ use oracle::machine::{CORNERS, FACES, Machine, VERTS};
 use oracle::pieces::Kernel;
 use oracle::tally::Tally;
 
-/// The same call on a store that gets every call but the squeezes: "Later readings and step counts are then the same as without it". The
-/// places' fields are the same too.
+/// The same call on another store, which gets every call but the squeezes: "Later readings and step counts are then the same as without
+/// it". The places' fields are the same too.
 pub fn altered(spared: &mut Runs, runs: &Runs, call: Call, lent: &[f64], told: Answer) -> Option<String> {
     if let Call::Squeeze = call {
         return None;
@@ -23,7 +23,7 @@ pub fn altered(spared: &mut Runs, runs: &Runs, call: Call, lent: &[f64], told: A
         && float_differs(&out, &again, out.len()).is_none()
         && fields.is_none()
         && runs.words[1..CORNERS] == spared.words[1..CORNERS];
-    if alike { None } else { Some(format!("{told:?}, and without the squeezes before {without:?}; float {fields:?}")) }
+    if alike { None } else { Some(format!("{told:?}, and on the other store {without:?}; float {fields:?}")) }
 }
 
 /// Freed words are excess: now and then others are written there, or the run ends before them.
