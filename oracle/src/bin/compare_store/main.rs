@@ -42,9 +42,9 @@ fn work() {
     total.add(damage::short(plan.count(40, 1_000), plan.rng(5)));
     total.add(damage::every_word(plan.count(2, 60), plan.rng(6)));
     let mut kinds = oracle::tally::Kinds::default();
-    total.add(carries::received(plan.count(40, 4_000), plan.rng(8), &mut kinds));
-    total.add(carries::begun(plan.count(20, 2_000), plan.rng(9), &mut kinds));
-    total.add(carries::fitted_before(plan.count(60, 6_000), plan.rng(10), &mut kinds));
+    total.add(carries::received(plan.count(60, 4_000), plan.rng(8), &mut kinds));
+    total.add(carries::begun(plan.count(30, 2_000), plan.rng(9), &mut kinds));
+    total.add(carries::fitted_before(plan.count(100, 6_000), plan.rng(10), &mut kinds));
     total.add(carries::unopened(plan.count(60, 3_000), plan.rng(11)));
     total.add(carries::short(plan.count(400, 20_000), plan.rng(12), &mut kinds));
     total.add(carries::every_word(plan.count(2, 60), plan.rng(13), &mut kinds));
