@@ -1,0 +1,4 @@
+pub mod Lines
+pub mod Written
+pub mod ReadOf
+pub mod Answers
