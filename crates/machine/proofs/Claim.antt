@@ -68,7 +68,7 @@ abbrev pub inner : ℕ → Machine → List Float → List ℕ → Store
 inner wd m xs ys = record { floats = laidOut (m .mesh) (m .places) (past m xs); words = wordsOf wd (m .mesh) (m .places) ys }
 
 abbrev pub shownIn : ℕ → List Float → List ℕ → Turn → Result
-shownIn wd xs ys t = record { runs = inner wd (t .next) xs ys; reply = t .reply; out = t .out; page = t .page }
+shownIn wd xs ys t = record { runs = inner wd (t .next) xs ys; reply = t .reply; out = t .out; bytes = t .bytes }
 
 module _ (wd : ℕ) (fm : Width wd) (m : Machine) (v : Valid (m .mesh) (m .places)) (xs : List Float) (ys : List ℕ) where
   abbrev FS : List Float
@@ -138,7 +138,7 @@ module _ (wd : ℕ) (fm : Width wd) (m : Machine) (v : Valid (m .mesh) (m .place
       let f = set-seven wd fm (m .mesh) (m .places) (v .places) (past m xs) i h s 4 w (omega arith) (rw e refl) (rw e (same-volumes k fit o w p l)) in
       let g : WS ≡ wordsOf wd (m .mesh) (set (m .places) i s) ys = same-place i h s (rw e refl) in
       rw (filled-in i h k fit o p l e, n, f)
-      (ap (λ (t : List ℕ). record { runs = record { floats = laidOut (m .mesh) (set (m .places) i s) (past m xs); words = t }; reply = done; out = []; page = [] }) g)
+      (ap (λ (t : List ℕ). record { runs = record { floats = laidOut (m .mesh) (set (m .places) i s) (past m xs); words = t }; reply = done; out = []; bytes = [] }) g)
 
   pub reweigh-held : (i : ℕ) (w : Float) → store wd (inner wd m xs ys) (reweigh i w) ≡ shownIn wd xs ys (machine m (reweigh i w))
   unfolding store machine reweighStep
@@ -184,7 +184,7 @@ module _ (wd : ℕ) (fm : Width wd) (m : Machine) (v : Valid (m .mesh) (m .place
       → result (record { reply = placedWith (fit .count) (need (m .mesh) fit) end; floats = putFloats FS i k fit; words = putWords wd WS i fit l }) ≡ shownIn wd xs ys (putTurn m i k fit end l)
   put-in i k fit end l h =
       rw (end-counts end, end-floats end)
-      (ap (λ (s : Store). record { runs = s; reply = putTurn m i k fit end l .reply; out = []; page = [] })
+      (ap (λ (s : Store). record { runs = s; reply = putTurn m i k fit end l .reply; out = []; bytes = [] })
       (put-runs i k fit own l h))
 
   pub put-held : (i : ℕ) (k : Kernel) (l : ℕ) → store wd (inner wd m xs ys) (put i k l) ≡ shownIn wd xs ys (machine m (put i k l))
@@ -379,7 +379,7 @@ module _ (m : Machine) (v : Valid (m .mesh) (m .places)) where
 
 -- ---- one call, on the runs that hold the machine
 abbrev pub shown : ℕ → List Float → List ℕ → Turn → Result
-shown wd xs ys t = record { runs = holding wd (t .next) xs ys; reply = t .reply; out = t .out; page = t .page }
+shown wd xs ys t = record { runs = holding wd (t .next) xs ys; reply = t .reply; out = t .out; bytes = t .bytes }
 
 pub held-in : (wd : ℕ) (m : Machine) → Valid (m .mesh) (m .places) → (xs : List Float) (ys : List ℕ) → holding wd m xs ys ≡ inner wd m xs ys
 held-in wd m v xs ys = ap (λ (fs : List Float). record { floats = fs; words = wordsOf wd (m .mesh) (m .places) ys }) (laid-out (m .mesh) (m .places) v (past m xs))
@@ -388,7 +388,7 @@ pub one-call : (wd : ℕ) → Layered wd → (m : Machine) → Valid (m .mesh) (
 one-call wd fm m v xs ys c =
     let t = machine m c in
     ap (λ (s : Store). store wd s c) (held-in wd m v xs ys)
-    ∙ (one-in wd fm m v xs ys c ∙ ap (λ (s : Store). record { runs = s; reply = t .reply; out = t .out; page = t .page }) (sym (held-in wd (t .next) (kept m v c .valid) xs ys)))
+    ∙ (one-in wd fm m v xs ys c ∙ ap (λ (s : Store). record { runs = s; reply = t .reply; out = t .out; bytes = t .bytes }) (sym (held-in wd (t .next) (kept m v c .valid) xs ys)))
 
 -- ---- every list of calls
 module _ (wd : ℕ) (fm : Layered wd) where

@@ -136,12 +136,12 @@ written-same ks out =
 
 -- a reading's answer and run
 abbrev readSaid : Reading → Outcome → Heard
-readSaid r o = unsignedRead r (record { reply = o .reply; out = o .out; page = [] })
+readSaid r o = unsignedRead r (record { reply = o .reply; out = o .out; bytes = [] })
 
 listed : (v : Convention) (out a b : List Float) (n : ℕ) → unsignedRun n a ≡ unsignedRun n b → (c : Checked)
     → readSaid (list v out) (guardedRun c out (outcome (counted (n ∷ [])) a))
     ≡ readSaid (list v out) (guardedRun c out (outcome (counted (n ∷ [])) b))
-listed v out a b n h Passed = ap (λ (xs : List Float). record { reply = counted (n ∷ []); out = xs; page = [] }) h
+listed v out a b n h Passed = ap (λ (xs : List Float). record { reply = counted (n ∷ []); out = xs; bytes = [] }) h
 listed v out a b n h (Failed r) = refl
 
 module _ (m : Mesh) (ks : List Kernel) (filled : ℕ) (worst : Float) where
@@ -149,7 +149,7 @@ module _ (m : Mesh) (ks : List Kernel) (filled : ℕ) (worst : Float) where
       → readSaid r (readingOn m (map even ks) filled worst r) ≡ readSaid r (readingOn m ks filled worst r)
   reading-same (density v x) =
       rw (scaled-same m ks v)
-      (ap (λ (a : Answer). record { reply = a; out = []; page = [] }) (density-same (scaled m ks v) x))
+      (ap (λ (a : Answer). record { reply = a; out = []; bytes = [] }) (density-same (scaled m ks v) x))
   reading-same (report v) = rw (mass-same m ks, origin-same m ks, length-map ks even) refl
   reading-same (list v out) =
       let js = scaled m ks v in
@@ -404,7 +404,7 @@ unsignedMachine m =
     }
 
 abbrev unsignedTurn : Turn → Turn
-unsignedTurn t = record { next = unsignedMachine (t .next); reply = t .reply; out = t .out; page = t .page }
+unsignedTurn t = record { next = unsignedMachine (t .next); reply = t .reply; out = t .out; bytes = t .bytes }
 
 abbrev turnSaid : Call → Turn → Heard
 turnSaid c t = unsignedHeard c (told t)

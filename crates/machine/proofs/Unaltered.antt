@@ -109,7 +109,7 @@ abbrev pub remade : Machine → List Float → List ℕ → ℕ → ℕ → Mach
 remade m xs ks w g = record { mesh = remesh (m .mesh) xs ks w; places = m .places; charged = m .charged; dropped = m .dropped; freed = g }
 
 abbrev pub lifted : Turn → List Float → List ℕ → ℕ → ℕ → Turn
-lifted t xs ks w g = record { next = remade (t .next) xs ks w g; reply = t .reply; out = t .out; page = t .page }
+lifted t xs ks w g = record { next = remade (t .next) xs ks w g; reply = t .reply; out = t .out; bytes = t .bytes }
 
 -- a mesh with the triangles of a machine's
 pub record Alike (m : Mesh) (xs : List Float) (ks : List ℕ) (w : ℕ) : Type 0 where
@@ -202,7 +202,7 @@ module _ (m : Machine) (xs : List Float) (ks : List ℕ) (w g : ℕ) where
 
 -- ---- a list of calls
 abbrev pub told : Turn → Heard
-told t = record { reply = t .reply; out = t .out; page = t .page }
+told t = record { reply = t .reply; out = t .out; bytes = t .bytes }
 
 abbrev heardBy : Machine → List Call → List Heard
 heardBy m [] = []

@@ -7,7 +7,7 @@ use lib.Dec.{ltb, leb}
 use lib.ListN.{getD, replicate}
 use lib.Ieee.{Float, lt}
 use Rattle.base.specs.Floats.{+0}
-use Rattle.base.specs.Answers.{Answer, refused, Outcome, outcome}
+use Rattle.base.specs.Answers.{Answer, refused, Outcome, outcome, Printout, printout}
 use Rattle.base.specs.declared.refusal.Refusal.the-variants.{NoPlace, Unfinished, NoLayer}
 use Rattle.kernel.specs.declared.kernel.Kernel.{Kernel}
 use Rattle.pieces.specs.Pieces.{decomposed}
@@ -21,7 +21,7 @@ use Rattle.density.specs.declared.convention.Convention.{Convention}
 use Rattle.density.specs.declared.convention.Convention.the-variants.{Raw, Rho0, Mass}
 use Rattle.readings.specs.Readings.{Reading, density, report, list, track, refusing, readStep}
 use Rattle.readings.specs.Finished.{finishedStep}
-use Rattle.page.specs.Page.{Paged, paged, pageStep}
+use Rattle.page.specs.Page.{pageStep}
 use Rattle.store.specs.Squeeze.{squeezeStep}
 use Rattle.machine.specs.Machine.{empty, Machine, leftSum, seenPlaces, workLeft, Turn, turn, putTurn, clearTurn, reweighTurn, advanceTurn, squeezeTurn}
 use Rattle.machine.specs.Holding.{floatsOf, wordsOf}
@@ -82,14 +82,14 @@ finishedTurn m layers v =
     cond (leb (2 ^ 16) layers) (refused NoLayer) (finishedAfresh (m .mesh) (seenPlaces layers (m .places)) v)
 
 abbrev pub given : Machine → Outcome → Turn
-given m a = record { next = m; reply = a .reply; out = a .out; page = [] }
+given m a = record { next = m; reply = a .reply; out = a .out; bytes = [] }
 
 -- 02, L8: "It is given only when nothing is left to do, else 8"; a page changes the machine no more than a reading
-abbrev pub pageTurn : Machine → List ℕ → Paged
-pageTurn m bs = cond (ltb 0 (workLeft m)) (paged (refused Unfinished) bs) (pageAfresh (m .mesh) (m .places) bs)
+abbrev pub pageTurn : Machine → List ℕ → Printout
+pageTurn m bs = cond (ltb 0 (workLeft m)) (printout (refused Unfinished) bs) (pageAfresh (m .mesh) (m .places) bs)
 
-abbrev pub posted : Machine → Paged → Turn
-posted m a = record { next = m; reply = a .reply; out = []; page = a .page }
+abbrev pub posted : Machine → Printout → Turn
+posted m a = record { next = m; reply = a .reply; out = []; bytes = a .bytes }
 
 unfoldable pub machine : Machine → Call → Turn
 machine m (put i k l) =
@@ -115,17 +115,17 @@ pub record Result : Type 0 where
   pub runs : Store
   pub reply : Answer
   pub out : List Float
-  pub page : List ℕ
+  pub bytes : List ℕ
 
 abbrev pub result : After → Result
-result a = record { runs = record { floats = a .floats; words = a .words }; reply = a .reply; out = []; page = [] }
+result a = record { runs = record { floats = a .floats; words = a .words }; reply = a .reply; out = []; bytes = [] }
 
 -- a reading leaves the store, and so does a page
 abbrev pub seen : Store → Outcome → Result
-seen s a = record { runs = s; reply = a .reply; out = a .out; page = [] }
+seen s a = record { runs = s; reply = a .reply; out = a .out; bytes = [] }
 
-abbrev pub pinned : Store → Paged → Result
-pinned s a = record { runs = s; reply = a .reply; out = []; page = a .page }
+abbrev pub pinned : Store → Printout → Result
+pinned s a = record { runs = s; reply = a .reply; out = []; bytes = a .bytes }
 
 -- each call is the function of its contract
 unfoldable pub store : ℕ → Store → Call → Result
@@ -205,7 +205,7 @@ without (page bs ∷ cs) = page bs ∷ without cs
 pub record Heard : Type 0 where
   pub reply : Answer
   pub out : List Float
-  pub page : List ℕ
+  pub bytes : List ℕ
 
 abbrev pub others : Call → Heard → List Heard → List Heard
 others (put i k l) o os = o ∷ os
@@ -218,7 +218,7 @@ others (finished ls v) o os = o ∷ os
 others (page bs) o os = o ∷ os
 
 abbrev pub hearing : Result → Heard
-hearing a = record { reply = a .reply; out = a .out; page = a .page }
+hearing a = record { reply = a .reply; out = a .out; bytes = a .bytes }
 
 abbrev pub heard : ℕ → Store → List Call → List Heard
 heard q s [] = []

@@ -39,7 +39,7 @@ pub record Same (q : ℕ) (exF : List Float) (exW : List ℕ) (m : Machine) (s :
   pub reply : store q s c .reply ≡ machine m c .reply
   -- each word of a run that is lent beside the store, and each byte of a page
   pub lent : store q s c .out ≡ machine m c .out
-  pub shown : store q s c .page ≡ machine m c .page
+  pub shown : store q s c .bytes ≡ machine m c .bytes
   -- "After each call the runs hold 01's fields for its mesh, radius, places and steps, volumes so far included": each
   -- word of both; past the fields come the words that squeezes freed, which are zero, and the excess
   pub fields : store q s c .runs ≡ holding q (machine m c .next) exF exW
@@ -106,7 +106,7 @@ pub record Post (q : ℕ) (mesh : Mesh) (m : Machine) (s : Store) (bs : List ℕ
   -- left out here
   pub afresh : (store q s (page bs) .reply ≡ refused Unfinished → ⊥)
       → (store q s (page bs) .reply ≡ pageAfresh mesh (m .places) bs .reply)
-      × (store q s (page bs) .page ≡ pageAfresh mesh (m .places) bs .page)
+      × (store q s (page bs) .bytes ≡ pageAfresh mesh (m .places) bs .bytes)
   -- a page alters no word of the store
   pub kept : store q s (page bs) .runs ≡ s
 

@@ -49,7 +49,7 @@ abbrev pub unsignedRead : Reading → Heard → Heard
 unsignedRead (density v x) o = o
 unsignedRead (report v) o = o
 unsignedRead (list v out) o =
-    record { reply = o .reply; out = unsignedRun (getD (o .reply .counts) 0 0) (o .out); page = o .page }
+    record { reply = o .reply; out = unsignedRun (getD (o .reply .counts) 0 0) (o .out); bytes = o .bytes }
 unsignedRead (track v points out) o = o
 
 abbrev pub unsignedHeard : Call → Heard → Heard
