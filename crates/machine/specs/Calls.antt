@@ -23,9 +23,11 @@ use Rattle.readings.specs.Readings.{Reading, density, report, list, track, refu
 use Rattle.readings.specs.Finished.{finishedStep}
 use Rattle.page.specs.Page.{pageStep}
 use Rattle.store.specs.Squeeze.{squeezeStep}
+use Rattle.script.specs.Written.{textAnswer, writeStep}
 use Rattle.machine.specs.Machine.{empty, Machine, leftSum, seenPlaces, workLeft, Turn, turn, putTurn, clearTurn, reweighTurn, advanceTurn, squeezeTurn}
 use Rattle.machine.specs.Holding.{floatsOf, wordsOf}
 use Rattle.machine.specs.Fresh.{workedAfresh, finishedAfresh, pageAfresh}
+use Rattle.machine.specs.Lines.{machineLines}
 
 -- the calls of demand 3's list
 pub data Call : Type 0 where
@@ -41,6 +43,8 @@ pub data Call : Type 0 where
   finished : ℕ → Convention → Call
   -- the wall page, into lent bytes
   page : List ℕ → Call
+  -- the store's lines, into lent bytes
+  lines : List ℕ → Call
 
 -- ---- the machine: "It refuses by the table below as its own places stand; a refused call changes nothing."
 
@@ -102,6 +106,7 @@ machine m squeeze = squeezeTurn m
 machine m (read ls r) = given m (readTurn m ls r)
 machine m (finished ls v) = turn m (finishedTurn m ls v)
 machine m (page bs) = posted m (pageTurn m bs)
+machine m (lines bs) = posted m (textAnswer (machineLines (m .mesh) (m .places)) bs)
 
 -- ---- the store
 
@@ -137,6 +142,7 @@ store q s squeeze = result (squeezeStep q (s .floats) (s .words))
 store q s (read ls r) = seen s (readStep q (s .floats) (s .words) ls r)
 store q s (finished ls v) = seen s (outcome (finishedStep q (s .floats) (s .words) ls v) [])
 store q s (page bs) = pinned s (pageStep q (s .floats) (s .words) bs)
+store q s (lines bs) = pinned s (writeStep q (s .floats) (s .words) bs)
 
 -- ---- a list of calls: each gets what the call before it left
 abbrev pub leaves : ℕ → Store → List Call → Store
@@ -165,6 +171,7 @@ chargedBy squeeze r = 0
 chargedBy (read ls x) r = 0
 chargedBy (finished ls v) r = 0
 chargedBy (page bs) r = 0
+chargedBy (lines bs) r = 0
 
 -- the steps that an advance answers
 abbrev pub doneBy : Call → Answer → ℕ
@@ -176,6 +183,7 @@ doneBy squeeze r = 0
 doneBy (read ls x) r = 0
 doneBy (finished ls v) r = 0
 doneBy (page bs) r = 0
+doneBy (lines bs) r = 0
 
 -- the left that an advance answers
 abbrev pub leftIn : Answer → ℕ
@@ -189,7 +197,7 @@ abbrev pub doneIn : ℕ → Store → List Call → ℕ
 doneIn q s [] = 0
 doneIn q s (c ∷ cs) = doneBy c (store q s c .reply) + doneIn q (store q s c .runs) cs
 
--- ---- a list without its squeezes, and what its other calls answer and write into what is lent beside the store
+-- ---- a list without its squeezes; and what its calls answer and write into what is lent beside the store
 abbrev pub without : List Call → List Call
 without [] = []
 without (put i k l ∷ cs) = put i k l ∷ without cs
@@ -200,6 +208,7 @@ without (squeeze ∷ cs) = without cs
 without (read ls r ∷ cs) = read ls r ∷ without cs
 without (finished ls v ∷ cs) = finished ls v ∷ without cs
 without (page bs ∷ cs) = page bs ∷ without cs
+without (lines bs ∷ cs) = lines bs ∷ without cs
 
 -- of one call: its reply, and what is lent beside the store as it is then
 pub record Heard : Type 0 where
@@ -207,24 +216,43 @@ pub record Heard : Type 0 where
   pub out : List Float
   pub bytes : List ℕ
 
-abbrev pub others : Call → Heard → List Heard → List Heard
-others (put i k l) o os = o ∷ os
-others (clear i) o os = o ∷ os
-others (reweigh i v) o os = o ∷ os
-others (advance n) o os = o ∷ os
-others squeeze o os = os
-others (read ls r) o os = o ∷ os
-others (finished ls v) o os = o ∷ os
-others (page bs) o os = o ∷ os
-
 abbrev pub hearing : Result → Heard
 hearing a = record { reply = a .reply; out = a .out; bytes = a .bytes }
 
-abbrev pub heard : ℕ → Store → List Call → List Heard
-heard q s [] = []
-heard q s (c ∷ cs) = others c (hearing (store q s c)) (heard q (store q s c .runs) cs)
+-- what those calls of a list answer and write that a test picks
+abbrev pub heardOf : (Call → Bool) → ℕ → Store → List Call → List Heard
+heardOf pick q s [] = []
+heardOf pick q s (c ∷ cs) =
+    let rest = heardOf pick q (store q s c .runs) cs in
+    cond (pick c) (hearing (store q s c) ∷ rest) rest
 
--- what the calls of a list answer and write into what is lent beside the store
+-- all of them
 abbrev pub answers : ℕ → Store → List Call → List Heard
-answers q s [] = []
-answers q s (c ∷ cs) = hearing (store q s c) ∷ answers q (store q s c .runs) cs
+answers q s cs = heardOf (λ c. true) q s cs
+
+-- those that do not show how the vertices are numbered: a store's lines do
+abbrev pub numberless : Call → Bool
+numberless (put i k l) = true
+numberless (clear i) = true
+numberless (reweigh i v) = true
+numberless (advance n) = true
+numberless squeeze = true
+numberless (read ls r) = true
+numberless (finished ls v) = true
+numberless (page bs) = true
+numberless (lines bs) = false
+
+-- and those of them that do not squeeze
+abbrev pub steady : Call → Bool
+steady (put i k l) = true
+steady (clear i) = true
+steady (reweigh i v) = true
+steady (advance n) = true
+steady squeeze = false
+steady (read ls r) = true
+steady (finished ls v) = true
+steady (page bs) = true
+steady (lines bs) = false
+
+abbrev pub heard : ℕ → Store → List Call → List Heard
+heard q s cs = heardOf steady q s cs
