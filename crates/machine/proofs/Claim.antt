@@ -37,7 +37,7 @@ use Rattle.machine.specs.Machine.{Mesh, Provenance, own, carried, Place,
 use Rattle.machine.specs.Holding.{placeRow, cells, wordsOf}
 use Rattle.density.specs.declared.convention.Convention.{Convention}
 use Rattle.readings.specs.Readings.{Reading}
-use Rattle.machine.specs.Calls.{Call, put, clear, reweigh, advance, squeeze, read, finished, page, machine, Store, Result, result, seen, pinned, store, after-all, past, holding, chargedBy, doneBy, chargedIn, doneIn}
+use Rattle.machine.specs.Calls.{Call, put, clear, reweigh, advance, squeeze, read, finished, page, lines, machine, Store, Result, result, seen, pinned, store, after-all, past, holding, chargedBy, doneBy, chargedIn, doneIn}
 use Rattle.machine.specs.Valid.{FittedBy, Within, Valid}
 use Rattle.machine.proofs.Rows.{Width, width4, Layered, formed}
 use Rattle.machine.proofs.Sixteen.{sixteen, laidOut, laid-out}
@@ -46,6 +46,7 @@ use Rattle.machine.proofs.Sane.{no-fault}
 use Rattle.machine.proofs.Look.{read-held}
 use Rattle.machine.proofs.Finished.{finished-report}
 use Rattle.machine.proofs.Pages.{page-held}
+use Rattle.machine.proofs.Written.{lines-held}
 use Rattle.machine.proofs.Squeezing.{floats-squeezed, words-squeezed, slim-valid, left-slim}
 use Rattle.machine.proofs.Slim.{freed-is}
 use Rattle.machine.proofs.Sweep.{spread, all-held, left-held, lowest-first, spread-length, within-spread, left-spread}
@@ -255,6 +256,11 @@ module _ (wd : ℕ) (ly : Layered wd) (m : Machine) (v : Valid (m .mesh) (m .pla
       ap (λ (a : Answer). seen (inner wd m xs ys) (outcome a []))
       (finished-report wd ly (m .mesh) (m .places) v (past m xs) ys ls cv)
 
+  -- ---- its lines
+  lines-of-held : (bs : List ℕ) → store wd (inner wd m xs ys) (lines bs) ≡ shownIn wd xs ys (machine m (lines bs))
+  unfolding store machine
+  lines-of-held bs = ap (pinned (inner wd m xs ys)) (lines-held wd ly (m .mesh) (m .places) v (past m xs) ys bs)
+
   one-in : (c : Call) → store wd (inner wd m xs ys) c ≡ shownIn wd xs ys (machine m c)
   one-in (put i k l) = put-held wd fm m v xs ys i k l
   one-in (clear i) = clear-held wd fm m v xs ys i
@@ -264,6 +270,7 @@ module _ (wd : ℕ) (ly : Layered wd) (m : Machine) (v : Valid (m .mesh) (m .pla
   one-in (read ls r) = reading-held ls r
   one-in (finished ls cv) = finished-of-held ls cv
   one-in (page bs) = page-of-held wd fm m v xs ys bs
+  one-in (lines bs) = lines-of-held bs
 
 -- ---- what every turn keeps
 pub all-set : (P : Place → Type 0) (ss : List Place) (i : ℕ) (s : Place) → P s → ((j : ℕ) → P (getD ss j empty)) → (j : ℕ) → P (getD (set ss i s) j empty)
@@ -376,6 +383,7 @@ module _ (m : Machine) (v : Valid (m .mesh) (m .places)) where
   kept (read ls r) = record { valid = v; balance = refl; charged = omega arith }
   kept (finished ls cv) = record { valid = v; balance = refl; charged = omega arith }
   kept (page bs) = record { valid = v; balance = refl; charged = omega arith }
+  kept (lines bs) = record { valid = v; balance = refl; charged = omega arith }
 
 -- ---- one call, on the runs that hold the machine
 abbrev pub shown : ℕ → List Float → List ℕ → Turn → Result

@@ -20,7 +20,7 @@ use Rattle.layout.specs.Layout.{width, placeLimit}
 use Rattle.layout.specs.After.{After, after}
 use Rattle.store.specs.Calls.{openStep}
 use Rattle.carry.specs.Carry.{oldWidth, carryStep}
-use Rattle.text.specs.Text.{Text, lost, left, Got}
+use Rattle.text.specs.Text.{Text, lost, left}
 use Rattle.text.specs.Form.{Vals}
 use Rattle.script.specs.Lines.{putLine}
 use Rattle.script.specs.ReadOf.{placeIn, kernelIn, layerIn, Script, readOf, readStep}
