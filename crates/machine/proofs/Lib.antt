@@ -21,6 +21,7 @@ pub mod Refused
 pub mod Listed
 pub mod Follow
 pub mod Loading
+pub mod Rewriting
 pub mod OldCalls
 pub mod Carrying
 pub mod Tally

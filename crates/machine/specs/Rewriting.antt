@@ -3,7 +3,7 @@
 -- byte for byte." Definitions only.
 use mathlib.Core.Path.{_≡_}
 use mathlib.Core.List.{List, map}
-use Prim.Native.Nat.{ℕ, _+_, _<_}
+use Prim.Native.Nat.{ℕ}
 use lib.Dec.{T}
 use lib.ListN.{length, getD}
 use lib.Ieee.{Float, nan, binary64, fits}
@@ -11,7 +11,7 @@ use Rattle.layout.specs.Layout.{width}
 use Rattle.pieces.specs.Pieces.{decomposed}
 use Rattle.script.specs.Written.{written}
 use Rattle.script.specs.ReadOf.{readStep}
-use Rattle.machine.specs.Machine.{Mesh, own, Place, empty, full, Machine, leftSum, shortRow}
+use Rattle.machine.specs.Machine.{own, Place, empty, full, Machine, leftSum, shortRow}
 use Rattle.machine.specs.Holding.{excessF, excessW}
 use Rattle.machine.specs.Valid.{Valid}
 use Rattle.machine.specs.Calls.{Store, holding}
