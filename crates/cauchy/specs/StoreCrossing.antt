@@ -5,12 +5,11 @@ use mathlib.Core.List.{List}
 use lib.Dec.{eqb}
 use lib.ListN.{getD}
 use lib.Ieee.{Float}
-use Rattle.base.specs.Answers.{Answer}
+use Rattle.base.specs.Answers.{Answer, Printout}
 use Rattle.base.specs.Floats.{+0}
 use Rattle.density.specs.declared.convention.Convention.{Convention}
 use Rattle.density.specs.declared.convention.Convention.the-variants.{Raw, Rho0, Mass}
 use Rattle.layout.specs.After.{After}
-use Rattle.page.specs.Page.{Paged}
 use Rattle.cauchy.specs.Crossing.{Lent, lent, fitFrom}
 use Rattle.cauchy.specs.Volumes.{massFrom}
 use Rattle.cauchy.specs.declared.stores.CauchyOpened.{CauchyOpened}
@@ -90,9 +89,9 @@ trackFrom a = record { no = a .refusal; points = getD (a .counts) 0 0 }
 abbrev pub bytesFrom : Answer → CauchyBytes
 bytesFrom a = record { no = a .refusal; bytes = getD (a .counts) 0 0 }
 
--- with the lent page as it is then
-abbrev pub pinnedFrom : Paged → Lent CauchyBytes ℕ
-pinnedFrom p = lent (bytesFrom (p .reply)) (p .page)
+-- with the lent bytes as they are then
+abbrev pub pinnedFrom : Printout → Lent CauchyBytes ℕ
+pinnedFrom p = lent (bytesFrom (p .reply)) (p .bytes)
 
 -- ---- "raw, rho0 with a bulk density, or mass with target and bulk", by a kind: 0, 1, any other
 abbrev pub conventionOf : CauchyConvention → Convention

@@ -23,8 +23,9 @@ use Rattle.machine.specs.Demands.{carriedPlace, carriedOver}
 use Rattle.machine.specs.Valid.{Valid}
 use Rattle.machine.proofs.Claim.{all-set}
 use Rattle.machine.proofs.Carrying.{floats-same}
-use Rattle.machine.proofs.Unaltered.{remade}
-use Rattle.machine.proofs.Renumber.{Paired, toldBy, same-told, store-told}
+use Rattle.machine.proofs.Rows.{layered4}
+use Rattle.machine.proofs.Unaltered.{remade, heardBy, store-heard}
+use Rattle.machine.proofs.Renumber.{Paired, same-told}
 
 -- ---- every kernel is in layer 0
 abbrev layerIn : Place → ℕ
@@ -144,11 +145,17 @@ module _ (m : Machine) (v : Valid (m .mesh) (m .places)) (h : Low (m .places)) (
   holds-fresh : holding width (carriedOver m) exF exW ≡ holding width fresh exF exW
   holds-fresh = rw (floats-same (m .mesh) (m .places) exF, words-same (m .mesh) (m .places) h exW) refl
 
-  pub carried-told : (ds : List Call) → answers width (holding width (carriedOver m) exF exW) ds ≡ toldBy m ds
+  pub carried-told : (ds : List Call)
+      → answers width (holding width (carriedOver m) exF exW) ds ≡ heardBy (λ c. true) m ds
   carried-told ds =
       let g = v .mesh in
-      let p : Paired (m .mesh) (m .mesh .coords) (m .mesh .corners) (m .mesh .verts)
-      = record { alike = record { shape = g; was = g; same = λ f l. refl }; verts = refl; used-same = refl } in
+      let p : Paired (λ c. true) (m .mesh) (m .mesh .coords) (m .mesh .corners) (m .mesh .verts)
+      = record {
+        alike = record { shape = g; was = g; same = λ f l. refl };
+        verts = refl;
+        used-same = refl;
+        shown = λ bs e. refl;
+      } in
       ap (λ (s : Store). answers width s ds) holds-fresh
-      ∙ (store-told exF exW ds fresh v
-      ∙ same-told ds m (m .mesh .coords) (m .mesh .corners) (m .mesh .verts) 0 p)
+      ∙ (store-heard width layered4 exF exW (λ c. true) ds fresh v
+      ∙ same-told (λ c. true) ds m (m .mesh .coords) (m .mesh .corners) (m .mesh .verts) 0 p)

@@ -37,7 +37,7 @@ use Rattle.machine.specs.Machine.{Mesh, Provenance, own, carried, Place,
 use Rattle.machine.specs.Holding.{placeRow, cells, wordsOf}
 use Rattle.density.specs.declared.convention.Convention.{Convention}
 use Rattle.readings.specs.Readings.{Reading}
-use Rattle.machine.specs.Calls.{Call, put, clear, reweigh, advance, squeeze, read, finished, page, machine, Store, Result, result, seen, pinned, store, after-all, past, holding, chargedBy, doneBy, chargedIn, doneIn}
+use Rattle.machine.specs.Calls.{Call, put, clear, reweigh, advance, squeeze, read, finished, page, lines, machine, Store, Result, result, seen, pinned, store, after-all, past, holding, chargedBy, doneBy, chargedIn, doneIn}
 use Rattle.machine.specs.Valid.{FittedBy, Within, Valid}
 use Rattle.machine.proofs.Rows.{Width, width4, Layered, formed}
 use Rattle.machine.proofs.Sixteen.{sixteen, laidOut, laid-out}
@@ -46,6 +46,7 @@ use Rattle.machine.proofs.Sane.{no-fault}
 use Rattle.machine.proofs.Look.{read-held}
 use Rattle.machine.proofs.Finished.{finished-report}
 use Rattle.machine.proofs.Pages.{page-held}
+use Rattle.machine.proofs.Written.{lines-held}
 use Rattle.machine.proofs.Squeezing.{floats-squeezed, words-squeezed, slim-valid, left-slim}
 use Rattle.machine.proofs.Slim.{freed-is}
 use Rattle.machine.proofs.Sweep.{spread, all-held, left-held, lowest-first, spread-length, within-spread, left-spread}
@@ -68,7 +69,7 @@ abbrev pub inner : ℕ → Machine → List Float → List ℕ → Store
 inner wd m xs ys = record { floats = laidOut (m .mesh) (m .places) (past m xs); words = wordsOf wd (m .mesh) (m .places) ys }
 
 abbrev pub shownIn : ℕ → List Float → List ℕ → Turn → Result
-shownIn wd xs ys t = record { runs = inner wd (t .next) xs ys; reply = t .reply; out = t .out; page = t .page }
+shownIn wd xs ys t = record { runs = inner wd (t .next) xs ys; reply = t .reply; out = t .out; bytes = t .bytes }
 
 module _ (wd : ℕ) (fm : Width wd) (m : Machine) (v : Valid (m .mesh) (m .places)) (xs : List Float) (ys : List ℕ) where
   abbrev FS : List Float
@@ -138,7 +139,7 @@ module _ (wd : ℕ) (fm : Width wd) (m : Machine) (v : Valid (m .mesh) (m .place
       let f = set-seven wd fm (m .mesh) (m .places) (v .places) (past m xs) i h s 4 w (omega arith) (rw e refl) (rw e (same-volumes k fit o w p l)) in
       let g : WS ≡ wordsOf wd (m .mesh) (set (m .places) i s) ys = same-place i h s (rw e refl) in
       rw (filled-in i h k fit o p l e, n, f)
-      (ap (λ (t : List ℕ). record { runs = record { floats = laidOut (m .mesh) (set (m .places) i s) (past m xs); words = t }; reply = done; out = []; page = [] }) g)
+      (ap (λ (t : List ℕ). record { runs = record { floats = laidOut (m .mesh) (set (m .places) i s) (past m xs); words = t }; reply = done; out = []; bytes = [] }) g)
 
   pub reweigh-held : (i : ℕ) (w : Float) → store wd (inner wd m xs ys) (reweigh i w) ≡ shownIn wd xs ys (machine m (reweigh i w))
   unfolding store machine reweighStep
@@ -184,7 +185,7 @@ module _ (wd : ℕ) (fm : Width wd) (m : Machine) (v : Valid (m .mesh) (m .place
       → result (record { reply = placedWith (fit .count) (need (m .mesh) fit) end; floats = putFloats FS i k fit; words = putWords wd WS i fit l }) ≡ shownIn wd xs ys (putTurn m i k fit end l)
   put-in i k fit end l h =
       rw (end-counts end, end-floats end)
-      (ap (λ (s : Store). record { runs = s; reply = putTurn m i k fit end l .reply; out = []; page = [] })
+      (ap (λ (s : Store). record { runs = s; reply = putTurn m i k fit end l .reply; out = []; bytes = [] })
       (put-runs i k fit own l h))
 
   pub put-held : (i : ℕ) (k : Kernel) (l : ℕ) → store wd (inner wd m xs ys) (put i k l) ≡ shownIn wd xs ys (machine m (put i k l))
@@ -255,6 +256,11 @@ module _ (wd : ℕ) (ly : Layered wd) (m : Machine) (v : Valid (m .mesh) (m .pla
       ap (λ (a : Answer). seen (inner wd m xs ys) (outcome a []))
       (finished-report wd ly (m .mesh) (m .places) v (past m xs) ys ls cv)
 
+  -- ---- its lines
+  lines-of-held : (bs : List ℕ) → store wd (inner wd m xs ys) (lines bs) ≡ shownIn wd xs ys (machine m (lines bs))
+  unfolding store machine
+  lines-of-held bs = ap (pinned (inner wd m xs ys)) (lines-held wd ly (m .mesh) (m .places) v (past m xs) ys bs)
+
   one-in : (c : Call) → store wd (inner wd m xs ys) c ≡ shownIn wd xs ys (machine m c)
   one-in (put i k l) = put-held wd fm m v xs ys i k l
   one-in (clear i) = clear-held wd fm m v xs ys i
@@ -264,6 +270,7 @@ module _ (wd : ℕ) (ly : Layered wd) (m : Machine) (v : Valid (m .mesh) (m .pla
   one-in (read ls r) = reading-held ls r
   one-in (finished ls cv) = finished-of-held ls cv
   one-in (page bs) = page-of-held wd fm m v xs ys bs
+  one-in (lines bs) = lines-of-held bs
 
 -- ---- what every turn keeps
 pub all-set : (P : Place → Type 0) (ss : List Place) (i : ℕ) (s : Place) → P s → ((j : ℕ) → P (getD ss j empty)) → (j : ℕ) → P (getD (set ss i s) j empty)
@@ -376,10 +383,11 @@ module _ (m : Machine) (v : Valid (m .mesh) (m .places)) where
   kept (read ls r) = record { valid = v; balance = refl; charged = omega arith }
   kept (finished ls cv) = record { valid = v; balance = refl; charged = omega arith }
   kept (page bs) = record { valid = v; balance = refl; charged = omega arith }
+  kept (lines bs) = record { valid = v; balance = refl; charged = omega arith }
 
 -- ---- one call, on the runs that hold the machine
 abbrev pub shown : ℕ → List Float → List ℕ → Turn → Result
-shown wd xs ys t = record { runs = holding wd (t .next) xs ys; reply = t .reply; out = t .out; page = t .page }
+shown wd xs ys t = record { runs = holding wd (t .next) xs ys; reply = t .reply; out = t .out; bytes = t .bytes }
 
 pub held-in : (wd : ℕ) (m : Machine) → Valid (m .mesh) (m .places) → (xs : List Float) (ys : List ℕ) → holding wd m xs ys ≡ inner wd m xs ys
 held-in wd m v xs ys = ap (λ (fs : List Float). record { floats = fs; words = wordsOf wd (m .mesh) (m .places) ys }) (laid-out (m .mesh) (m .places) v (past m xs))
@@ -388,7 +396,7 @@ pub one-call : (wd : ℕ) → Layered wd → (m : Machine) → Valid (m .mesh) (
 one-call wd fm m v xs ys c =
     let t = machine m c in
     ap (λ (s : Store). store wd s c) (held-in wd m v xs ys)
-    ∙ (one-in wd fm m v xs ys c ∙ ap (λ (s : Store). record { runs = s; reply = t .reply; out = t .out; page = t .page }) (sym (held-in wd (t .next) (kept m v c .valid) xs ys)))
+    ∙ (one-in wd fm m v xs ys c ∙ ap (λ (s : Store). record { runs = s; reply = t .reply; out = t .out; bytes = t .bytes }) (sym (held-in wd (t .next) (kept m v c .valid) xs ys)))
 
 -- ---- every list of calls
 module _ (wd : ℕ) (fm : Layered wd) where

@@ -1,5 +1,6 @@
--- Demand 3: of every opening, and of every carry. Assumes nothing.
+-- Demand 3: of every opening, of every carry, and of every text that is read. Assumes nothing.
 use mathlib.Core.Path.{_≡_, refl, sym, ap, subst, _∙_}
+use mathlib.Core.Bool.{true}
 use mathlib.Core.List.{List, [], _∷_, map}
 use Prim.Native.Nat.{ℕ, _<_}
 use native.Mathlib.Omega.{arith}
@@ -20,9 +21,9 @@ use Rattle.machine.specs.Demands.{Follows, leaving, refusedBy, carrying,
 use Rattle.machine.specs.Valid.{Valid}
 use Rattle.machine.proofs.Rows.{width3, width4, layered4}
 use Rattle.machine.proofs.Opened.{none-at}
-use Rattle.machine.proofs.Unaltered.{unaltered}
+use Rattle.machine.proofs.Unaltered.{heardBy, store-heard, unaltered}
 use Rattle.machine.proofs.Follow.{last, follows, holds, valid, opens-at}
-use Rattle.machine.proofs.Renumber.{toldBy, store-told}
+use Rattle.machine.proofs.Loading.{loads}
 use Rattle.machine.proofs.OldCalls.{Source, old-all}
 use Rattle.machine.proofs.Carrying.{left-same, carried-valid, refuses, carries}
 use Rattle.machine.proofs.Always.{low-all, same-after, carried-told}
@@ -126,9 +127,10 @@ module _
         let b = ap (λ (s : Store). leaves width s (map nowadays cs)) (holds width width4 r xs ks hs vs g) ∙ l .0 in
         ap (λ (s : Store). answers width s ds) a
         ∙ (carried-told m (put .sound) low (excessF (m .mesh .coords) gs) (excessW width (m .mesh .corners) us) ds
-        ∙ (ap (λ (t : Machine). toldBy t ds) (same-after fitter same cs M)
+        ∙ (ap (λ (t : Machine). heardBy (λ c. true) t ds) (same-after fitter same cs M)
         ∙ sym (ap (λ (s : Store). answers width s ds) b
-        ∙ store-told (excessF xs hs) (excessW width ks vs) ds (after-all M (map nowadays cs)) (l .1))))
+        ∙ store-heard width layered4 (excessF xs hs) (excessW width ks vs) (λ c. true) ds
+        (after-all M (map nowadays cs)) (l .1))))
 
   carry : Carries fitter r xs ks fs ws cs (by carried) gs us
   carry =
@@ -156,4 +158,4 @@ module _
       }
 
 pub demand3 : Demand3
-demand3 = record { opening = opens-at width layered4; carry = carry }
+demand3 = record { opening = opens-at width layered4; carry = carry; reading = loads width layered4 }

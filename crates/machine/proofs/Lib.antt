@@ -11,6 +11,7 @@ pub mod Afresh
 pub mod Look
 pub mod Finished
 pub mod Pages
+pub mod Written
 pub mod Slim
 pub mod Squeezing
 pub mod Claim
@@ -19,6 +20,8 @@ pub mod Opened
 pub mod Refused
 pub mod Listed
 pub mod Follow
+pub mod Loading
+pub mod Rewriting
 pub mod OldCalls
 pub mod Fitters
 pub mod Carrying

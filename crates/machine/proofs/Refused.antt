@@ -33,7 +33,7 @@ either true t = refl
 either false true = refl
 either false false = refl
 
-loose-below : (v : ℕ) (ks : List ℕ) → looseIn v ks ≡ not (allBelow v ks)
+pub loose-below : (v : ℕ) (ks : List ℕ) → looseIn v ks ≡ not (allBelow v ks)
 unfolding allBelow
 loose-below v [] = refl
 loose-below v (k ∷ ks) = rw (not-below v k, loose-below v ks) (go (ltb k v) (allBelow v ks))

@@ -1,7 +1,7 @@
 -- 02, L14: a mesh whose vertices are numbered anew has the same triangles and as many vertices in use, so every list of
 -- calls answers and writes the same. Assumes nothing.
 use mathlib.Core.Path.{_≡_, refl, sym, ap, subst, _∙_}
-use mathlib.Core.Bool.{Bool, true, false, _||_, cond}
+use mathlib.Core.Bool.{Bool, true, false, _||_, cond, true≢false}
 use mathlib.Core.List.{List, [], _∷_, map}
 use Prim.Native.Nat.{ℕ, zero, suc, _+_, _*_, _/_, _<_}
 use native.Mathlib.Decide.{decLt}
@@ -19,17 +19,18 @@ use Rattle.store.specs.Calls.{openStep}
 use Rattle.store.specs.Squeeze.{used, rank, renumbered, keptTo}
 use Rattle.store.specs.Marks.{Below}
 use Rattle.store.specs.TriangleLaws.{corner-used, rank-lt}
+use Rattle.script.specs.Written.{textAnswer}
 use Rattle.machine.specs.Machine.{Mesh, Machine, turn, freedBy, opened, openRow}
 use Rattle.machine.specs.Holding.{excessF, excessW}
-use Rattle.machine.specs.Calls.{Call, put, clear, reweigh, advance, squeeze, read, finished, page, machine, Store, holding, Heard, answers}
+use Rattle.machine.specs.Lines.{machineLines}
+use Rattle.machine.specs.Calls.{Call, put, clear, reweigh, advance, squeeze, read, finished, page, lines, machine, Store, Heard, heardOf, numberless}
 use Rattle.machine.specs.Demands.{leaving}
 use Rattle.machine.specs.Renumbering.{Renumbered, Renumbering}
 use Rattle.machine.specs.Valid.{Valid}
 use Rattle.machine.proofs.Rows.{width4, layered4, map-getD}
 use Rattle.machine.proofs.Slim.{thinned, slim-is, freed-is}
 use Rattle.machine.proofs.Squeezing.{remesh}
-use Rattle.machine.proofs.Claim.{one-call, kept}
-use Rattle.machine.proofs.Unaltered.{remade, Alike, told, corners-below, squeezed-alike, Goes, put-goes, clear-goes, reweigh-goes, advance-goes, read-goes, finished-goes, page-goes}
+use Rattle.machine.proofs.Unaltered.{remade, Alike, told, heardBy, store-heard, corners-below, squeezed-alike, Goes, put-goes, clear-goes, reweigh-goes, advance-goes, read-goes, finished-goes, page-goes}
 use Rattle.machine.proofs.Opened.{opens, opened-valid}
 use Rattle.machine.proofs.Follow.{passed, holds}
 
@@ -114,13 +115,15 @@ distinct-renumbered ks =
         go (no l) (yes g) = absurd (omega (arith, rank-lt ks b a w g, e))
         go (no l) (no g) = omega arith
 
--- ---- two meshes with the same triangles and as many vertices, of which as many are used
-pub record Paired (m : Mesh) (xs : List Float) (ks : List ℕ) (w : ℕ) : Type 0 where
+-- ---- two meshes with the same triangles and as many vertices, of which as many are used; one and the same where lines
+-- of the store, which show the numbers, are among the calls that are picked
+pub record Paired (pick : Call → Bool) (m : Mesh) (xs : List Float) (ks : List ℕ) (w : ℕ) : Type 0 where
   pub alike : Alike m xs ks w
   pub verts : w ≡ m .verts
   pub used-same : distinct ks ≡ distinct (m .corners)
+  pub shown : (bs : List ℕ) → pick (lines bs) ≡ true → remesh m xs ks w ≡ m
 
-module _ (m : Mesh) (xs : List Float) (ks : List ℕ) (w : ℕ) (a : Paired m xs ks w) where
+module _ (pick : Call → Bool) (m : Mesh) (xs : List Float) (ks : List ℕ) (w : ℕ) (a : Paired pick m xs ks w) where
   below : Below w ks
   below = corners-below (remesh m xs ks w) (a .alike .shape)
 
@@ -133,7 +136,7 @@ module _ (m : Mesh) (xs : List Float) (ks : List ℕ) (w : ℕ) (a : Paired m xs
   freed-same : freedBy (remesh m xs ks w) ≡ freedBy m
   freed-same = rw (freed-is (remesh m xs ks w), freed-is m, rank-same, a .verts) refl
 
-  squeezed-paired : Paired (thinned m) (keptTo ks xs w) (renumbered ks) (rank ks w)
+  squeezed-paired : Paired pick (thinned m) (keptTo ks xs w) (renumbered ks) (rank ks w)
   squeezed-paired =
       let g = a .alike .was in
       let own : Alike m (m .coords) (m .corners) (m .verts) = record { shape = g; was = g; same = λ f h. refl } in
@@ -143,22 +146,40 @@ module _ (m : Mesh) (xs : List Float) (ks : List ℕ) (w : ℕ) (a : Paired m xs
         alike = record { shape = s .shape; was = t .shape; same = λ f h. s .same f h ∙ sym (t .same f h) };
         verts = rank-same;
         used-same = distinct-renumbered ks ∙ (a .used-same ∙ sym (distinct-renumbered (m .corners)));
+        shown = λ bs p. ap thinned (a .shown bs p);
       }
 
 -- ---- a list of calls
-abbrev pub toldBy : Machine → List Call → List Heard
-toldBy m [] = []
-toldBy m (c ∷ cs) = told (machine m c) ∷ toldBy (machine m c .next) cs
-
-module _ (m : Machine) (c : Call) (cs : List Call) (xs : List Float) (ks : List ℕ) (w g : ℕ) where
-  one-told : Goes m c xs ks w g → Paired (m .mesh) xs ks w
-      → (Paired (machine m c .next .mesh) xs ks w
-      → toldBy (remade (machine m c .next) xs ks w g) cs ≡ toldBy (machine m c .next) cs)
-      → toldBy (remade m xs ks w g) (c ∷ cs) ≡ toldBy m (c ∷ cs)
+module _ (pick : Call → Bool) (m : Machine) (c : Call) (cs : List Call) (xs : List Float) (ks : List ℕ) (w g : ℕ) where
+  one-told : Goes m c xs ks w g → Paired pick (m .mesh) xs ks w
+      → (Paired pick (machine m c .next .mesh) xs ks w
+      → heardBy pick (remade (machine m c .next) xs ks w g) cs ≡ heardBy pick (machine m c .next) cs)
+      → heardBy pick (remade m xs ks w g) (c ∷ cs) ≡ heardBy pick m (c ∷ cs)
   one-told s a ih =
       rw (s .lift)
-      (ap (λ (os : List Heard). told (machine m c) ∷ os)
-      (ih (subst (λ (t : Mesh). Paired t xs ks w) (sym (s .mesh)) a)))
+      (ap (λ (os : List Heard). cond (pick c) (told (machine m c) ∷ os) os)
+      (ih (subst (λ (t : Mesh). Paired pick t xs ks w) (sym (s .mesh)) a)))
+
+-- lines are picked of one and the same mesh alone
+lines-told : (pick : Call → Bool) (m : Machine) (cs : List Call) (xs : List Float) (ks : List ℕ) (w g : ℕ) (bs : List ℕ)
+    → Paired pick (m .mesh) xs ks w → heardBy pick (remade m xs ks w g) cs ≡ heardBy pick m cs
+    → heardBy pick (remade m xs ks w g) (lines bs ∷ cs) ≡ heardBy pick m (lines bs ∷ cs)
+unfolding machine
+lines-told pick m cs xs ks w g bs a ih = go (pick (lines bs)) (a .shown bs)
+  where
+    n : Machine
+    n = remade m xs ks w g
+
+    said : Mesh → Heard
+    said t =
+        let a = textAnswer (machineLines t (m .places)) bs in
+        record { reply = a .reply; out = []; bytes = a .bytes }
+
+    go : (b : Bool) → (b ≡ true → remesh (m .mesh) xs ks w ≡ m .mesh)
+        → cond b (said (remesh (m .mesh) xs ks w) ∷ heardBy pick n cs) (heardBy pick n cs)
+        ≡ cond b (said (m .mesh) ∷ heardBy pick m cs) (heardBy pick m cs)
+    go true e = λ j. said (e refl j) ∷ ih j
+    go false e = ih
 
 -- the machine that a squeeze leaves, by the store's own definitions
 abbrev thinner : Machine → Machine
@@ -176,38 +197,42 @@ squeezes : (m : Machine) → Below (m .mesh .verts) (m .mesh .corners)
 unfolding machine
 squeezes m b = rw (slim-is (m .mesh) b) refl
 
-pub same-told : (cs : List Call) (m : Machine) (xs : List Float) (ks : List ℕ) (w g : ℕ) → Paired (m .mesh) xs ks w
-    → toldBy (remade m xs ks w g) cs ≡ toldBy m cs
-same-told [] m xs ks w g a = refl
-same-told (put i k l ∷ cs) m xs ks w g a =
-    one-told m (put i k l) cs xs ks w g (put-goes m xs ks w g i k l) a (same-told cs (machine m (put i k l) .next) xs ks w g)
-same-told (clear i ∷ cs) m xs ks w g a =
-    one-told m (clear i) cs xs ks w g (clear-goes m xs ks w g i) a (same-told cs (machine m (clear i) .next) xs ks w g)
-same-told (reweigh i x ∷ cs) m xs ks w g a =
-    one-told m (reweigh i x) cs xs ks w g (reweigh-goes m xs ks w g i x) a
-    (same-told cs (machine m (reweigh i x) .next) xs ks w g)
-same-told (advance k ∷ cs) m xs ks w g a =
-    one-told m (advance k) cs xs ks w g (advance-goes m xs ks w g k) a
-    (same-told cs (machine m (advance k) .next) xs ks w g)
-same-told (squeeze ∷ cs) m xs ks w g a =
+pub same-told : (pick : Call → Bool) (cs : List Call) (m : Machine) (xs : List Float) (ks : List ℕ) (w g : ℕ)
+    → Paired pick (m .mesh) xs ks w → heardBy pick (remade m xs ks w g) cs ≡ heardBy pick m cs
+same-told pick [] m xs ks w g a = refl
+same-told pick (put i k l ∷ cs) m xs ks w g a =
+    one-told pick m (put i k l) cs xs ks w g (put-goes m xs ks w g i k l) a
+    (same-told pick cs (machine m (put i k l) .next) xs ks w g)
+same-told pick (clear i ∷ cs) m xs ks w g a =
+    one-told pick m (clear i) cs xs ks w g (clear-goes m xs ks w g i) a
+    (same-told pick cs (machine m (clear i) .next) xs ks w g)
+same-told pick (reweigh i x ∷ cs) m xs ks w g a =
+    one-told pick m (reweigh i x) cs xs ks w g (reweigh-goes m xs ks w g i x) a
+    (same-told pick cs (machine m (reweigh i x) .next) xs ks w g)
+same-told pick (advance k ∷ cs) m xs ks w g a =
+    one-told pick m (advance k) cs xs ks w g (advance-goes m xs ks w g k) a
+    (same-told pick cs (machine m (advance k) .next) xs ks w g)
+same-told pick (squeeze ∷ cs) m xs ks w g a =
     let f = freedBy (m .mesh) in
-    let b = squeezed-paired (m .mesh) xs ks w a in
+    let b = squeezed-paired pick (m .mesh) xs ks w a in
     rw (
-      squeezes (remade m xs ks w g) (below (m .mesh) xs ks w a),
-      squeezes m (own-below (m .mesh) xs ks w a),
-      freed-same (m .mesh) xs ks w a,
+      squeezes (remade m xs ks w g) (below pick (m .mesh) xs ks w a),
+      squeezes m (own-below pick (m .mesh) xs ks w a),
+      freed-same pick (m .mesh) xs ks w a,
     )
-    (ap (λ (os : List Heard). told (turn m (counted (f ∷ []))) ∷ os)
-    (same-told cs (thinner m) (keptTo ks xs w) (renumbered ks) (rank ks w) (f + g) b))
-same-told (read ls r ∷ cs) m xs ks w g a =
-    one-told m (read ls r) cs xs ks w g (read-goes m xs ks w g (a .alike) ls r) a
-    (same-told cs (machine m (read ls r) .next) xs ks w g)
-same-told (finished ls cv ∷ cs) m xs ks w g a =
-    one-told m (finished ls cv) cs xs ks w g (finished-goes m xs ks w g (a .alike) ls cv) a
-    (same-told cs (machine m (finished ls cv) .next) xs ks w g)
-same-told (page bs ∷ cs) m xs ks w g a =
-    one-told m (page bs) cs xs ks w g (page-goes m xs ks w g (a .alike) bs) a
-    (same-told cs (machine m (page bs) .next) xs ks w g)
+    (ap (λ (os : List Heard). cond (pick squeeze) (told (turn m (counted (f ∷ []))) ∷ os) os)
+    (same-told pick cs (thinner m) (keptTo ks xs w) (renumbered ks) (rank ks w) (f + g) b))
+same-told pick (read ls r ∷ cs) m xs ks w g a =
+    one-told pick m (read ls r) cs xs ks w g (read-goes m xs ks w g (a .alike) ls r) a
+    (same-told pick cs (machine m (read ls r) .next) xs ks w g)
+same-told pick (finished ls cv ∷ cs) m xs ks w g a =
+    one-told pick m (finished ls cv) cs xs ks w g (finished-goes m xs ks w g (a .alike) ls cv) a
+    (same-told pick cs (machine m (finished ls cv) .next) xs ks w g)
+same-told pick (page bs ∷ cs) m xs ks w g a =
+    one-told pick m (page bs) cs xs ks w g (page-goes m xs ks w g (a .alike) bs) a
+    (same-told pick cs (machine m (page bs) .next) xs ks w g)
+same-told pick (lines bs ∷ cs) m xs ks w g a =
+    lines-told pick m cs xs ks w g bs a (same-told pick cs m xs ks w g a)
 
 -- ---- a mesh and the one with its vertices numbered anew
 module _ (p q : ℕ → ℕ) (xs : List Float) (ks : List ℕ) (ys : List Float) (ls : List ℕ) (e : Renumbered p q xs ks ys ls)
@@ -228,14 +253,6 @@ module _ (p q : ℕ → ℕ) (xs : List Float) (ks : List ℕ) (ys : List Float)
       ap distinct (e .corners) ∙ distinct-map p ks (λ i j h g z. sym (taken-back i h) ∙ (ap q z ∙ taken-back j g))
 
 -- ---- the store
-pub store-told : (exF : List Float) (exW : List ℕ) (cs : List Call) (m : Machine) → Valid (m .mesh) (m .places)
-    → answers width (holding width m exF exW) cs ≡ toldBy m cs
-store-told exF exW [] m v = refl
-store-told exF exW (c ∷ cs) m v =
-    rw (one-call width layered4 m v exF exW c)
-    (ap (λ (os : List Heard). told (machine m c) ∷ os)
-    (store-told exF exW cs (machine m c .next) (kept m v c .valid)))
-
 module _ (r : Float) (xs : List Float) (ks : List ℕ) (fs : List Float) (ws : List ℕ)
     (h : openRow width xs ks (length fs) (length ws) ≡ 0) where
   valid : Valid (opened r xs ks .mesh) (opened r xs ks .places)
@@ -245,10 +262,10 @@ module _ (r : Float) (xs : List Float) (ks : List ℕ) (fs : List Float) (ws : L
   opened-reply = ap (λ (a : After). a .reply) (opens width width4 r xs ks fs ws (passed width width4 r xs ks fs ws h))
 
   opened-told : (cs : List Call)
-      → answers width (leaving (openStep width fs ws r xs ks)) cs ≡ toldBy (opened r xs ks) cs
+      → heardOf numberless width (leaving (openStep width fs ws r xs ks)) cs ≡ heardBy numberless (opened r xs ks) cs
   opened-told cs =
-      ap (λ (s : Store). answers width s cs) (holds width width4 r xs ks fs ws h)
-      ∙ store-told (excessF xs fs) (excessW width ks ws) cs (opened r xs ks) valid
+      ap (λ (s : Store). heardOf numberless width s cs) (holds width width4 r xs ks fs ws h)
+      ∙ store-heard width layered4 (excessF xs fs) (excessW width ks ws) numberless cs (opened r xs ks) valid
 
 pub renumbering : Renumbering
 renumbering p q xs ks ys ls e r fs ws gs us h k =
@@ -258,7 +275,7 @@ renumbering p q xs ks ys ls e r fs ws gs us h k =
     let l : length ls ≡ length ks = ap length (e .corners) ∙ length-map ks p in
     let m = opened r xs ks in
     let is : opened r ys ls ≡ remade m ys ls (length ys / 3) 0 = rw l refl in
-    let a : Paired (m .mesh) ys ls (length ys / 3)
+    let a : Paired numberless (m .mesh) ys ls (length ys / 3)
     = record {
       alike = record {
         shape = rw l at w;
@@ -267,13 +284,14 @@ renumbering p q xs ks ys ls e r fs ws gs us h k =
       };
       verts = ap (λ (n : ℕ). n / 3) (e .long);
       used-same = same-used p q xs ks ys ls e b;
+      shown = λ bs z. absurd (true≢false (sym z));
     } in
     record {
       opening = opened-reply r xs ks fs ws h ∙ sym (opened-reply r ys ls gs us k ∙ rw (e .long, l) refl);
       calls = λ cs.
           opened-told r xs ks fs ws h cs
-          ∙ (sym (same-told cs m ys ls (length ys / 3) 0 a)
-          ∙ (ap (λ (t : Machine). toldBy t cs) (sym is) ∙ sym (opened-told r ys ls gs us k cs)));
+          ∙ (sym (same-told numberless cs m ys ls (length ys / 3) 0 a)
+          ∙ (ap (λ (t : Machine). heardBy numberless t cs) (sym is) ∙ sym (opened-told r ys ls gs us k cs)));
     }
 
 -- ---- the premise is met where two vertices change places

@@ -1,18 +1,18 @@
--- 02, L14: no answer sees the sign of the sigma of a kernel that stays, but that a list writes it, and no volume so far
--- does. Assumes nothing.
+-- 02, L14: no answer sees the sign of the sigma of a kernel that stays, but that a list and the store's lines write it,
+-- and no volume so far does. Assumes nothing.
 use mathlib.Core.Path.{_≡_, refl, sym, ap, subst, _∙_}
 use mathlib.Core.Bool.{Bool, true, false, _&&_, cond}
 use mathlib.Core.List.{List, [], _∷_, _++_, map, map-append}
 use Prim.Native.Nat.{ℕ, zero, suc, _+_, _*_, _-_, _/_, _^_, _<_, min}
 use native.Mathlib.Omega.{arith}
 use lib.Dec.{ltb, leb, eqb}
-use lib.ListN.{length, getD, drop, length-map, List·getD-map}
-use lib.Ieee.{Float, nan, inf, fin, neg, ofBits, ne}
+use lib.ListN.{length, getD, drop, length-append, length-map, List·getD-map}
+use lib.Ieee.{Float, nan, inf, fin, neg, ofBits, ne, binary64, toBits}
 use Rattle.base.specs.Floats.{_⊕_, _⊗_, +0, abs, greater}
 use Rattle.base.specs.SignLaws.{abs-neg}
 use Rattle.base.specs.Loops.{iterate}
 use Rattle.base.specs.LoopLaws.{times-same}
-use Rattle.base.specs.Answers.{Answer, accepted, refused, counted, Outcome, outcome, guardedRun, roomCheck}
+use Rattle.base.specs.Answers.{Answer, accepted, refused, counted, Outcome, outcome, guardedRun, roomCheck, printout, guardedBytes}
 use Rattle.base.specs.declared.refusal.Refusal.the-variants.{NoPlace, NoLayer, Unfinished}
 use Rattle.base.specs.declared.refusal.Checked.{Checked}
 use Rattle.base.specs.declared.refusal.Checked.the-variants.{Passed, Failed}
@@ -42,11 +42,17 @@ use Rattle.readings.specs.AlongLaws.{stretch-same}
 use Rattle.readings.specs.Readings.{Reading, density, report, list, track, noKernel, origin, rescaled, six, sixes, trackCheck, refusing}
 use Rattle.readings.specs.SixLaws.{whole, sixes-length, at-whole, list-sound, count-of}
 use Rattle.page.specs.Page.{Row, row, pageAnswer}
+use Rattle.text.specs.Print.{patternText, floatText}
+use Rattle.text.specs.WriteLaws.{length-digits}
+use Rattle.text.specs.Form.{print, _&_}
+use Rattle.script.specs.Lines.{openLine, putLine}
+use Rattle.script.specs.Written.{textCheck, textAnswer}
 use Rattle.machine.specs.Machine.{Mesh, Provenance, own, carried, Place, empty, full, among, seenPlace, seenPlaces, isComplete, completePlace, completePlaces, passedPlaces, leftPlace, leftSum, adv, bump, Machine, Turn, turn, stepsOf, putTurn, clearTurn, weighed, reweighTurn, opened}
 use Rattle.machine.specs.Holding.{triangles, cells, excessF, excessW}
 use Rattle.machine.specs.Valid.{Valid}
 use Rattle.machine.specs.Fresh.{Worked, fitAfresh, workAll, piecesTo, piecesOf, allPieces, worstFrom, valueOf, massOf, originOf, scaledList, readingOn, workedAfresh, finishedAfresh, freshRow, freshRows, pageAfresh}
-use Rattle.machine.specs.Calls.{Call, put, clear, reweigh, advance, squeeze, read, finished, page, needs, machine, Store, after-all, holding, past, Heard}
+use Rattle.machine.specs.Lines.{vertLines, faceLines, putValues, putsOf, putLines, machineLines}
+use Rattle.machine.specs.Calls.{Call, put, clear, reweigh, advance, squeeze, read, finished, page, lines, needs, machine, Store, after-all, holding, past, Heard}
 use Rattle.machine.specs.Signs.{unsigned, unsignedCall, unsignedRun, unsignedRead, unsignedHeard, said, SameSaid, SignsUnseen}
 use Rattle.machine.proofs.Rows.{width4, layered4, map-set, map-getD}
 use Rattle.machine.proofs.Sixteen.{sixteen, laid-out}
@@ -136,12 +142,12 @@ written-same ks out =
 
 -- a reading's answer and run
 abbrev readSaid : Reading → Outcome → Heard
-readSaid r o = unsignedRead r (record { reply = o .reply; out = o .out; page = [] })
+readSaid r o = unsignedRead r (record { reply = o .reply; out = o .out; bytes = [] })
 
 listed : (v : Convention) (out a b : List Float) (n : ℕ) → unsignedRun n a ≡ unsignedRun n b → (c : Checked)
     → readSaid (list v out) (guardedRun c out (outcome (counted (n ∷ [])) a))
     ≡ readSaid (list v out) (guardedRun c out (outcome (counted (n ∷ [])) b))
-listed v out a b n h Passed = ap (λ (xs : List Float). record { reply = counted (n ∷ []); out = xs; page = [] }) h
+listed v out a b n h Passed = ap (λ (xs : List Float). record { reply = counted (n ∷ []); out = xs; bytes = [] }) h
 listed v out a b n h (Failed r) = refl
 
 module _ (m : Mesh) (ks : List Kernel) (filled : ℕ) (worst : Float) where
@@ -149,7 +155,7 @@ module _ (m : Mesh) (ks : List Kernel) (filled : ℕ) (worst : Float) where
       → readSaid r (readingOn m (map even ks) filled worst r) ≡ readSaid r (readingOn m ks filled worst r)
   reading-same (density v x) =
       rw (scaled-same m ks v)
-      (ap (λ (a : Answer). record { reply = a; out = []; page = [] }) (density-same (scaled m ks v) x))
+      (ap (λ (a : Answer). record { reply = a; out = []; bytes = [] }) (density-same (scaled m ks v) x))
   reading-same (report v) = rw (mass-same m ks, origin-same m ks, length-map ks even) refl
   reading-same (list v out) =
       let js = scaled m ks v in
@@ -392,6 +398,52 @@ held-same : (m : Mesh) (s : Place) (j : ℕ)
 held-same m empty j = refl
 held-same m (full k fit o p l) j = cells-same m k fit 16 0 j p
 
+-- ---- the lines of a store: a pattern has sixteen digits, whatever its sign is
+float-long : (x : Float) → length (floatText x) ≡ 16
+unfolding patternText
+float-long x = length-digits 16 16 (toBits binary64 x)
+
+put-long : (i : ℕ) (k : Kernel) (l : ℕ)
+    → length (print putLine (putValues i (unsigned k) l)) ≡ length (print putLine (putValues i k l))
+put-long i k l = simp (length-append, float-long)
+
+puts-long : (i : ℕ) (ss : List Place)
+    → length (putLines (putsOf i (map unsignedPlace ss))) ≡ length (putLines (putsOf i ss))
+puts-long i [] = refl
+puts-long i (empty ∷ ss) = puts-long (suc i) ss
+puts-long i (full k fit o p l ∷ ss) =
+    rw (
+      length-append (print putLine (putValues i (unsigned k) l)) (putLines (putsOf (suc i) (map unsignedPlace ss))),
+      length-append (print putLine (putValues i k l)) (putLines (putsOf (suc i) ss)),
+      put-long i k l,
+      puts-long (suc i) ss,
+    ) refl
+
+-- what stands before two texts
+front-long : (a t u : List ℕ) → length t ≡ length u → length (a ++ t) ≡ length (a ++ u)
+front-long a t u e = length-append a t ∙ (ap (λ (n : ℕ). length a + n) e ∙ sym (length-append a u))
+
+lines-long : (m : Mesh) (ss : List Place) → length (machineLines m (map unsignedPlace ss)) ≡ length (machineLines m ss)
+unfolding machineLines
+lines-long m ss =
+    let a = putLines (putsOf 0 (map unsignedPlace ss)) in
+    let b = putLines (putsOf 0 ss) in
+    let f = faceLines (m .corners) in
+    let x = vertLines (m .coords) in
+    front-long (print openLine (m .radius & m .verts & m .faces & tt)) (x ++ (f ++ a)) (x ++ (f ++ b))
+    (front-long x (f ++ a) (f ++ b) (front-long f a b (puts-long 0 ss)))
+
+-- two texts of as many bytes are answered alike
+same-count : (t u bs : List ℕ) → length t ≡ length u → textAnswer t bs .reply ≡ textAnswer u bs .reply
+unfolding textAnswer
+same-count t u bs e = rw e (go (textCheck (length u) (length bs)))
+  where
+    go : (c : Checked)
+        → guardedBytes c bs (printout (counted (length u ∷ [])) (write bs 0 t)) .reply
+        ≡ guardedBytes c bs (printout (counted (length u ∷ [])) (write bs 0 u)) .reply
+    go Passed = refl
+    go (Failed r) = refl
+
 -- ---- one call
 abbrev unsignedMachine : Machine → Machine
 unsignedMachine m =
@@ -404,7 +456,7 @@ unsignedMachine m =
     }
 
 abbrev unsignedTurn : Turn → Turn
-unsignedTurn t = record { next = unsignedMachine (t .next); reply = t .reply; out = t .out; page = t .page }
+unsignedTurn t = record { next = unsignedMachine (t .next); reply = t .reply; out = t .out; bytes = t .bytes }
 
 abbrev turnSaid : Call → Turn → Heard
 turnSaid c t = unsignedHeard c (told t)
@@ -492,6 +544,13 @@ unseen m (finished ls v) =
     (rw (seen-same ls (m .places), finished-same (m .mesh) (seenPlaces ls (m .places)) v) refl)
 unseen m (page bs) =
     by-turn m (page bs) (λ o. refl) (rw (left-sum-same (m .mesh) (m .places), page-same (m .mesh) (m .places) bs) refl)
+unseen m (lines bs) =
+    record {
+      same = ap (λ (a : Answer). record { reply = a; out = []; bytes = [] })
+          (same-count (machineLines (m .mesh) (map unsignedPlace (m .places))) (machineLines (m .mesh) (m .places)) bs
+          (lines-long (m .mesh) (m .places)));
+      next = refl;
+    }
 
 -- ---- a list of calls
 abbrev saidBy : Machine → List Call → List Heard

@@ -21,7 +21,7 @@ use Rattle.pieces.specs.Pieces.{decomposed}
 use Rattle.pieces.specs.PieceLaws.{same-pieces}
 use Rattle.machine.specs.Machine.{Mesh, Provenance, own, carried, Place, empty, full, among, seenPlace, seenPlaces, leftPlace, adv, bump, stepsOf, Machine, Turn, turn, clearTurn, weighed, reweighTurn, slim}
 use Rattle.machine.specs.Fresh.{kernelOf, fitAfresh, workAll, piecesOf, allPieces}
-use Rattle.machine.specs.Calls.{Call, put, clear, reweigh, advance, squeeze, read, finished, page, machine, after-all, holding, chargedBy, chargedIn}
+use Rattle.machine.specs.Calls.{Call, put, clear, reweigh, advance, squeeze, read, finished, page, lines, machine, after-all, holding, chargedBy, chargedIn}
 use Rattle.machine.specs.Valid.{Valid}
 use Rattle.machine.specs.Bills.{Reordered, none, keep, swap, then, Every, putBy, putIn, placeBy, placesIn, InStore, layerBy, layersIn, InSixteen, Apart}
 use Rattle.machine.proofs.Rows.{Layered}
@@ -273,6 +273,7 @@ module _ (m : Machine) (hs : length (m .places) ≡ 32) where
   step (read ls r) = idle (read ls r) refl (machine m (read ls r)) refl refl
   step (finished ls cv) = idle (finished ls cv) refl (machine m (finished ls cv)) refl refl
   step (page bs) = idle (page bs) refl (machine m (page bs)) refl refl
+  step (lines bs) = idle (lines bs) refl (machine m (lines bs)) refl refl
 
 -- ---- places of a list, each of which is apart from the others
 every-split : {A : Type 0} (P : A → Type 0) (is js : List A) → Every P (is ++ js) → Every P is × Every P js

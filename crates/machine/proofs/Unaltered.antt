@@ -30,7 +30,7 @@ use Rattle.store.specs.TriangleLaws.{same-triangle}
 use Rattle.machine.specs.Machine.{Mesh, Place, empty, full, seenPlaces, completePlaces, passedPlaces, bump, Machine, Turn, turn, freedBy, stepsOf, putTurn, clearTurn, reweighTurn}
 use Rattle.machine.specs.Holding.{triangles}
 use Rattle.machine.specs.Fresh.{fitAfresh, freshRow, freshRows, workedAfresh, finishedAfresh, pageAfresh}
-use Rattle.machine.specs.Calls.{Call, put, clear, reweigh, advance, squeeze, read, finished, page, machine, holding, without, Heard, others, heard}
+use Rattle.machine.specs.Calls.{Call, put, clear, reweigh, advance, squeeze, read, finished, page, lines, machine, holding, without, Heard, heardOf, steady, heard}
 use Rattle.machine.specs.Valid.{Shape, Valid}
 use Rattle.machine.proofs.Rows.{Layered}
 use Rattle.machine.proofs.Parts.{freshPart, freshAt, freshPlace, freshAll, freshSeen}
@@ -109,7 +109,7 @@ abbrev pub remade : Machine → List Float → List ℕ → ℕ → ℕ → Mach
 remade m xs ks w g = record { mesh = remesh (m .mesh) xs ks w; places = m .places; charged = m .charged; dropped = m .dropped; freed = g }
 
 abbrev pub lifted : Turn → List Float → List ℕ → ℕ → ℕ → Turn
-lifted t xs ks w g = record { next = remade (t .next) xs ks w g; reply = t .reply; out = t .out; page = t .page }
+lifted t xs ks w g = record { next = remade (t .next) xs ks w g; reply = t .reply; out = t .out; bytes = t .bytes }
 
 -- a mesh with the triangles of a machine's
 pub record Alike (m : Mesh) (xs : List Float) (ks : List ℕ) (w : ℕ) : Type 0 where
@@ -202,11 +202,13 @@ module _ (m : Machine) (xs : List Float) (ks : List ℕ) (w g : ℕ) where
 
 -- ---- a list of calls
 abbrev pub told : Turn → Heard
-told t = record { reply = t .reply; out = t .out; page = t .page }
+told t = record { reply = t .reply; out = t .out; bytes = t .bytes }
 
-abbrev heardBy : Machine → List Call → List Heard
-heardBy m [] = []
-heardBy m (c ∷ cs) = others c (told (machine m c)) (heardBy (machine m c .next) cs)
+abbrev pub heardBy : (Call → Bool) → Machine → List Call → List Heard
+heardBy pick m [] = []
+heardBy pick m (c ∷ cs) =
+    let rest = heardBy pick (machine m c .next) cs in
+    cond (pick c) (told (machine m c) ∷ rest) rest
 
 pub corners-below : (m : Mesh) → Shape m → Below (m .verts) (m .corners)
 corners-below m g = record { corner = below-each (m .verts) (m .corners) (g .below) }
@@ -224,13 +226,16 @@ squeezed-alike m xs ks w a =
 
 module _ (m : Machine) (c : Call) (cs : List Call) (xs : List Float) (ks : List ℕ) (w g : ℕ) where
   one-heard : Goes m c xs ks w g → Alike (m .mesh) xs ks w
-      → (Alike (machine m c .next .mesh) xs ks w → heardBy (remade (machine m c .next) xs ks w g) cs ≡ heardBy (machine m c .next) (without cs))
-      → _≡_ {A = List Heard} (told (machine (remade m xs ks w g) c) ∷ heardBy (machine (remade m xs ks w g) c .next) cs)
-      (told (machine m c) ∷ heardBy (machine m c .next) (without cs))
+      → (Alike (machine m c .next .mesh) xs ks w
+      → heardBy steady (remade (machine m c .next) xs ks w g) cs ≡ heardBy steady (machine m c .next) (without cs))
+      → _≡_ {A = List Heard}
+      (told (machine (remade m xs ks w g) c) ∷ heardBy steady (machine (remade m xs ks w g) c .next) cs)
+      (told (machine m c) ∷ heardBy steady (machine m c .next) (without cs))
   one-heard s a ih =
       rw (s .lift) (ap (λ (os : List Heard). told (machine m c) ∷ os) (ih (subst (λ (t : Mesh). Alike t xs ks w) (sym (s .mesh)) a)))
 
-same-heard : (cs : List Call) (m : Machine) (xs : List Float) (ks : List ℕ) (w g : ℕ) → Alike (m .mesh) xs ks w → heardBy (remade m xs ks w g) cs ≡ heardBy m (without cs)
+same-heard : (cs : List Call) (m : Machine) (xs : List Float) (ks : List ℕ) (w g : ℕ) → Alike (m .mesh) xs ks w
+    → heardBy steady (remade m xs ks w g) cs ≡ heardBy steady m (without cs)
 unfolding machine
 same-heard [] m xs ks w g a = refl
 same-heard (put i k l ∷ cs) m xs ks w g a = one-heard m (put i k l) cs xs ks w g (put-goes m xs ks w g i k l) a (same-heard cs (machine m (put i k l) .next) xs ks w g)
@@ -245,6 +250,7 @@ same-heard (finished ls cv ∷ cs) m xs ks w g a =
     one-heard m (finished ls cv) cs xs ks w g (finished-goes m xs ks w g a ls cv) a
     (same-heard cs (machine m (finished ls cv) .next) xs ks w g)
 same-heard (page bs ∷ cs) m xs ks w g a = one-heard m (page bs) cs xs ks w g (page-goes m xs ks w g a bs) a (same-heard cs (machine m (page bs) .next) xs ks w g)
+same-heard (lines bs ∷ cs) m xs ks w g a = same-heard cs m xs ks w g a
 
 -- ---- a reading of the machine's mesh is one of the mesh opened
 pub record From (o m : Mesh) : Type 0 where
@@ -267,6 +273,7 @@ from-next o m squeeze f =
 from-next o m (read ls r) f = f
 from-next o m (finished ls cv) f = f
 from-next o m (page bs) f = f
+from-next o m (lines bs) f = f
 
 module _ (o m : Mesh) (f : From o m) where
   mesh-is : m ≡ remesh o (m .coords) (m .corners) (m .verts)
@@ -290,13 +297,18 @@ module _ (o m : Mesh) (f : From o m) where
       ∙ page-same o (m .coords) (m .corners) (m .verts) (f .alike .same) (f .alike .shape) (f .alike .was) ss bs
 
 module _ (wd : ℕ) (fm : Layered wd) (exF : List Float) (exW : List ℕ) where
-  store-heard : (cs : List Call) (m : Machine) → Valid (m .mesh) (m .places) → heard wd (holding wd m exF exW) cs ≡ heardBy m cs
-  store-heard [] m v = refl
-  store-heard (c ∷ cs) m v =
-      rw (one-call wd fm m v exF exW c) (ap (others c (told (machine m c))) (store-heard cs (machine m c .next) (kept m v c .valid)))
+  pub store-heard : (pick : Call → Bool) (cs : List Call) (m : Machine) → Valid (m .mesh) (m .places)
+      → heardOf pick wd (holding wd m exF exW) cs ≡ heardBy pick m cs
+  store-heard pick [] m v = refl
+  store-heard pick (c ∷ cs) m v =
+      rw (one-call wd fm m v exF exW c)
+      (ap (λ (os : List Heard). cond (pick c) (told (machine m c) ∷ os) os)
+      (store-heard pick cs (machine m c .next) (kept m v c .valid)))
 
   pub unaltered : (m : Machine) → Valid (m .mesh) (m .places) → (cs : List Call) → heard wd (holding wd m exF exW) cs ≡ heard wd (holding wd m exF exW) (without cs)
   unaltered m v cs =
       let a : Alike (m .mesh) (m .mesh .coords) (m .mesh .corners) (m .mesh .verts)
       = record { shape = v .mesh; was = v .mesh; same = λ f h. refl } in
-      store-heard cs m v ∙ (same-heard cs m (m .mesh .coords) (m .mesh .corners) (m .mesh .verts) (m .freed) a ∙ sym (store-heard (without cs) m v))
+      store-heard steady cs m v
+      ∙ (same-heard cs m (m .mesh .coords) (m .mesh .corners) (m .mesh .verts) (m .freed) a
+      ∙ sym (store-heard steady (without cs) m v))

@@ -20,7 +20,7 @@ use Rattle.store.specs.Calls.{openStep}
 use Rattle.readings.specs.Readings.{list}
 use Rattle.machine.specs.Machine.{openRow}
 use Rattle.machine.specs.Holding.{flat}
-use Rattle.machine.specs.Calls.{Call, put, clear, reweigh, advance, squeeze, read, finished, page, Store, store, leaves, chargedIn}
+use Rattle.machine.specs.Calls.{Call, put, clear, reweigh, advance, squeeze, read, finished, page, lines, Store, store, leaves, chargedIn}
 use Rattle.machine.specs.Demands.{leaving}
 
 -- ---- the kernels of a list
@@ -61,6 +61,7 @@ putBy squeeze = []
 putBy (read ls r) = []
 putBy (finished ls v) = []
 putBy (page bs) = []
+putBy (lines bs) = []
 
 abbrev pub putIn : List Call → List Kernel
 putIn cs = flat (map putBy cs)
@@ -75,6 +76,7 @@ placeBy squeeze = []
 placeBy (read ls r) = []
 placeBy (finished ls v) = []
 placeBy (page bs) = []
+placeBy (lines bs) = []
 
 abbrev pub placesIn : List Call → List ℕ
 placesIn cs = flat (map placeBy cs)
@@ -93,6 +95,7 @@ layerBy squeeze = []
 layerBy (read ls r) = []
 layerBy (finished ls v) = []
 layerBy (page bs) = []
+layerBy (lines bs) = []
 
 abbrev pub layersIn : List Call → List ℕ
 layersIn cs = flat (map layerBy cs)

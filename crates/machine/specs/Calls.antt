@@ -7,7 +7,7 @@ use lib.Dec.{ltb, leb}
 use lib.ListN.{getD, replicate}
 use lib.Ieee.{Float, lt}
 use Rattle.base.specs.Floats.{+0}
-use Rattle.base.specs.Answers.{Answer, refused, Outcome, outcome}
+use Rattle.base.specs.Answers.{Answer, refused, Outcome, outcome, Printout, printout}
 use Rattle.base.specs.declared.refusal.Refusal.the-variants.{NoPlace, Unfinished, NoLayer}
 use Rattle.kernel.specs.declared.kernel.Kernel.{Kernel}
 use Rattle.pieces.specs.Pieces.{decomposed}
@@ -21,11 +21,13 @@ use Rattle.density.specs.declared.convention.Convention.{Convention}
 use Rattle.density.specs.declared.convention.Convention.the-variants.{Raw, Rho0, Mass}
 use Rattle.readings.specs.Readings.{Reading, density, report, list, track, refusing, readStep}
 use Rattle.readings.specs.Finished.{finishedStep}
-use Rattle.page.specs.Page.{Paged, paged, pageStep}
+use Rattle.page.specs.Page.{pageStep}
 use Rattle.store.specs.Squeeze.{squeezeStep}
+use Rattle.script.specs.Written.{textAnswer, writeStep}
 use Rattle.machine.specs.Machine.{empty, Machine, leftSum, seenPlaces, workLeft, Turn, turn, putTurn, clearTurn, reweighTurn, advanceTurn, squeezeTurn}
 use Rattle.machine.specs.Holding.{floatsOf, wordsOf}
 use Rattle.machine.specs.Fresh.{workedAfresh, finishedAfresh, pageAfresh}
+use Rattle.machine.specs.Lines.{machineLines}
 
 -- the calls of demand 3's list
 pub data Call : Type 0 where
@@ -41,6 +43,8 @@ pub data Call : Type 0 where
   finished : ℕ → Convention → Call
   -- the wall page, into lent bytes
   page : List ℕ → Call
+  -- the store's lines, into lent bytes
+  lines : List ℕ → Call
 
 -- ---- the machine: "It refuses by the table below as its own places stand; a refused call changes nothing."
 
@@ -82,14 +86,14 @@ finishedTurn m layers v =
     cond (leb (2 ^ 16) layers) (refused NoLayer) (finishedAfresh (m .mesh) (seenPlaces layers (m .places)) v)
 
 abbrev pub given : Machine → Outcome → Turn
-given m a = record { next = m; reply = a .reply; out = a .out; page = [] }
+given m a = record { next = m; reply = a .reply; out = a .out; bytes = [] }
 
 -- 02, L8: "It is given only when nothing is left to do, else 8"; a page changes the machine no more than a reading
-abbrev pub pageTurn : Machine → List ℕ → Paged
-pageTurn m bs = cond (ltb 0 (workLeft m)) (paged (refused Unfinished) bs) (pageAfresh (m .mesh) (m .places) bs)
+abbrev pub pageTurn : Machine → List ℕ → Printout
+pageTurn m bs = cond (ltb 0 (workLeft m)) (printout (refused Unfinished) bs) (pageAfresh (m .mesh) (m .places) bs)
 
-abbrev pub posted : Machine → Paged → Turn
-posted m a = record { next = m; reply = a .reply; out = []; page = a .page }
+abbrev pub posted : Machine → Printout → Turn
+posted m a = record { next = m; reply = a .reply; out = []; bytes = a .bytes }
 
 unfoldable pub machine : Machine → Call → Turn
 machine m (put i k l) =
@@ -102,6 +106,7 @@ machine m squeeze = squeezeTurn m
 machine m (read ls r) = given m (readTurn m ls r)
 machine m (finished ls v) = turn m (finishedTurn m ls v)
 machine m (page bs) = posted m (pageTurn m bs)
+machine m (lines bs) = posted m (textAnswer (machineLines (m .mesh) (m .places)) bs)
 
 -- ---- the store
 
@@ -115,17 +120,17 @@ pub record Result : Type 0 where
   pub runs : Store
   pub reply : Answer
   pub out : List Float
-  pub page : List ℕ
+  pub bytes : List ℕ
 
 abbrev pub result : After → Result
-result a = record { runs = record { floats = a .floats; words = a .words }; reply = a .reply; out = []; page = [] }
+result a = record { runs = record { floats = a .floats; words = a .words }; reply = a .reply; out = []; bytes = [] }
 
 -- a reading leaves the store, and so does a page
 abbrev pub seen : Store → Outcome → Result
-seen s a = record { runs = s; reply = a .reply; out = a .out; page = [] }
+seen s a = record { runs = s; reply = a .reply; out = a .out; bytes = [] }
 
-abbrev pub pinned : Store → Paged → Result
-pinned s a = record { runs = s; reply = a .reply; out = []; page = a .page }
+abbrev pub pinned : Store → Printout → Result
+pinned s a = record { runs = s; reply = a .reply; out = []; bytes = a .bytes }
 
 -- each call is the function of its contract
 unfoldable pub store : ℕ → Store → Call → Result
@@ -137,6 +142,7 @@ store q s squeeze = result (squeezeStep q (s .floats) (s .words))
 store q s (read ls r) = seen s (readStep q (s .floats) (s .words) ls r)
 store q s (finished ls v) = seen s (outcome (finishedStep q (s .floats) (s .words) ls v) [])
 store q s (page bs) = pinned s (pageStep q (s .floats) (s .words) bs)
+store q s (lines bs) = pinned s (writeStep q (s .floats) (s .words) bs)
 
 -- ---- a list of calls: each gets what the call before it left
 abbrev pub leaves : ℕ → Store → List Call → Store
@@ -165,6 +171,7 @@ chargedBy squeeze r = 0
 chargedBy (read ls x) r = 0
 chargedBy (finished ls v) r = 0
 chargedBy (page bs) r = 0
+chargedBy (lines bs) r = 0
 
 -- the steps that an advance answers
 abbrev pub doneBy : Call → Answer → ℕ
@@ -176,6 +183,7 @@ doneBy squeeze r = 0
 doneBy (read ls x) r = 0
 doneBy (finished ls v) r = 0
 doneBy (page bs) r = 0
+doneBy (lines bs) r = 0
 
 -- the left that an advance answers
 abbrev pub leftIn : Answer → ℕ
@@ -189,7 +197,7 @@ abbrev pub doneIn : ℕ → Store → List Call → ℕ
 doneIn q s [] = 0
 doneIn q s (c ∷ cs) = doneBy c (store q s c .reply) + doneIn q (store q s c .runs) cs
 
--- ---- a list without its squeezes, and what its other calls answer and write into what is lent beside the store
+-- ---- a list without its squeezes; and what its calls answer and write into what is lent beside the store
 abbrev pub without : List Call → List Call
 without [] = []
 without (put i k l ∷ cs) = put i k l ∷ without cs
@@ -200,31 +208,51 @@ without (squeeze ∷ cs) = without cs
 without (read ls r ∷ cs) = read ls r ∷ without cs
 without (finished ls v ∷ cs) = finished ls v ∷ without cs
 without (page bs ∷ cs) = page bs ∷ without cs
+without (lines bs ∷ cs) = lines bs ∷ without cs
 
 -- of one call: its reply, and what is lent beside the store as it is then
 pub record Heard : Type 0 where
   pub reply : Answer
   pub out : List Float
-  pub page : List ℕ
-
-abbrev pub others : Call → Heard → List Heard → List Heard
-others (put i k l) o os = o ∷ os
-others (clear i) o os = o ∷ os
-others (reweigh i v) o os = o ∷ os
-others (advance n) o os = o ∷ os
-others squeeze o os = os
-others (read ls r) o os = o ∷ os
-others (finished ls v) o os = o ∷ os
-others (page bs) o os = o ∷ os
+  pub bytes : List ℕ
 
 abbrev pub hearing : Result → Heard
-hearing a = record { reply = a .reply; out = a .out; page = a .page }
+hearing a = record { reply = a .reply; out = a .out; bytes = a .bytes }
+
+-- what those calls of a list answer and write that a test picks
+abbrev pub heardOf : (Call → Bool) → ℕ → Store → List Call → List Heard
+heardOf pick q s [] = []
+heardOf pick q s (c ∷ cs) =
+    let rest = heardOf pick q (store q s c .runs) cs in
+    cond (pick c) (hearing (store q s c) ∷ rest) rest
+
+-- all of them
+abbrev pub answers : ℕ → Store → List Call → List Heard
+answers q s cs = heardOf (λ c. true) q s cs
+
+-- those that do not show how the vertices are numbered: a store's lines do
+abbrev pub numberless : Call → Bool
+numberless (put i k l) = true
+numberless (clear i) = true
+numberless (reweigh i v) = true
+numberless (advance n) = true
+numberless squeeze = true
+numberless (read ls r) = true
+numberless (finished ls v) = true
+numberless (page bs) = true
+numberless (lines bs) = false
+
+-- and those of them that do not squeeze
+abbrev pub steady : Call → Bool
+steady (put i k l) = true
+steady (clear i) = true
+steady (reweigh i v) = true
+steady (advance n) = true
+steady squeeze = false
+steady (read ls r) = true
+steady (finished ls v) = true
+steady (page bs) = true
+steady (lines bs) = false
 
 abbrev pub heard : ℕ → Store → List Call → List Heard
-heard q s [] = []
-heard q s (c ∷ cs) = others c (hearing (store q s c)) (heard q (store q s c .runs) cs)
-
--- what the calls of a list answer and write into what is lent beside the store
-abbrev pub answers : ℕ → Store → List Call → List Heard
-answers q s [] = []
-answers q s (c ∷ cs) = hearing (store q s c) ∷ answers q (store q s c .runs) cs
+heard q s cs = heardOf steady q s cs

@@ -1,9 +1,10 @@
--- Demand 3, one statement: `Demand3`, at the end: of an opening, or of a carry (02, L6), and every list of calls after
--- it. Each clause stands below the owner's words that it says.
+-- Demand 3, one statement: `Demand3`, at the end: of an opening, a carry (02, L6) or lines that are read (02, L10), and
+-- every list of calls after it. Each clause stands below the owner's words that it says.
 -- r, xs and ks are the radius, coordinates and corners of an opening; fs and ws the runs lent to it, whatever was in
 -- them; q is the count of words to a place, which the contracts have as `width`. Definitions only.
 use mathlib.Core.Path.{_≡_}
-use mathlib.Core.Bool.{true}
+use mathlib.Core.Bool.{Bool, true, cond}
+use lib.Dec.{ltb, leb}
 use mathlib.Core.List.{List, [], _∷_, map}
 use Prim.Native.Nat.{ℕ, _+_, _*_, _/_, _^_, _≤_, _<_}
 use lib.ListN.{length}
@@ -15,10 +16,14 @@ use Rattle.layout.specs.Runs.{write}
 use Rattle.kernel.specs.declared.kernel.Kernel.{Kernel}
 use Rattle.pieces.specs.Pieces.{decomposed}
 use Rattle.pieces.specs.Lists.{fittedAll, listDecomposition}
-use Rattle.layout.specs.Layout.{width}
+use Rattle.layout.specs.Layout.{width, placeLimit}
 use Rattle.layout.specs.After.{After, after}
 use Rattle.store.specs.Calls.{openStep}
 use Rattle.carry.specs.Carry.{oldWidth, carryStep}
+use Rattle.text.specs.Text.{Text, lost, left}
+use Rattle.text.specs.Form.{Vals}
+use Rattle.script.specs.Lines.{putLine}
+use Rattle.script.specs.ReadOf.{placeIn, kernelIn, layerIn, Script, readOf, readStep}
 use Rattle.readings.specs.Readings.{Reading, report, sixes}
 use Rattle.readings.specs.Finished.{beside}
 use Rattle.density.specs.declared.convention.Convention.{Convention}
@@ -26,7 +31,7 @@ use Rattle.machine.specs.Machine.{Mesh, carried, Place, empty, full, Mac
 use Rattle.machine.specs.Holding.{excessF, excessW}
 use Rattle.machine.specs.Valid.{Valid}
 use Rattle.machine.specs.Fresh.{Worked, kernelsOf, allPieces, worstFrom, workedAfresh, finishedAfresh, pageAfresh}
-use Rattle.machine.specs.Calls.{Call, advance, read, finished, page, needs, workSeen, machine, Store, store, leaves, after-all, holding, leftIn, chargedIn, doneIn, without, heard, answers}
+use Rattle.machine.specs.Calls.{Call, put, advance, read, finished, page, needs, workSeen, machine, Store, store, leaves, after-all, holding, leftIn, chargedIn, doneIn, without, heard, answers}
 use Rattle.machine.specs.OldStore.{Fitter, Fitting, Old, oldLeaves, oldAfter, nowadays}
 
 -- ---- one call c: the store s beside the machine m, which "gets that opening and the same calls"; exF and exW are the
@@ -36,11 +41,12 @@ pub record Same (q : ℕ) (exF : List Float) (exW : List ℕ) (m : Machine) (s :
   pub before : s ≡ holding q m exF exW
   -- "Puts, clears, reweighs and advances are refused exactly when it refuses them, with its number; accepted puts
   -- answer its pieces and need, advances its done and left": an answer is the number of a refusal and the values, a
-  -- put's with how its fit ended. A squeeze answers how many coordinates it freed; of a reading and a page more is said below
+  -- put's with how its fit ended. A squeeze answers how many coordinates it freed, lines how many bytes they are (02,
+  -- L10); of a reading and a page more is said below
   pub reply : store q s c .reply ≡ machine m c .reply
   -- each word of a run that is lent beside the store, and each byte of a page
   pub lent : store q s c .out ≡ machine m c .out
-  pub shown : store q s c .page ≡ machine m c .page
+  pub shown : store q s c .bytes ≡ machine m c .bytes
   -- "After each call the runs hold 01's fields for its mesh, radius, places and steps, volumes so far included": each
   -- word of both; past the fields come the words that squeezes freed, which are zero, and the excess
   pub fields : store q s c .runs ≡ holding q (machine m c .next) exF exW
@@ -107,7 +113,7 @@ pub record Post (q : ℕ) (mesh : Mesh) (m : Machine) (s : Store) (bs : List ℕ
   -- left out here
   pub afresh : (store q s (page bs) .reply ≡ refused Unfinished → ⊥)
       → (store q s (page bs) .reply ≡ pageAfresh mesh (m .places) bs .reply)
-      × (store q s (page bs) .page ≡ pageAfresh mesh (m .places) bs .page)
+      × (store q s (page bs) .bytes ≡ pageAfresh mesh (m .places) bs .bytes)
   -- a page alters no word of the store
   pub kept : store q s (page bs) .runs ≡ s
 
@@ -229,11 +235,52 @@ pub record Carries
   pub accepted : shortRow width (m .mesh .verts) (m .mesh .faces) (length gs) (length us) ≡ 0
       → Carried fitter r xs ks fs ws cs m gs us (carrying fitter r xs ks fs ws cs gs us)
 
--- ---- demand 3, at the width that the contracts have: of every opening, and of every carry of a store that an accepted
--- opening of the old form and any calls on it left
+-- ---- 02, L10: a store that is read from lines, s are their bytes and fs and ws the runs lent, whatever was in them
+
+-- a put line as a call
+abbrev pub putCall : Vals putLine → Call
+putCall v = put (placeIn v) (kernelIn v) (layerIn v)
+
+-- "leaves what that opening and those puts, line by line, would": the machine gets them as calls
+abbrev pub scripted : Script → Machine
+scripted d = after-all (opened (d .radius) (d .coords) (d .corners)) (map putCall (d .puts))
+
+-- "refuses the whole where one line would be refused", by the first of its rows that applies to any line: an opening's,
+-- 6, 16
+abbrev pub anyRow : (Vals putLine → Bool) → ℕ → List (Vals putLine) → ℕ → ℕ
+anyRow test n [] other = other
+anyRow test n (v ∷ vs) other = cond (test v) n (anyRow test n vs other)
+
+abbrev pub linesRow : Text → ℕ → Script → ℕ → ℕ → ℕ
+-- "13 [..] comes ahead of all others"
+linesRow lost q d a b = 13
+linesRow (left l) q d a b =
+    let n = openRow q (d .coords) (d .corners) a b in
+    cond (ltb 0 n) n
+    (anyRow (λ v. leb placeLimit (placeIn v)) 6 (d .puts) (anyRow (λ v. ltb 15 (layerIn v)) 16 (d .puts) 0))
+
+pub record Loaded (q : ℕ) (fs : List Float) (ws : List ℕ) (s : List ℕ) (d : Script) (a : After) : Type 0 where
+  pub reply : a .reply ≡ counted (d .verts ∷ d .faces ∷ length (d .puts) ∷ [])
+  pub holds : leaving a ≡ holding q (scripted d) (excessF (d .coords) fs) (excessW q (d .corners) ws)
+  -- the calls that the lines say, one by one, leave the same
+  pub by-calls : leaving a ≡ leaves q (leaving (openStep q fs ws (d .radius) (d .coords) (d .corners))) (map putCall (d .puts))
+  pub every-list : (cs : List Call)
+      → Follows q (excessF (d .coords) fs) (excessW q (d .corners) ws) (scripted d) (leaving a) cs
+  pub unaltered : (cs : List Call) → heard q (leaving a) cs ≡ heard q (leaving a) (without cs)
+
+pub record Loads (q : ℕ) (fs : List Float) (ws : List ℕ) (s : List ℕ) : Type 0 where
+  pub refused-as : 0 < linesRow (readOf s .text) q (readOf s .val) (length fs) (length ws)
+      → readStep q fs ws s
+      ≡ after (refusedBy (linesRow (readOf s .text) q (readOf s .val) (length fs) (length ws))) fs ws
+  pub accepted : linesRow (readOf s .text) q (readOf s .val) (length fs) (length ws) ≡ 0
+      → Loaded q fs ws s (readOf s .val) (readStep q fs ws s)
+
+-- ---- demand 3, at the width that the contracts have: of every opening, of every carry of a store that an accepted
+-- opening of the old form and any calls on it left, and of every text that a store is read from
 pub record Demand3 : Type 0 where
   pub opening : (r : Float) (xs : List Float) (ks : List ℕ) (fs : List Float) (ws : List ℕ) → Opens width r xs ks fs ws
   pub carry : (fitter : Fitter) → Fitting fitter
       → (r : Float) (xs : List Float) (ks : List ℕ) (fs : List Float) (ws : List ℕ)
       → openRow oldWidth xs ks (length fs) (length ws) ≡ 0 → (cs : List Old) (gs : List Float) (us : List ℕ)
       → Carries fitter r xs ks fs ws cs (oldAfter fitter carried (opened r xs ks) cs) gs us
+  pub reading : (fs : List Float) (ws : List ℕ) (s : List ℕ) → Loads width fs ws s

@@ -2,9 +2,11 @@ pub mod Machine
 pub mod Holding
 pub mod Valid
 pub mod Fresh
+pub mod Lines
 pub mod Calls
 pub mod OldStore
 pub mod Demands
+pub mod Rewriting
 pub mod Bills
 pub mod Renumbering
 pub mod Signs

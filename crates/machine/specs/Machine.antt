@@ -74,10 +74,10 @@ pub record Turn : Type 0 where
   pub next : Machine
   pub reply : Answer
   pub out : List Float
-  pub page : List ℕ
+  pub bytes : List ℕ
 
 abbrev pub turn : Machine → Answer → Turn
-turn m r = record { next = m; reply = r; out = []; page = [] }
+turn m r = record { next = m; reply = r; out = []; bytes = [] }
 
 -- with other places, and so much more charged and dropped
 abbrev pub with-places : Machine → List Place → ℕ → ℕ → Machine

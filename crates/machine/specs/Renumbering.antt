@@ -9,7 +9,7 @@ use Rattle.layout.specs.Layout.{width}
 use Rattle.layout.specs.After.{After}
 use Rattle.store.specs.Calls.{openStep}
 use Rattle.machine.specs.Machine.{openRow}
-use Rattle.machine.specs.Calls.{Call, answers}
+use Rattle.machine.specs.Calls.{Call, heardOf, numberless}
 use Rattle.machine.specs.Demands.{leaving}
 
 -- p numbers v vertices anew, and q takes each new number back
@@ -31,8 +31,9 @@ pub record Renumbered (p q : ℕ → ℕ) (xs : List Float) (ks : List ℕ) (ys 
 pub record Agree (q : ℕ) (a b : After) : Type 0 where
   pub opening : a .reply ≡ b .reply
   -- "the same list of put, clear, reweigh, advance and reading calls is made on each, then all answers and all that
-  -- readings write agree bit for bit, NaN as one": of every list, squeezes in it and what they answer too
-  pub calls : (cs : List Call) → answers q (leaving a) cs ≡ answers q (leaving b) cs
+  -- readings write agree bit for bit, NaN as one": of every list, squeezes in it and what they answer too. Lines of the
+  -- stores that are written in between show the numbers, and are the only thing left out
+  pub calls : (cs : List Call) → heardOf numberless q (leaving a) cs ≡ heardOf numberless q (leaving b) cs
 
 -- ---- "both openings are accepted with the same radius": r, in runs fs, ws and gs, us, whatever was in them. "demand
 -- 3's premises hold for each store": they are in `answers`, whose first call gets what the accepted opening left;

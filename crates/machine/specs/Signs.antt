@@ -17,7 +17,7 @@ use Rattle.layout.specs.Layout.{width, placeLimit, pieceLimit, pieceFrom}
 use Rattle.store.specs.Calls.{openStep}
 use Rattle.readings.specs.Readings.{Reading, density, report, list, track, six}
 use Rattle.machine.specs.Machine.{openRow}
-use Rattle.machine.specs.Calls.{Call, put, clear, reweigh, advance, squeeze, read, finished, page, Store, store, leaves, Heard, hearing}
+use Rattle.machine.specs.Calls.{Call, put, clear, reweigh, advance, squeeze, read, finished, page, lines, Store, store, leaves, Heard, hearing}
 use Rattle.machine.specs.Demands.{leaving}
 
 -- ---- two lists of calls that differ only in signs of sigmas of kernels that stay: they are the same without these
@@ -36,8 +36,10 @@ unsignedCall squeeze = squeeze
 unsignedCall (read ls r) = read ls r
 unsignedCall (finished ls v) = finished ls v
 unsignedCall (page bs) = page bs
+unsignedCall (lines bs) = lines bs
 
--- ---- what they answer and write: the same, but that a list writes the sigmas as they are
+-- ---- what they answer and write: the same, but that a list, and the store's lines, write the sigmas as they are: of
+-- the lines only how many bytes they are is the same
 
 -- a run that begins with n pieces, "c, sigma, rescaled w, alpha per piece", without the signs of their sigmas
 abbrev pub unsignedRun : ℕ → List Float → List Float
@@ -49,7 +51,7 @@ abbrev pub unsignedRead : Reading → Heard → Heard
 unsignedRead (density v x) o = o
 unsignedRead (report v) o = o
 unsignedRead (list v out) o =
-    record { reply = o .reply; out = unsignedRun (getD (o .reply .counts) 0 0) (o .out); page = o .page }
+    record { reply = o .reply; out = unsignedRun (getD (o .reply .counts) 0 0) (o .out); bytes = o .bytes }
 unsignedRead (track v points out) o = o
 
 abbrev pub unsignedHeard : Call → Heard → Heard
@@ -61,6 +63,7 @@ unsignedHeard squeeze o = o
 unsignedHeard (read ls r) o = unsignedRead r o
 unsignedHeard (finished ls v) o = o
 unsignedHeard (page bs) o = o
+unsignedHeard (lines bs) o = record { reply = o .reply; out = o .out; bytes = [] }
 
 abbrev pub said : ℕ → Store → List Call → List Heard
 said q s [] = []

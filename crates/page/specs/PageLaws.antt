@@ -12,7 +12,7 @@ use borrow.Author.Tests.{lt-ltb, le-ltb, le-leb, lt-leb}
 use lib.IntN.{ℤ, pos, negsuc, negℤ, natAbs, _+ℤ_, _-ℤ_, +ℤ-assoc, +ℤ-comm, +ℤ-idl, negℤ-+ℤ, pos-+ℤ-pos}
 use lib.ListN.{length, length-append, length-replicate}
 use lib.Ieee.{Float}
-use Rattle.base.specs.Answers.{counted, refused}
+use Rattle.base.specs.Answers.{counted, refused, printout}
 use Rattle.base.specs.declared.refusal.Refusal.the-variants.{NoFigure, ShortPage}
 use Rattle.base.specs.declared.refusal.Checked.the-variants.{Passed}
 use Rattle.layout.specs.Runs.{write}
@@ -24,7 +24,7 @@ use Rattle.text.specs.Print.{lengthFrom, decimalLength, decimalText}
 use Rattle.text.specs.WriteLaws.{length-digits}
 use Rattle.whole.specs.Whole.{printable}
 use Rattle.whole.specs.WholeLaws.{rounded-most}
-use Rattle.page.specs.Page.{spaces, right, wholeText, ending, placeLine, totalLine, Row, row, figure, linesOf, totalOf, pageOf, paged, allPrintable, pageAnswer, rowAt, heldRows, doneCheck}
+use Rattle.page.specs.Page.{spaces, right, wholeText, ending, placeLine, totalLine, Row, row, figure, linesOf, totalOf, pageOf, allPrintable, pageAnswer, rowAt, heldRows, doneCheck}
 
 -- ---- lengths of texts
 pub decimal-length : (n : ℕ) → length (decimalText n) ≡ decimalLength n
@@ -242,18 +242,18 @@ less-over p (suc l) h =
 
 -- ---- the answers
 module _ (rs : List Row) (bs : List ℕ) where
-  pub unprintable-is : allPrintable rs ≡ false → paged (refused NoFigure) bs ≡ pageAnswer rs bs
+  pub unprintable-is : allPrintable rs ≡ false → printout (refused NoFigure) bs ≡ pageAnswer rs bs
   unfolding pageAnswer
   unprintable-is e = rw e
 
   module _ (e : allPrintable rs ≡ true) (g : AllFair rs) (few : length rs ≤ 32) (n : ℕ) (h : n ≡ 65 * length rs + 65) where
-    pub short-is : length bs < n → paged (refused ShortPage) bs ≡ pageAnswer rs bs
+    pub short-is : length bs < n → printout (refused ShortPage) bs ≡ pageAnswer rs bs
     unfolding pageAnswer
     short-is l =
         let k = page-length rs g few in
         rw (e, lt-leb (length (pageOf rs)) (length bs) (omega arith))
 
-    pub written-is : (bs′ : List ℕ) → n ≤ length bs → bs′ ≡ write bs 0 (pageOf rs) → paged (counted (n ∷ [])) bs′ ≡ pageAnswer rs bs
+    pub written-is : (bs′ : List ℕ) → n ≤ length bs → bs′ ≡ write bs 0 (pageOf rs) → printout (counted (n ∷ [])) bs′ ≡ pageAnswer rs bs
     unfolding pageAnswer
     written-is bs′ l r =
         let k = page-length rs g few in

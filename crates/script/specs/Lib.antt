@@ -1,0 +1,6 @@
+pub mod Lines
+pub mod Written
+pub mod ReadOf
+pub mod Answers
+pub mod Spelling
+pub mod RoundTrip
