@@ -4,3 +4,5 @@ pub mod ReadOf
 pub mod Answers
 pub mod Spelling
 pub mod RoundTrip
+pub mod Leaves
+pub mod LineByLine

@@ -1,0 +1,308 @@
+-- 02, L10: the reader "leaves what that opening and those puts, line by line, would": what that is, field by field. The
+-- mesh and the radius are the script's; a place that a put names holds the kernel and layer of the last such put, its
+-- pieces and "all steps still to do"; every other place is empty. And such a store is sound. Assumes nothing.
+use mathlib.Core.Path.{_≡_, refl, sym, ap, _∙_}
+use mathlib.Core.Bool.{Bool, true, false, _&&_, cond}
+use mathlib.Core.List.{List, [], _∷_, _++_}
+use Prim.Native.Nat.{ℕ, zero, suc, _+_, _*_, _-_, _/_, _≤_, _<_}
+use native.Mathlib.Nat.{div-add-mod'}
+use native.Mathlib.Decide.{decLt}
+use native.Mathlib.Omega.{arith}
+use lib.Dec.{eqb, ltb, leb}
+use lib.ListN.{length, getD, take, drop, replicate, length-append, length-drop, length-replicate, replicate-append-replicate, take-append-drop, getD-replicate}
+use lib.Seq.{getD-take, getD-drop, length-take-le, take-length, take-append-le, drop-append-le, drop-append-add, take-at, drop-at}
+use lib.Ieee.{Float, nan}
+use borrow.Author.Tests.{lt-ltb, le-leb, eq-eqb, ne-eqb, eqb-true, eqb-false}
+use Rattle.base.specs.Floats.{+0}
+use Rattle.base.specs.declared.refusal.Checked.the-variants.{Passed}
+use Rattle.kernel.specs.declared.kernel.Kernel.{Kernel}
+use Rattle.mesh.specs.Checks.{vertexLimit, faceLimit, allBelow}
+use Rattle.pieces.specs.declared.pieces.Pieces.{Pieces}
+use Rattle.pieces.specs.Pieces.{decomposed}
+use Rattle.pieces.specs.PieceLaws.{at-most-16}
+use Rattle.layout.specs.Runs.{write}
+use Rattle.layout.specs.RunLaws.{length-write, write-before, write-rest}
+use Rattle.layout.specs.Layout.{width, pieceLimit, layerLimit, radiusOf, kernelFrom, piecesFrom, coordsFrom, stateFrom, cornersFrom, cornersOf, vertsOf, facesOf, statusOf, finishedOf, doneOf, layerOf}
+use Rattle.layout.specs.Soundness.{every, longEnough, placeSound, layerSound, placeSoundAt, sound, storeCheck}
+use Rattle.store.specs.Calls.{openCheck, openFloats, openWords}
+use Rattle.store.specs.OpenLaws.{Meshes, open-passes}
+use Rattle.store.specs.Puts.{seven, fresh, atFirst, putFloats, putWords}
+use Rattle.script.specs.ReadOf.{Script}
+
+-- ---- a part of a run
+
+-- n words from `at` on
+abbrev pub part : {A : Type 0} → List A → ℕ → ℕ → List A
+part l at n = take n (drop at l)
+
+module _ {A : Type 0} where
+  pub part-at : (l : List A) (at n j k : ℕ) (d : A) → k ≡ at + j → j < n → getD l k d ≡ getD (part l at n) j d
+  part-at l at n j k d e h = rw e (sym (getD-take n (drop at l) j d h ∙ getD-drop at l j d))
+
+  part-front : (t r : List A) (at n : ℕ) → at + n ≤ length t → part (t ++ r) at n ≡ part t at n
+  part-front t r at n h =
+      ap (take n) (drop-append-le at t r (omega arith)) ∙ take-append-le n (drop at t) r (rw length-drop (omega arith))
+
+  -- what is written, and what stands before and past it
+  part-same : (l : List A) (at n : ℕ) (vs : List A) → length vs ≡ n → at ≤ length l → part (write l at vs) at n ≡ vs
+  unfolding write
+  part-same l at n vs e h =
+      let r = drop (length vs) (drop at l) in
+      ap (take n) (drop-at (take at l) (vs ++ r) at (length-take-le at l h)) ∙ take-at vs r n e
+
+  part-other : (l : List A) (at n b : ℕ) (vs : List A) → (at < b → at + n ≤ b) → (b ≤ at → b + length vs ≤ at) → b ≤ length l → part (write l b vs) at n ≡ part l at n
+  unfolding write
+  part-other l at n b vs x y h = go (decLt at b)
+    where
+      go : Dec (at < b) → part (write l b vs) at n ≡ part l at n
+      go (yes o) =
+          let k = length-take-le b l h in
+          let z = x o in
+          part-front (take b l) (vs ++ drop (length vs) (drop b l)) at n (omega arith)
+          ∙ (sym (part-front (take b l) (drop b l) at n (omega arith)) ∙ ap (λ (t : List A). part t at n) (take-append-drop b l))
+      go (no o) = ap (take n) (write-rest l b vs at h (y (omega arith)))
+
+  -- from the run's beginning
+  part-first : (l : List A) (at n : ℕ) (vs : List A) → at + n ≤ length vs → part (write l 0 vs) at n ≡ part vs at n
+  unfolding write
+  part-first l at n vs h = part-front vs (drop (length vs) l) at n h
+
+  part-zeros : (m at n : ℕ) (z : A) → at + n ≤ m → part (replicate m z) at n ≡ replicate n z
+  part-zeros m at n z h =
+      let r = m - (at + n) in
+      let e : at + (n + r) ≡ m = omega arith in
+      let s : replicate m z ≡ replicate at z ++ (replicate n z ++ replicate r z)
+      = ap (λ (k : ℕ). replicate k z) (sym e) ∙ (sym (replicate-append-replicate at (n + r) z) ∙ ap (λ (l : List A). replicate at z ++ l) (sym (replicate-append-replicate n r z))) in
+      rw s (ap (take n) (drop-at (replicate at z) (replicate n z ++ replicate r z) at (length-replicate at z)) ∙ take-at (replicate n z) (replicate r z) n (length-replicate n z))
+
+  -- of a head, zeros and a copy: among the zeros, and the copy
+  laid-zeros : (h : List A) (m at n k : ℕ) (z : A) (xs : List A) → k ≡ length h + at → at + n ≤ m → part (h ++ (replicate m z ++ xs)) k n ≡ replicate n z
+  laid-zeros h m at n k z xs e b =
+      let l = length-replicate m z in
+      rw e (skip h) ∙ (part-front (replicate m z) xs at n (omega arith) ∙ part-zeros m at n z b)
+    where
+      skip : (h : List A) → part (h ++ (replicate m z ++ xs)) (length h + at) n ≡ part (replicate m z ++ xs) at n
+      skip h = ap (take n) (drop-append-add h (replicate m z ++ xs) at)
+
+  laid-copy : (h : List A) (m k : ℕ) (z : A) (xs : List A) → k ≡ length h + m → part (h ++ (replicate m z ++ xs)) k (length xs) ≡ xs
+  laid-copy h m k z xs e =
+      rw e (ap (take (length xs)) (drop-append-add h (replicate m z ++ xs) m ∙ drop-at (replicate m z) xs m (length-replicate m z)) ∙ take-length xs)
+
+-- ---- what a place holds: nothing, or what a put gave it
+
+pub data Held : Type 0 where
+  none : Held
+  given : Kernel → ℕ → Held
+
+-- its floats and words, in a store of that radius and so many faces: "with all steps still to do"
+abbrev pub sevenOf : Float → Held → List Float
+sevenOf radius none = replicate 7 +0
+sevenOf radius (given k layer) = seven k (decomposed k radius .error)
+
+abbrev pub piecesOf : Float → Held → List Float
+piecesOf radius none = replicate 48 +0
+piecesOf radius (given k layer) = fresh (decomposed k radius) pieceLimit 0
+
+abbrev pub stateOf : Float → ℕ → Held → List ℕ
+stateOf radius faces none = replicate 4 0
+stateOf radius faces (given k layer) =
+    let n = decomposed k radius .count in
+    (1 + n) ∷ atFirst faces n ∷ 0 ∷ layer ∷ []
+
+abbrev pub InLayer : Held → Type 0
+InLayer none = Unit {0}
+InLayer (given k layer) = layer < layerLimit
+
+pub record PlaceHolds (radius : Float) (faces : ℕ) (fs : List Float) (ws : List ℕ) (i : ℕ) (h : Held) : Type 0 where
+  pub kernel : part fs (kernelFrom i) 7 ≡ sevenOf radius h
+  pub pieces : part fs (piecesFrom i) 48 ≡ piecesOf radius h
+  pub state : part ws (stateFrom width i) width ≡ stateOf radius faces h
+  pub layer : InLayer h
+
+-- the runs hold a mesh of these coordinates and corners, the radius, and at each place what is held there
+pub record Stands (radius : Float) (xs : List Float) (ks : List ℕ) (held : ℕ → Held) (fs : List Float) (ws : List ℕ) : Type 0 where
+  pub floats : coordsFrom + length xs ≤ length fs
+  pub words : cornersFrom width + length ks ≤ length ws
+  pub size : radiusOf fs ≡ radius
+  pub verts : vertsOf ws ≡ length xs / 3
+  pub faces : facesOf ws ≡ length ks / 3
+  pub coords : part fs coordsFrom (length xs) ≡ xs
+  pub corners : part ws (cornersFrom width) (length ks) ≡ ks
+  pub places : (i : ℕ) → i < 32 → PlaceHolds radius (length ks / 3) fs ws i (held i)
+
+-- ---- an opening leaves every place empty
+module _ (r : Float) (xs : List Float) (ks : List ℕ) (fs : List Float) (ws : List ℕ) (a : coordsFrom + length xs ≤ length fs) (b : cornersFrom width + length ks ≤ length ws) where
+  abbrev F₀ : List Float
+  F₀ = write fs 0 (openFloats r xs)
+
+  abbrev W₀ : List ℕ
+  W₀ = write ws 0 (openWords width (length xs / 3) (length ks / 3) ks)
+
+  floats-long : length (openFloats r xs) ≡ coordsFrom + length xs
+  floats-long = ap suc (length-append (replicate 1760 +0) xs ∙ ap (λ (j : ℕ). j + length xs) (length-replicate 1760 +0)) ∙ (omega arith)
+
+  words-long : length (openWords width (length xs / 3) (length ks / 3) ks) ≡ cornersFrom width + length ks
+  words-long = rw (length-append (replicate {A = ℕ} 128 0) ks, length-replicate {A = ℕ} 128 0) (omega arith)
+
+  pub opened-stands : Stands r xs ks (λ i. none) F₀ W₀
+  opened-stands =
+      let m = floats-long in
+      let n = words-long in
+      record {
+        floats = rw (length-write fs 0 (openFloats r xs) (omega arith)) a;
+        words = rw (length-write ws 0 (openWords width (length xs / 3) (length ks / 3) ks) (omega arith)) b;
+        size = part-at F₀ 0 1 0 0 nan refl (omega arith) ∙ ap (λ (l : List Float). getD l 0 nan) (part-first fs 0 1 (openFloats r xs) (omega arith));
+        verts = part-at W₀ 0 2 0 0 0 refl (omega arith) ∙ ap (λ (l : List ℕ). getD l 0 0) (part-first ws 0 2 (openWords width (length xs / 3) (length ks / 3) ks) (omega arith));
+        faces = part-at W₀ 0 2 1 1 0 refl (omega arith) ∙ ap (λ (l : List ℕ). getD l 1 0) (part-first ws 0 2 (openWords width (length xs / 3) (length ks / 3) ks) (omega arith));
+        coords = part-first fs coordsFrom (length xs) (openFloats r xs) (omega arith) ∙ laid-copy (r ∷ []) 1760 coordsFrom +0 xs refl;
+        corners = part-first ws (cornersFrom width) (length ks) (openWords width (length xs / 3) (length ks / 3) ks) (omega arith)
+            ∙ laid-copy (length xs / 3 ∷ length ks / 3 ∷ []) 128 (cornersFrom width) 0 ks refl;
+        places = λ i h. record {
+          kernel = part-first fs (kernelFrom i) 7 (openFloats r xs) (omega arith) ∙ laid-zeros (r ∷ []) 1760 (7 * i) 7 (kernelFrom i) +0 xs refl (omega arith);
+          pieces = part-first fs (piecesFrom i) 48 (openFloats r xs) (omega arith) ∙ laid-zeros (r ∷ []) 1760 (224 + 48 * i) 48 (piecesFrom i) +0 xs (omega arith) (omega arith);
+          state = part-first ws (stateFrom width i) 4 (openWords width (length xs / 3) (length ks / 3) ks) (omega arith)
+              ∙ laid-zeros (length xs / 3 ∷ length ks / 3 ∷ []) 128 (4 * i) 4 (stateFrom width i) 0 ks refl (omega arith);
+          layer = tt;
+        };
+      }
+
+-- ---- a put changes its place alone
+module _ {r : Float} {xs : List Float} {ks : List ℕ} {held : ℕ → Held} {fs : List Float} {ws : List ℕ} (s : Stands r xs ks held fs ws) (p : ℕ) (hp : p < 32) (k : Kernel) (layer : ℕ) (hl : layer < layerLimit) where
+  abbrev fit : Pieces
+  fit = decomposed k (radiusOf fs)
+
+  abbrev row : List ℕ
+  row = (1 + fit .count) ∷ atFirst (facesOf ws) (fit .count) ∷ 0 ∷ layer ∷ []
+
+  abbrev F₁ : List Float
+  F₁ = write fs (kernelFrom p) (seven k (fit .error))
+
+  abbrev F₂ : List Float
+  F₂ = write F₁ (piecesFrom p) (fresh fit pieceLimit 0)
+
+  abbrev W₂ : List ℕ
+  W₂ = write ws (stateFrom width p) row
+
+  l₁ : length F₁ ≡ length fs
+  l₁ = length-write fs (kernelFrom p) (seven k (fit .error)) (omega (arith, s .floats))
+
+  l₂ : length F₂ ≡ length fs
+  l₂ = length-write F₁ (piecesFrom p) (fresh fit pieceLimit 0) (omega (arith, s .floats, l₁)) ∙ l₁
+
+  m₂ : length W₂ ≡ length ws
+  m₂ = length-write ws (stateFrom width p) row (omega (arith, s .words))
+
+  place-after : (i : ℕ) → i < 32 → (b : Bool) → eqb p i ≡ b → PlaceHolds r (length ks / 3) fs ws i (held i) → PlaceHolds r (length ks / 3) F₂ W₂ i (cond b (given k layer) (held i))
+  place-after i hi true e h =
+      let o : p ≡ i = eqb-true p i e in
+      let x = s .floats in
+      let y = s .words in
+      let z = l₁ in
+      rw (← o)
+      (record {
+        kernel = part-other F₁ (kernelFrom p) 7 (piecesFrom p) (fresh fit pieceLimit 0) (λ u. omega arith) (λ u. omega arith) (omega arith)
+            ∙ (part-same fs (kernelFrom p) 7 (seven k (fit .error)) refl (omega arith) ∙ ap (λ (q : Float). seven k (decomposed k q .error)) (s .size));
+        pieces = part-same F₁ (piecesFrom p) 48 (fresh fit pieceLimit 0) refl (omega arith) ∙ ap (λ (q : Float). fresh (decomposed k q) pieceLimit 0) (s .size);
+        state = part-same ws (stateFrom width p) 4 row refl (omega arith) ∙ (λ j. stateOf (s .size j) (s .faces j) (given k layer));
+        layer = hl;
+      })
+  place-after i hi false e h =
+      let o : p ≡ i → ⊥ = eqb-false p i e in
+      let x = s .floats in
+      let y = s .words in
+      let z = l₁ in
+      record {
+        kernel = part-other F₁ (kernelFrom i) 7 (piecesFrom p) (fresh fit pieceLimit 0) (λ u. omega arith) (λ u. omega arith) (omega arith)
+            ∙ (part-other fs (kernelFrom i) 7 (kernelFrom p) (seven k (fit .error)) (λ u. omega arith) (λ u. omega arith) (omega arith) ∙ h .kernel);
+        pieces = part-other F₁ (piecesFrom i) 48 (piecesFrom p) (fresh fit pieceLimit 0) (λ u. omega arith) (λ u. omega arith) (omega arith)
+            ∙ (part-other fs (piecesFrom i) 48 (kernelFrom p) (seven k (fit .error)) (λ u. omega arith) (λ u. omega arith) (omega arith) ∙ h .pieces);
+        state = part-other ws (stateFrom width i) 4 (stateFrom width p) row (λ u. omega arith) (λ u. omega arith) (omega arith) ∙ h .state;
+        layer = h .layer;
+      }
+
+  pub put-stands : Stands r xs ks (λ i. cond (eqb p i) (given k layer) (held i)) (putFloats fs p k fit) (putWords width ws p fit layer)
+  unfolding putFloats putWords
+  put-stands =
+      let x = s .floats in
+      let y = s .words in
+      let z = l₁ in
+      record {
+        floats = rw l₂ (s .floats);
+        words = rw m₂ (s .words);
+        size = write-before F₁ (piecesFrom p) (fresh fit pieceLimit 0) 0 nan (omega arith) (omega arith) ∙ (write-before fs (kernelFrom p) (seven k (fit .error)) 0 nan (omega arith) (omega arith) ∙ s .size);
+        verts = write-before ws (stateFrom width p) row 0 0 (omega arith) (omega arith) ∙ s .verts;
+        faces = write-before ws (stateFrom width p) row 1 0 (omega arith) (omega arith) ∙ s .faces;
+        coords = part-other F₁ coordsFrom (length xs) (piecesFrom p) (fresh fit pieceLimit 0) (λ u. omega arith) (λ u. omega arith) (omega arith)
+            ∙ (part-other fs coordsFrom (length xs) (kernelFrom p) (seven k (fit .error)) (λ u. omega arith) (λ u. omega arith) (omega arith) ∙ s .coords);
+        corners = part-other ws (cornersFrom width) (length ks) (stateFrom width p) row (λ u. omega arith) (λ u. omega arith) (omega arith) ∙ s .corners;
+        places = λ i h. place-after i h (eqb p i) refl (s .places i h);
+      }
+
+-- ---- such a store is sound
+
+-- a place just put: nothing is done, "with F = 0 all are finished"
+first-sound : (n faces : ℕ) → n ≤ 16 → placeSound (1 + n) (atFirst faces n) 0 faces ≡ true
+unfolding placeSound atFirst
+first-sound n faces h =
+    let e : 1 + n - 1 ≡ n = omega arith in
+    rw (le-leb (1 + n) 17 (omega arith), ne-eqb (1 + n) 0 (λ z. omega arith), e) (go (eqb faces 0) refl)
+  where
+    either : (b : Bool) → cond b true true ≡ true
+    either true = refl
+    either false = refl
+
+    go : (b : Bool) → eqb faces 0 ≡ b → leb (cond b n 0) n && cond (eqb (cond b n 0) n) true (ltb 0 faces) ≡ true
+    go true e = rw (le-leb n n (omega arith), eq-eqb n n refl) refl
+    go false e =
+        let z : faces ≡ 0 → ⊥ = eqb-false faces 0 e in
+        rw (le-leb 0 n (omega arith), lt-ltb 0 faces (omega arith)) (either (eqb 0 n))
+
+every-true : (test : ℕ → Bool) (n : ℕ) → ((i : ℕ) → i < n → test i ≡ true) → every test n ≡ true
+unfolding every
+every-true test zero h = refl
+every-true test (suc n) h = rw (every-true test n (λ i l. h i (omega arith)), h n (omega arith)) refl
+
+module _ {r : Float} {xs : List Float} {ks : List ℕ} {held : ℕ → Held} {fs : List Float} {ws : List ℕ} (s : Stands r xs ks held fs ws) where
+  -- the words of a place
+  pub status-is : (i : ℕ) → i < 32 → statusOf width ws i ≡ getD (stateOf r (length ks / 3) (held i)) 0 0
+  status-is i h = part-at ws (stateFrom width i) 4 0 (2 + 4 * i) 0 (omega arith) (omega arith) ∙ ap (λ (l : List ℕ). getD l 0 0) (s .places i h .state)
+
+  pub finished-is : (i : ℕ) → i < 32 → finishedOf width ws i ≡ getD (stateOf r (length ks / 3) (held i)) 1 0
+  finished-is i h = part-at ws (stateFrom width i) 4 1 (3 + 4 * i) 0 (omega arith) (omega arith) ∙ ap (λ (l : List ℕ). getD l 1 0) (s .places i h .state)
+
+  pub done-is : (i : ℕ) → i < 32 → doneOf width ws i ≡ getD (stateOf r (length ks / 3) (held i)) 2 0
+  done-is i h = part-at ws (stateFrom width i) 4 2 (4 + 4 * i) 0 (omega arith) (omega arith) ∙ ap (λ (l : List ℕ). getD l 2 0) (s .places i h .state)
+
+  pub layer-is : (i : ℕ) → i < 32 → layerOf width ws i ≡ getD (stateOf r (length ks / 3) (held i)) 3 0
+  layer-is i h = part-at ws (stateFrom width i) 4 3 (5 + 4 * i) 0 (omega arith) (omega arith) ∙ ap (λ (l : List ℕ). getD l 3 0) (s .places i h .state)
+
+  place-sound : (i : ℕ) → i < 32 → placeSoundAt width ws i ≡ true
+  unfolding placeSoundAt placeSound layerSound
+  place-sound i h = rw (status-is i h, finished-is i h, done-is i h, layer-is i h, s .faces) (go (held i) (s .places i h .layer))
+    where
+      go : (v : Held) → InLayer v
+          → placeSound (getD (stateOf r (length ks / 3) v) 0 0) (getD (stateOf r (length ks / 3) v) 1 0) (getD (stateOf r (length ks / 3) v) 2 0) (length ks / 3)
+          && layerSound (getD (stateOf r (length ks / 3) v) 0 0) (getD (stateOf r (length ks / 3) v) 3 0) ≡ true
+      go none l = refl
+      go (given k layer) l =
+          let n = decomposed k r .count in
+          rw (first-sound n (length ks / 3) (at-most-16 k r), ne-eqb (1 + n) 0 (λ z. omega arith), lt-ltb layer layerLimit l) refl
+
+  pub stands-sound : Meshes (length xs) ks → storeCheck width fs ws ≡ Passed
+  unfolding storeCheck longEnough sound
+  stands-sound m =
+      let x = div-add-mod' (length xs) 3 in
+      let y = div-add-mod' (length ks) 3 in
+      let z : 3 * (length ks / 3) ≡ length ks = omega (arith, m .corners, y) in
+      let k : cornersOf width ws ≡ ks = rw (s .faces, z) (s .corners) in
+      rw (
+        k,
+        s .verts,
+        s .faces,
+        le-leb (cornersFrom width + 3 * (length ks / 3)) (length ws) (omega (arith, s .words)),
+        le-leb (coordsFrom + 3 * (length xs / 3)) (length fs) (omega (arith, s .floats, m .coords, x)),
+        le-leb (length xs / 3) vertexLimit (m .verts),
+        le-leb (length ks / 3) faceLimit (m .faces),
+        every-true (placeSoundAt width ws) 32 place-sound,
+        m .below,
+      ) refl

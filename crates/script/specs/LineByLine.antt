@@ -1,0 +1,134 @@
+-- 02, L10: the reader "refuses the whole where one line would be refused, and leaves what that opening and those puts, line
+-- by line, would". The checks that it makes ahead pass exactly where neither the opening nor any put after it is refused;
+-- and what it then leaves is a sound store of the script's mesh and radius, with the last put of each place. Assumes nothing.
+use mathlib.Core.Path.{_≡_, refl, sym, ap, _∙_}
+use mathlib.Core.Bool.{Bool, true, false, _&&_, cond}
+use mathlib.Core.List.{List, [], _∷_}
+use Prim.Native.Nat.{ℕ, _*_, _/_}
+use native.Mathlib.Omega.{arith}
+use lib.Dec.{eqb, ltb}
+use lib.ListN.{length}
+use lib.Ieee.{Float}
+use borrow.Author.Tests.{lt-ltb, ltb-true, eq-eqb}
+use Rattle.base.specs.Answers.{Answer, counted, andThen}
+use Rattle.base.specs.Refusals.{number}
+use Rattle.base.specs.RefusalLaws.{never-zero}
+use Rattle.base.specs.declared.refusal.Refusal.{Refusal}
+use Rattle.base.specs.declared.refusal.Refusal.the-variants.{NoPlace, NoLayer}
+use Rattle.base.specs.declared.refusal.Checked.{Checked}
+use Rattle.base.specs.declared.refusal.Checked.the-variants.{Passed, Failed}
+use Rattle.kernel.specs.declared.kernel.Kernel.{Kernel}
+use Rattle.pieces.specs.Pieces.{decomposed}
+use Rattle.pieces.specs.FitEnd.{fitOf}
+use Rattle.layout.specs.Runs.{write}
+use Rattle.layout.specs.Layout.{width, placeLimit, layerLimit, radiusOf, facesOf}
+use Rattle.layout.specs.Soundness.{storeCheck, placeCheck, layerCheck}
+use Rattle.layout.specs.SoundLaws.{both, passed-both}
+use Rattle.layout.specs.After.{After, after, guarded}
+use Rattle.store.specs.Calls.{openCheck, openFloats, openWords, openStep}
+use Rattle.store.specs.OpenLaws.{Meshes, open-passes}
+use Rattle.store.specs.Puts.{placedWith, putFloats, putWords, putStep}
+use Rattle.text.specs.Text.{Text, lost, left}
+use Rattle.text.specs.Form.{Vals}
+use Rattle.script.specs.Lines.{putLine}
+use Rattle.script.specs.ReadOf.{Script, readOf, placeIn, kernelIn, layerIn, putOn, putsOn, played, formCheck, placesIn, layersIn, putsCheck, scriptCheck, readStep}
+use Rattle.script.specs.Leaves.{Held, none, given, Stands, opened-stands, put-stands, stands-sound}
+
+-- ---- line by line
+
+-- a call is not refused
+abbrev pub Taken : After → Type 0
+Taken a = a .reply .refusal ≡ 0
+
+-- what was done so far is not refused, nor is any of these puts, each on what the one before it left
+abbrev pub EachTaken : ℕ → List (Vals putLine) → After → Type 0
+EachTaken q [] a = Taken a
+EachTaken q (v ∷ vs) a = Taken a × EachTaken q vs (putOn q v a)
+
+-- what each place holds after these puts: the last of it that names the place
+abbrev pub heldAfter : List (Vals putLine) → (ℕ → Held) → ℕ → Held
+heldAfter [] held = held
+heldAfter (v ∷ vs) held = heldAfter vs (λ i. cond (eqb (placeIn v) i) (given (kernelIn v) (layerIn v)) (held i))
+
+-- ---- one call
+
+not-zero : {A : Type 0} (r : Refusal) → number r ≡ 0 → A
+not-zero r e = absurd (let z : false ≡ true = sym (never-zero r) ∙ eq-eqb (number r) 0 e in let y : _≡_ {A = ℕ} 0 1 = cc in omega arith)
+
+-- a call that is not refused has passed its checks
+passed : (c : Checked) (fs : List Float) (ws : List ℕ) (good : After) → Taken (guarded c fs ws good) → c ≡ Passed
+passed Passed fs ws good t = refl
+passed (Failed r) fs ws good t = not-zero r t
+
+test-passed : (b : Bool) (r : Refusal) → cond b Passed (Failed r) ≡ Passed → b ≡ true
+test-passed true r e = refl
+test-passed false r e = absurd (let z : _≡_ {A = ℕ} 0 1 = cc in omega arith)
+
+put-taken : (fs : List Float) (ws : List ℕ) (p : ℕ) (k : Kernel) (layer : ℕ) → storeCheck width fs ws ≡ Passed → ltb p placeLimit ≡ true → ltb layer layerLimit ≡ true
+    → putStep width fs ws p k layer
+    ≡ after (placedWith (decomposed k (radiusOf fs) .count) (decomposed k (radiusOf fs) .count * facesOf ws) (fitOf k (radiusOf fs)))
+    (putFloats fs p k (decomposed k (radiusOf fs))) (putWords width ws p (decomposed k (radiusOf fs)) layer)
+unfolding putStep placeCheck layerCheck
+put-taken fs ws p k layer e hp hl = rw (e, hp, hl) refl
+
+put-named : (fs : List Float) (ws : List ℕ) (p : ℕ) (k : Kernel) (layer : ℕ) → Taken (putStep width fs ws p k layer) → (ltb p placeLimit ≡ true) × (ltb layer layerLimit ≡ true)
+unfolding putStep placeCheck layerCheck
+put-named fs ws p k layer t =
+    let x = passed-both (placeCheck width fs ws p) (layerCheck layer) (passed (andThen (placeCheck width fs ws p) (layerCheck layer)) fs ws _ t) in
+    let y = passed-both (storeCheck width fs ws) (cond (ltb p placeLimit) Passed (Failed NoPlace)) (x .0) in
+    (test-passed (ltb p placeLimit) NoPlace (y .1), test-passed (ltb layer layerLimit) NoLayer (x .1))
+
+-- ---- puts
+
+first-taken : (q : ℕ) (vs : List (Vals putLine)) (a : After) → EachTaken q vs a → Taken a
+first-taken q [] a t = t
+first-taken q (v ∷ vs) a t = t .0
+
+-- each names a place and a layer, where none is refused
+all-named : (vs : List (Vals putLine)) (a : After) → EachTaken width vs a → (placesIn vs ≡ true) × (layersIn vs ≡ true)
+unfolding placesIn layersIn
+all-named [] a t = (refl, refl)
+all-named (v ∷ vs) a t =
+    let x = put-named (a .floats) (a .words) (placeIn v) (kernelIn v) (layerIn v) (first-taken width vs (putOn width v a) (t .1)) in
+    let y = all-named vs (putOn width v a) (t .1) in
+    ((λ i. x .0 i && y .0 i), (λ i. x .1 i && y .1 i))
+
+module _ (r : Float) (xs : List Float) (ks : List ℕ) (m : Meshes (length xs) ks) where
+  -- none is refused where each names a place and a layer, and the store stands as it should
+  pub all-taken : (vs : List (Vals putLine)) (held : ℕ → Held) (a : After) → Stands r xs ks held (a .floats) (a .words) → Taken a → placesIn vs ≡ true → layersIn vs ≡ true
+      → EachTaken width vs a × Stands r xs ks (heldAfter vs held) (putsOn width vs a .floats) (putsOn width vs a .words)
+  unfolding placesIn layersIn putsOn
+  all-taken [] held a s t p l = (t, s)
+  all-taken (v ∷ vs) held a s t p l =
+      let x = both (ltb (placeIn v) placeLimit) (placesIn vs) p in
+      let y = both (ltb (layerIn v) layerLimit) (layersIn vs) l in
+      let e = put-taken (a .floats) (a .words) (placeIn v) (kernelIn v) (layerIn v) (stands-sound s m) (x .0) (y .0) in
+      let h = put-stands s (placeIn v) (ltb-true (placeIn v) placeLimit (x .0)) (kernelIn v) (layerIn v) (ltb-true (layerIn v) layerLimit (y .0)) in
+      let z = all-taken vs (λ i. cond (eqb (placeIn v) i) (given (kernelIn v) (layerIn v)) (held i)) (putOn width v a) (rw e h) (ap (λ (b : After). b .reply .refusal) e) (x .1) (y .1) in
+      ((t, z .0), z .1)
+
+-- ---- the whole script
+module _ (d : Script) (fs : List Float) (ws : List ℕ) where
+  abbrev opening : After
+  opening = openStep width fs ws (d .radius) (d .coords) (d .corners)
+
+  pub checked : scriptCheck width d (length fs) (length ws) ≡ Passed
+      → EachTaken width (d .puts) opening × Stands (d .radius) (d .coords) (d .corners) (heldAfter (d .puts) (λ i. none)) (played width fs ws d .floats) (played width fs ws d .words)
+  unfolding openStep
+  checked e =
+      let x = passed-both (openCheck width (length (d .coords)) (d .corners) (length fs) (length ws)) (putsCheck (d .puts)) e in
+      let y = passed-both (cond (placesIn (d .puts)) Passed (Failed NoPlace)) (cond (layersIn (d .puts)) Passed (Failed NoLayer)) (x .1) in
+      let o = open-passes width (length (d .coords)) (d .corners) (length fs) (length ws) (x .0) in
+      let f = ap (λ (c : Checked). guarded c fs ws (after (counted (length (d .coords) / 3 ∷ length (d .corners) / 3 ∷ []))
+      (write fs 0 (openFloats (d .radius) (d .coords))) (write ws 0 (openWords width (length (d .coords) / 3) (length (d .corners) / 3) (d .corners))))) (x .0) in
+      all-taken (d .radius) (d .coords) (d .corners) (o .mesh) (d .puts) (λ i. none) opening
+      (rw f (opened-stands (d .radius) (d .coords) (d .corners) fs ws (o .floats) (o .words)))
+      (ap (λ (b : After). b .reply .refusal) f)
+      (test-passed (placesIn (d .puts)) NoPlace (y .0)) (test-passed (layersIn (d .puts)) NoLayer (y .1))
+
+  pub unrefused : EachTaken width (d .puts) opening → scriptCheck width d (length fs) (length ws) ≡ Passed
+  unfolding openStep
+  unrefused t =
+      let o = passed (openCheck width (length (d .coords)) (d .corners) (length fs) (length ws)) fs ws _ (first-taken width (d .puts) opening t) in
+      let n = all-named (d .puts) opening t in
+      rw (o, n .0, n .1) refl
