@@ -132,3 +132,38 @@ module _ (d : Script) (fs : List Float) (ws : List ℕ) where
       let o = passed (openCheck width (length (d .coords)) (d .corners) (length fs) (length ws)) fs ws _ (first-taken width (d .puts) opening t) in
       let n = all-named (d .puts) opening t in
       rw (o, n .0, n .1) refl
+
+-- ---- the reader
+module _ (fs : List Float) (ws : List ℕ) (s : List ℕ) where
+  abbrev script : Script
+  script = readOf s .val
+
+  abbrev said : Answer
+  said = counted (script .verts ∷ script .faces ∷ length (script .puts) ∷ [])
+
+  abbrev check : Checked
+  check = andThen (formCheck (readOf s .text)) (scriptCheck width script (length fs) (length ws))
+
+  -- a text that is not refused is played, line by line
+  pub plays : Taken (readStep width fs ws s) → readStep width fs ws s ≡ after said (played width fs ws script .floats) (played width fs ws script .words)
+  unfolding readStep
+  plays t = let e = passed check fs ws (after said (played width fs ws script .floats) (played width fs ws script .words)) t in rw e refl
+
+  -- "leaves what that opening and those puts, line by line, would"
+  pub leaves : Taken (readStep width fs ws s)
+      → Stands (script .radius) (script .coords) (script .corners) (heldAfter (script .puts) (λ i. none)) (readStep width fs ws s .floats) (readStep width fs ws s .words)
+  unfolding readStep
+  leaves t =
+      let e = passed check fs ws (after said (played width fs ws script .floats) (played width fs ws script .words)) t in
+      rw (plays t) (checked script fs ws (passed-both (formCheck (readOf s .text)) (scriptCheck width script (length fs) (length ws)) e .1) .1)
+
+  -- "refuses the whole where one line would be refused", and nowhere else
+  pub refuses-where : formCheck (readOf s .text) ≡ Passed
+      → (Taken (readStep width fs ws s) → EachTaken width (script .puts) (opening script fs ws)) × (EachTaken width (script .puts) (opening script fs ws) → Taken (readStep width fs ws s))
+  unfolding readStep
+  refuses-where f = (
+    (λ t.
+        checked script fs ws (passed-both (formCheck (readOf s .text)) (scriptCheck width script (length fs) (length ws))
+        (passed check fs ws (after said (played width fs ws script .floats) (played width fs ws script .words)) t) .1) .0),
+    (λ t. rw (f, unrefused script fs ws t) refl),
+  )
