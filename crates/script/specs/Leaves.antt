@@ -9,14 +9,14 @@ use native.Mathlib.Nat.{div-add-mod'}
 use native.Mathlib.Decide.{decLt}
 use native.Mathlib.Omega.{arith}
 use lib.Dec.{eqb, ltb, leb}
-use lib.ListN.{length, getD, take, drop, replicate, length-append, length-drop, length-replicate, replicate-append-replicate, take-append-drop, getD-replicate}
+use lib.ListN.{length, getD, take, drop, replicate, length-append, length-drop, length-replicate, replicate-append-replicate, take-append-drop}
 use lib.Seq.{getD-take, getD-drop, length-take-le, take-length, take-append-le, drop-append-le, drop-append-add, take-at, drop-at}
 use lib.Ieee.{Float, nan}
 use borrow.Author.Tests.{lt-ltb, le-leb, eq-eqb, ne-eqb, eqb-true, eqb-false}
 use Rattle.base.specs.Floats.{+0}
 use Rattle.base.specs.declared.refusal.Checked.the-variants.{Passed}
 use Rattle.kernel.specs.declared.kernel.Kernel.{Kernel}
-use Rattle.mesh.specs.Checks.{vertexLimit, faceLimit, allBelow}
+use Rattle.mesh.specs.Checks.{vertexLimit, faceLimit}
 use Rattle.pieces.specs.declared.pieces.Pieces.{Pieces}
 use Rattle.pieces.specs.Pieces.{decomposed}
 use Rattle.pieces.specs.PieceLaws.{at-most-16}
@@ -24,10 +24,9 @@ use Rattle.layout.specs.Runs.{write}
 use Rattle.layout.specs.RunLaws.{length-write, write-before, write-rest}
 use Rattle.layout.specs.Layout.{width, pieceLimit, layerLimit, radiusOf, kernelFrom, piecesFrom, coordsFrom, stateFrom, cornersFrom, cornersOf, vertsOf, facesOf, statusOf, finishedOf, doneOf, layerOf}
 use Rattle.layout.specs.Soundness.{every, longEnough, placeSound, layerSound, placeSoundAt, sound, storeCheck}
-use Rattle.store.specs.Calls.{openCheck, openFloats, openWords}
-use Rattle.store.specs.OpenLaws.{Meshes, open-passes}
+use Rattle.store.specs.Calls.{openFloats, openWords}
+use Rattle.store.specs.OpenLaws.{Meshes}
 use Rattle.store.specs.Puts.{seven, fresh, atFirst, putFloats, putWords}
-use Rattle.script.specs.ReadOf.{Script}
 
 -- ---- a part of a run
 

@@ -6,3 +6,4 @@ pub mod Spelling
 pub mod RoundTrip
 pub mod Leaves
 pub mod LineByLine
+pub mod Again

@@ -9,7 +9,7 @@ use native.Mathlib.Omega.{arith}
 use lib.Dec.{eqb, ltb}
 use lib.ListN.{length}
 use lib.Ieee.{Float}
-use borrow.Author.Tests.{lt-ltb, ltb-true, eq-eqb}
+use borrow.Author.Tests.{ltb-true, eq-eqb}
 use Rattle.base.specs.Answers.{Answer, counted, andThen}
 use Rattle.base.specs.Refusals.{number}
 use Rattle.base.specs.RefusalLaws.{never-zero}
@@ -28,7 +28,6 @@ use Rattle.layout.specs.After.{After, after, guarded}
 use Rattle.store.specs.Calls.{openCheck, openFloats, openWords, openStep}
 use Rattle.store.specs.OpenLaws.{Meshes, open-passes}
 use Rattle.store.specs.Puts.{placedWith, putFloats, putWords, putStep}
-use Rattle.text.specs.Text.{Text, lost, left}
 use Rattle.text.specs.Form.{Vals}
 use Rattle.script.specs.Lines.{putLine}
 use Rattle.script.specs.ReadOf.{Script, readOf, placeIn, kernelIn, layerIn, putOn, putsOn, played, formCheck, placesIn, layersIn, putsCheck, scriptCheck, readStep}

@@ -16,7 +16,7 @@ use Rattle.layout.specs.Layout.{placeLimit, radiusOf, kernelFrom, coordsFrom, c
 use Rattle.layout.specs.Soundness.{storeCheck}
 use Rattle.layout.specs.SoundLaws.{Fine, fine}
 use Rattle.text.specs.Text.{left}
-use Rattle.text.specs.Form.{Form, Vals, print, Spells, Fit, clear, _&_}
+use Rattle.text.specs.Form.{Form, Vals, print, Spells, Fit, _&_}
 use Rattle.text.specs.FormLaws.{printed}
 use Rattle.script.specs.Lines.{openLine, vertLine, faceLine, putLine}
 use Rattle.script.specs.Written.{rows, vertAt, faceAt, putAt, vertRows, faceRows, putRow, putRows, linesOf, written}
