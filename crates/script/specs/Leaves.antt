@@ -1,7 +1,7 @@
 -- 02, L10: the reader "leaves what that opening and those puts, line by line, would": what that is, field by field. The
 -- mesh and the radius are the script's; a place that a put names holds the kernel and layer of the last such put, its
 -- pieces and "all steps still to do"; every other place is empty. And such a store is sound. Assumes nothing.
-use mathlib.Core.Path.{_≡_, refl, sym, ap, _∙_}
+use mathlib.Core.Path.{_≡_, refl, sym, ap, subst, _∙_}
 use mathlib.Core.Bool.{Bool, true, false, _&&_, cond}
 use mathlib.Core.List.{List, [], _∷_, _++_}
 use Prim.Native.Nat.{ℕ, zero, suc, _+_, _*_, _-_, _/_, _≤_, _<_}
@@ -130,92 +130,117 @@ pub record Stands (radius : Float) (xs : List Float) (ks : List ℕ) (held : ℕ
   pub places : (i : ℕ) → i < 32 → PlaceHolds radius (length ks / 3) fs ws i (held i)
 
 -- ---- an opening leaves every place empty
-module _ (r : Float) (xs : List Float) (ks : List ℕ) (fs : List Float) (ws : List ℕ) (a : coordsFrom + length xs ≤ length fs) (b : cornersFrom width + length ks ≤ length ws) where
-  abbrev F₀ : List Float
-  F₀ = write fs 0 (openFloats r xs)
+module _ (r : Float) (xs : List Float) (ks : List ℕ) (fs : List Float) (ws : List ℕ)
+    (room : coordsFrom + length xs ≤ length fs) (space : cornersFrom width + length ks ≤ length ws) where
+  abbrev fresh-floats : List Float
+  fresh-floats = openFloats r xs
 
-  abbrev W₀ : List ℕ
-  W₀ = write ws 0 (openWords width (length xs / 3) (length ks / 3) ks)
+  abbrev fresh-words : List ℕ
+  fresh-words = openWords width (length xs / 3) (length ks / 3) ks
 
-  floats-long : length (openFloats r xs) ≡ coordsFrom + length xs
-  floats-long = ap suc (length-append (replicate 1760 +0) xs ∙ ap (λ (j : ℕ). j + length xs) (length-replicate 1760 +0)) ∙ (omega arith)
+  floats-long : length fresh-floats ≡ coordsFrom + length xs
+  floats-long = rw (length-append (replicate 1760 +0) xs, length-replicate 1760 +0) (omega arith)
 
-  words-long : length (openWords width (length xs / 3) (length ks / 3) ks) ≡ cornersFrom width + length ks
+  words-long : length fresh-words ≡ cornersFrom width + length ks
   words-long = rw (length-append (replicate {A = ℕ} 128 0) ks, length-replicate {A = ℕ} 128 0) (omega arith)
 
-  pub opened-stands : Stands r xs ks (λ i. none) F₀ W₀
+  pub opened-stands : Stands r xs ks (λ i. none) (write fs 0 fresh-floats) (write ws 0 fresh-words)
   opened-stands =
       let m = floats-long in
       let n = words-long in
+      let two = part-first ws 0 2 fresh-words (omega arith) in
       record {
-        floats = rw (length-write fs 0 (openFloats r xs) (omega arith)) a;
-        words = rw (length-write ws 0 (openWords width (length xs / 3) (length ks / 3) ks) (omega arith)) b;
-        size = part-at F₀ 0 1 0 0 nan refl (omega arith) ∙ ap (λ (l : List Float). getD l 0 nan) (part-first fs 0 1 (openFloats r xs) (omega arith));
-        verts = part-at W₀ 0 2 0 0 0 refl (omega arith) ∙ ap (λ (l : List ℕ). getD l 0 0) (part-first ws 0 2 (openWords width (length xs / 3) (length ks / 3) ks) (omega arith));
-        faces = part-at W₀ 0 2 1 1 0 refl (omega arith) ∙ ap (λ (l : List ℕ). getD l 1 0) (part-first ws 0 2 (openWords width (length xs / 3) (length ks / 3) ks) (omega arith));
-        coords = part-first fs coordsFrom (length xs) (openFloats r xs) (omega arith) ∙ laid-copy (r ∷ []) 1760 coordsFrom +0 xs refl;
-        corners = part-first ws (cornersFrom width) (length ks) (openWords width (length xs / 3) (length ks / 3) ks) (omega arith)
+        floats = rw (length-write fs 0 fresh-floats (omega arith)) room;
+        words = rw (length-write ws 0 fresh-words (omega arith)) space;
+        size = part-at (write fs 0 fresh-floats) 0 1 0 0 nan refl (omega arith)
+            ∙ ap (λ (l : List Float). getD l 0 nan) (part-first fs 0 1 fresh-floats (omega arith));
+        verts = part-at (write ws 0 fresh-words) 0 2 0 0 0 refl (omega arith) ∙ ap (λ (l : List ℕ). getD l 0 0) two;
+        faces = part-at (write ws 0 fresh-words) 0 2 1 1 0 refl (omega arith) ∙ ap (λ (l : List ℕ). getD l 1 0) two;
+        coords = part-first fs coordsFrom (length xs) fresh-floats (omega arith)
+            ∙ laid-copy (r ∷ []) 1760 coordsFrom +0 xs refl;
+        corners = part-first ws (cornersFrom width) (length ks) fresh-words (omega arith)
             ∙ laid-copy (length xs / 3 ∷ length ks / 3 ∷ []) 128 (cornersFrom width) 0 ks refl;
         places = λ i h. record {
-          kernel = part-first fs (kernelFrom i) 7 (openFloats r xs) (omega arith) ∙ laid-zeros (r ∷ []) 1760 (7 * i) 7 (kernelFrom i) +0 xs refl (omega arith);
-          pieces = part-first fs (piecesFrom i) 48 (openFloats r xs) (omega arith) ∙ laid-zeros (r ∷ []) 1760 (224 + 48 * i) 48 (piecesFrom i) +0 xs (omega arith) (omega arith);
-          state = part-first ws (stateFrom width i) 4 (openWords width (length xs / 3) (length ks / 3) ks) (omega arith)
+          kernel = part-first fs (kernelFrom i) 7 fresh-floats (omega arith)
+              ∙ laid-zeros (r ∷ []) 1760 (7 * i) 7 (kernelFrom i) +0 xs refl (omega arith);
+          pieces = part-first fs (piecesFrom i) 48 fresh-floats (omega arith)
+              ∙ laid-zeros (r ∷ []) 1760 (224 + 48 * i) 48 (piecesFrom i) +0 xs (omega arith) (omega arith);
+          state = part-first ws (stateFrom width i) 4 fresh-words (omega arith)
               ∙ laid-zeros (length xs / 3 ∷ length ks / 3 ∷ []) 128 (4 * i) 4 (stateFrom width i) 0 ks refl (omega arith);
           layer = tt;
         };
       }
 
 -- ---- a put changes its place alone
-module _ {r : Float} {xs : List Float} {ks : List ℕ} {held : ℕ → Held} {fs : List Float} {ws : List ℕ} (s : Stands r xs ks held fs ws) (p : ℕ) (hp : p < 32) (k : Kernel) (layer : ℕ) (hl : layer < layerLimit) where
+module _ {r : Float} {xs : List Float} {ks : List ℕ} {held : ℕ → Held} {fs : List Float} {ws : List ℕ}
+    (s : Stands r xs ks held fs ws) (p : ℕ) (hp : p < 32) (k : Kernel) (layer : ℕ) (hl : layer < layerLimit) where
   abbrev fit : Pieces
   fit = decomposed k (radiusOf fs)
 
-  abbrev row : List ℕ
-  row = (1 + fit .count) ∷ atFirst (facesOf ws) (fit .count) ∷ 0 ∷ layer ∷ []
+  -- what is written
+  abbrev row7 : List Float
+  row7 = seven k (fit .error)
 
-  abbrev F₁ : List Float
-  F₁ = write fs (kernelFrom p) (seven k (fit .error))
+  abbrev row48 : List Float
+  row48 = fresh fit pieceLimit 0
 
-  abbrev F₂ : List Float
-  F₂ = write F₁ (piecesFrom p) (fresh fit pieceLimit 0)
+  abbrev row4 : List ℕ
+  row4 = (1 + fit .count) ∷ atFirst (facesOf ws) (fit .count) ∷ 0 ∷ layer ∷ []
 
-  abbrev W₂ : List ℕ
-  W₂ = write ws (stateFrom width p) row
+  -- the floats after the first write, and after both; the words
+  abbrev half : List Float
+  half = write fs (kernelFrom p) row7
 
-  l₁ : length F₁ ≡ length fs
-  l₁ = length-write fs (kernelFrom p) (seven k (fit .error)) (omega (arith, s .floats))
+  abbrev floats′ : List Float
+  floats′ = write half (piecesFrom p) row48
 
-  l₂ : length F₂ ≡ length fs
-  l₂ = length-write F₁ (piecesFrom p) (fresh fit pieceLimit 0) (omega (arith, s .floats, l₁)) ∙ l₁
+  abbrev words′ : List ℕ
+  words′ = write ws (stateFrom width p) row4
 
-  m₂ : length W₂ ≡ length ws
-  m₂ = length-write ws (stateFrom width p) row (omega (arith, s .words))
+  half-long : length half ≡ length fs
+  half-long = length-write fs (kernelFrom p) row7 (omega (arith, s .floats))
 
-  place-after : (i : ℕ) → i < 32 → (b : Bool) → eqb p i ≡ b → PlaceHolds r (length ks / 3) fs ws i (held i) → PlaceHolds r (length ks / 3) F₂ W₂ i (cond b (given k layer) (held i))
-  place-after i hi true e h =
+  floats-same : length floats′ ≡ length fs
+  floats-same = length-write half (piecesFrom p) row48 (omega (arith, s .floats, half-long)) ∙ half-long
+
+  words-same : length words′ ≡ length ws
+  words-same = length-write ws (stateFrom width p) row4 (omega (arith, s .words))
+
+  -- floats that lie in neither of the two rows, and words that do not lie in the one
+  other-floats : (at n : ℕ) → (at < kernelFrom p → at + n ≤ kernelFrom p) → (kernelFrom p ≤ at → kernelFrom p + 7 ≤ at)
+      → (at < piecesFrom p → at + n ≤ piecesFrom p) → (piecesFrom p ≤ at → piecesFrom p + 48 ≤ at) → part floats′ at n ≡ part fs at n
+  other-floats at n a b c d =
+      let x = s .floats in
+      let y = half-long in
+      part-other half at n (piecesFrom p) row48 c d (omega arith) ∙ part-other fs at n (kernelFrom p) row7 a b (omega arith)
+
+  other-words : (at n : ℕ) → (at < stateFrom width p → at + n ≤ stateFrom width p)
+      → (stateFrom width p ≤ at → stateFrom width p + 4 ≤ at) → part words′ at n ≡ part ws at n
+  other-words at n a b = let y = s .words in part-other ws at n (stateFrom width p) row4 a b (omega arith)
+
+  place-after : (i : ℕ) → i < 32 → (b : Bool) → eqb p i ≡ b → PlaceHolds r (length ks / 3) fs ws i (held i)
+      → PlaceHolds r (length ks / 3) floats′ words′ i (cond b (given k layer) (held i))
+  place-after i l true e h =
       let o : p ≡ i = eqb-true p i e in
       let x = s .floats in
       let y = s .words in
-      let z = l₁ in
+      let z = half-long in
       rw (← o)
       (record {
-        kernel = part-other F₁ (kernelFrom p) 7 (piecesFrom p) (fresh fit pieceLimit 0) (λ u. omega arith) (λ u. omega arith) (omega arith)
-            ∙ (part-same fs (kernelFrom p) 7 (seven k (fit .error)) refl (omega arith) ∙ ap (λ (q : Float). seven k (decomposed k q .error)) (s .size));
-        pieces = part-same F₁ (piecesFrom p) 48 (fresh fit pieceLimit 0) refl (omega arith) ∙ ap (λ (q : Float). fresh (decomposed k q) pieceLimit 0) (s .size);
-        state = part-same ws (stateFrom width p) 4 row refl (omega arith) ∙ (λ j. stateOf (s .size j) (s .faces j) (given k layer));
+        kernel = part-other half (kernelFrom p) 7 (piecesFrom p) row48 (λ u. omega arith) (λ u. omega arith) (omega arith)
+            ∙ (part-same fs (kernelFrom p) 7 row7 refl (omega arith) ∙ ap (λ (q : Float). sevenOf q (given k layer)) (s .size));
+        pieces = part-same half (piecesFrom p) 48 row48 refl (omega arith)
+            ∙ ap (λ (q : Float). piecesOf q (given k layer)) (s .size);
+        state = part-same ws (stateFrom width p) 4 row4 refl (omega arith)
+            ∙ (λ j. stateOf (s .size j) (s .faces j) (given k layer));
         layer = hl;
       })
-  place-after i hi false e h =
+  place-after i l false e h =
       let o : p ≡ i → ⊥ = eqb-false p i e in
-      let x = s .floats in
-      let y = s .words in
-      let z = l₁ in
       record {
-        kernel = part-other F₁ (kernelFrom i) 7 (piecesFrom p) (fresh fit pieceLimit 0) (λ u. omega arith) (λ u. omega arith) (omega arith)
-            ∙ (part-other fs (kernelFrom i) 7 (kernelFrom p) (seven k (fit .error)) (λ u. omega arith) (λ u. omega arith) (omega arith) ∙ h .kernel);
-        pieces = part-other F₁ (piecesFrom i) 48 (piecesFrom p) (fresh fit pieceLimit 0) (λ u. omega arith) (λ u. omega arith) (omega arith)
-            ∙ (part-other fs (piecesFrom i) 48 (kernelFrom p) (seven k (fit .error)) (λ u. omega arith) (λ u. omega arith) (omega arith) ∙ h .pieces);
-        state = part-other ws (stateFrom width i) 4 (stateFrom width p) row (λ u. omega arith) (λ u. omega arith) (omega arith) ∙ h .state;
+        kernel = other-floats (kernelFrom i) 7 (λ u. omega arith) (λ u. omega arith) (λ u. omega arith) (λ u. omega arith) ∙ h .kernel;
+        pieces = other-floats (piecesFrom i) 48 (λ u. omega arith) (λ u. omega arith) (λ u. omega arith) (λ u. omega arith) ∙ h .pieces;
+        state = other-words (stateFrom width i) 4 (λ u. omega arith) (λ u. omega arith) ∙ h .state;
         layer = h .layer;
       }
 
@@ -224,16 +249,17 @@ module _ {r : Float} {xs : List Float} {ks : List ℕ} {held : ℕ → Held} {fs
   put-stands =
       let x = s .floats in
       let y = s .words in
-      let z = l₁ in
+      let z = half-long in
       record {
-        floats = rw l₂ (s .floats);
-        words = rw m₂ (s .words);
-        size = write-before F₁ (piecesFrom p) (fresh fit pieceLimit 0) 0 nan (omega arith) (omega arith) ∙ (write-before fs (kernelFrom p) (seven k (fit .error)) 0 nan (omega arith) (omega arith) ∙ s .size);
-        verts = write-before ws (stateFrom width p) row 0 0 (omega arith) (omega arith) ∙ s .verts;
-        faces = write-before ws (stateFrom width p) row 1 0 (omega arith) (omega arith) ∙ s .faces;
-        coords = part-other F₁ coordsFrom (length xs) (piecesFrom p) (fresh fit pieceLimit 0) (λ u. omega arith) (λ u. omega arith) (omega arith)
-            ∙ (part-other fs coordsFrom (length xs) (kernelFrom p) (seven k (fit .error)) (λ u. omega arith) (λ u. omega arith) (omega arith) ∙ s .coords);
-        corners = part-other ws (cornersFrom width) (length ks) (stateFrom width p) row (λ u. omega arith) (λ u. omega arith) (omega arith) ∙ s .corners;
+        floats = rw floats-same (s .floats);
+        words = rw words-same (s .words);
+        size = write-before half (piecesFrom p) row48 0 nan (omega arith) (omega arith)
+            ∙ (write-before fs (kernelFrom p) row7 0 nan (omega arith) (omega arith) ∙ s .size);
+        verts = write-before ws (stateFrom width p) row4 0 0 (omega arith) (omega arith) ∙ s .verts;
+        faces = write-before ws (stateFrom width p) row4 1 0 (omega arith) (omega arith) ∙ s .faces;
+        coords = other-floats coordsFrom (length xs) (λ u. omega arith) (λ u. omega arith) (λ u. omega arith) (λ u. omega arith)
+            ∙ s .coords;
+        corners = other-words (cornersFrom width) (length ks) (λ u. omega arith) (λ u. omega arith) ∙ s .corners;
         places = λ i h. place-after i h (eqb p i) refl (s .places i h);
       }
 
@@ -261,27 +287,38 @@ unfolding every
 every-true test zero h = refl
 every-true test (suc n) h = rw (every-true test n (λ i l. h i (omega arith)), h n (omega arith)) refl
 
-module _ {r : Float} {xs : List Float} {ks : List ℕ} {held : ℕ → Held} {fs : List Float} {ws : List ℕ} (s : Stands r xs ks held fs ws) where
+module _ {r : Float} {xs : List Float} {ks : List ℕ} {held : ℕ → Held} {fs : List Float} {ws : List ℕ}
+    (s : Stands r xs ks held fs ws) where
+  -- what each place is to hold may be said otherwise
+  pub held-as : (other : ℕ → Held) → ((i : ℕ) → i < 32 → held i ≡ other i) → Stands r xs ks other fs ws
+  held-as other e =
+      record {
+        floats = s .floats;
+        words = s .words;
+        size = s .size;
+        verts = s .verts;
+        faces = s .faces;
+        coords = s .coords;
+        corners = s .corners;
+        places = λ i h. subst (PlaceHolds r (length ks / 3) fs ws i) (e i h) (s .places i h);
+      }
+
   -- the words of a place
-  pub status-is : (i : ℕ) → i < 32 → statusOf width ws i ≡ getD (stateOf r (length ks / 3) (held i)) 0 0
-  status-is i h = part-at ws (stateFrom width i) 4 0 (2 + 4 * i) 0 (omega arith) (omega arith) ∙ ap (λ (l : List ℕ). getD l 0 0) (s .places i h .state)
+  abbrev wordOf : Held → ℕ → ℕ
+  wordOf h j = getD (stateOf r (length ks / 3) h) j 0
 
-  pub finished-is : (i : ℕ) → i < 32 → finishedOf width ws i ≡ getD (stateOf r (length ks / 3) (held i)) 1 0
-  finished-is i h = part-at ws (stateFrom width i) 4 1 (3 + 4 * i) 0 (omega arith) (omega arith) ∙ ap (λ (l : List ℕ). getD l 1 0) (s .places i h .state)
-
-  pub done-is : (i : ℕ) → i < 32 → doneOf width ws i ≡ getD (stateOf r (length ks / 3) (held i)) 2 0
-  done-is i h = part-at ws (stateFrom width i) 4 2 (4 + 4 * i) 0 (omega arith) (omega arith) ∙ ap (λ (l : List ℕ). getD l 2 0) (s .places i h .state)
-
-  pub layer-is : (i : ℕ) → i < 32 → layerOf width ws i ≡ getD (stateOf r (length ks / 3) (held i)) 3 0
-  layer-is i h = part-at ws (stateFrom width i) 4 3 (5 + 4 * i) 0 (omega arith) (omega arith) ∙ ap (λ (l : List ℕ). getD l 3 0) (s .places i h .state)
+  word-is : (i j k : ℕ) → i < 32 → j < 4 → k ≡ stateFrom width i + j → getD ws k 0 ≡ wordOf (held i) j
+  word-is i j k h l e = part-at ws (stateFrom width i) 4 j k 0 e l ∙ ap (λ (t : List ℕ). getD t j 0) (s .places i h .state)
 
   place-sound : (i : ℕ) → i < 32 → placeSoundAt width ws i ≡ true
   unfolding placeSoundAt placeSound layerSound
-  place-sound i h = rw (status-is i h, finished-is i h, done-is i h, layer-is i h, s .faces) (go (held i) (s .places i h .layer))
+  place-sound i h =
+      rw (word-is i 0 (2 + 4 * i) h (omega arith) (omega arith), word-is i 1 (3 + 4 * i) h (omega arith) (omega arith),
+      word-is i 2 (4 + 4 * i) h (omega arith) (omega arith), word-is i 3 (5 + 4 * i) h (omega arith) (omega arith), s .faces)
+      (go (held i) (s .places i h .layer))
     where
       go : (v : Held) → InLayer v
-          → placeSound (getD (stateOf r (length ks / 3) v) 0 0) (getD (stateOf r (length ks / 3) v) 1 0) (getD (stateOf r (length ks / 3) v) 2 0) (length ks / 3)
-          && layerSound (getD (stateOf r (length ks / 3) v) 0 0) (getD (stateOf r (length ks / 3) v) 3 0) ≡ true
+          → placeSound (wordOf v 0) (wordOf v 1) (wordOf v 2) (length ks / 3) && layerSound (wordOf v 0) (wordOf v 3) ≡ true
       go none l = refl
       go (given k layer) l =
           let n = decomposed k r .count in
@@ -294,14 +331,7 @@ module _ {r : Float} {xs : List Float} {ks : List ℕ} {held : ℕ → Held} {fs
       let y = div-add-mod' (length ks) 3 in
       let z : 3 * (length ks / 3) ≡ length ks = omega (arith, m .corners, y) in
       let k : cornersOf width ws ≡ ks = rw (s .faces, z) (s .corners) in
-      rw (
-        k,
-        s .verts,
-        s .faces,
-        le-leb (cornersFrom width + 3 * (length ks / 3)) (length ws) (omega (arith, s .words)),
-        le-leb (coordsFrom + 3 * (length xs / 3)) (length fs) (omega (arith, s .floats, m .coords, x)),
-        le-leb (length xs / 3) vertexLimit (m .verts),
-        le-leb (length ks / 3) faceLimit (m .faces),
-        every-true (placeSoundAt width ws) 32 place-sound,
-        m .below,
-      ) refl
+      rw (k, s .verts, s .faces, le-leb (cornersFrom width + 3 * (length ks / 3)) (length ws) (omega (arith, s .words)),
+      le-leb (coordsFrom + 3 * (length xs / 3)) (length fs) (omega (arith, s .floats, m .coords, x)),
+      le-leb (length xs / 3) vertexLimit (m .verts), le-leb (length ks / 3) faceLimit (m .faces),
+      every-true (placeSoundAt width ws) 32 place-sound, m .below) refl

@@ -44,10 +44,13 @@ abbrev pub EachTaken : ℕ → List (Vals putLine) → After → Type 0
 EachTaken q [] a = Taken a
 EachTaken q (v ∷ vs) a = Taken a × EachTaken q vs (putOn q v a)
 
--- what each place holds after these puts: the last of it that names the place
+-- what each place holds after a put, and after these: by the last of them that names the place
+abbrev pub heldBy : Vals putLine → (ℕ → Held) → ℕ → Held
+heldBy v held i = cond (eqb (placeIn v) i) (given (kernelIn v) (layerIn v)) (held i)
+
 abbrev pub heldAfter : List (Vals putLine) → (ℕ → Held) → ℕ → Held
 heldAfter [] held = held
-heldAfter (v ∷ vs) held = heldAfter vs (λ i. cond (eqb (placeIn v) i) (given (kernelIn v) (layerIn v)) (held i))
+heldAfter (v ∷ vs) held = heldAfter vs (heldBy v held)
 
 -- ---- one call
 
@@ -63,17 +66,20 @@ test-passed : (b : Bool) (r : Refusal) → cond b Passed (Failed r) ≡ Passed �
 test-passed true r e = refl
 test-passed false r e = absurd (let z : _≡_ {A = ℕ} 0 1 = cc in omega arith)
 
-put-taken : (fs : List Float) (ws : List ℕ) (p : ℕ) (k : Kernel) (layer : ℕ) → storeCheck width fs ws ≡ Passed → ltb p placeLimit ≡ true → ltb layer layerLimit ≡ true
+put-taken : (fs : List Float) (ws : List ℕ) (p : ℕ) (k : Kernel) (layer : ℕ)
+    → storeCheck width fs ws ≡ Passed → ltb p placeLimit ≡ true → ltb layer layerLimit ≡ true
     → putStep width fs ws p k layer
     ≡ after (placedWith (decomposed k (radiusOf fs) .count) (decomposed k (radiusOf fs) .count * facesOf ws) (fitOf k (radiusOf fs)))
     (putFloats fs p k (decomposed k (radiusOf fs))) (putWords width ws p (decomposed k (radiusOf fs)) layer)
 unfolding putStep placeCheck layerCheck
 put-taken fs ws p k layer e hp hl = rw (e, hp, hl) refl
 
-put-named : (fs : List Float) (ws : List ℕ) (p : ℕ) (k : Kernel) (layer : ℕ) → Taken (putStep width fs ws p k layer) → (ltb p placeLimit ≡ true) × (ltb layer layerLimit ≡ true)
+put-named : (fs : List Float) (ws : List ℕ) (p : ℕ) (k : Kernel) (layer : ℕ)
+    → Taken (putStep width fs ws p k layer) → (ltb p placeLimit ≡ true) × (ltb layer layerLimit ≡ true)
 unfolding putStep placeCheck layerCheck
 put-named fs ws p k layer t =
-    let x = passed-both (placeCheck width fs ws p) (layerCheck layer) (passed (andThen (placeCheck width fs ws p) (layerCheck layer)) fs ws _ t) in
+    let c = placeCheck width fs ws p in
+    let x = passed-both c (layerCheck layer) (passed (andThen c (layerCheck layer)) fs ws _ t) in
     let y = passed-both (storeCheck width fs ws) (cond (ltb p placeLimit) Passed (Failed NoPlace)) (x .0) in
     (test-passed (ltb p placeLimit) NoPlace (y .1), test-passed (ltb layer layerLimit) NoLayer (x .1))
 
@@ -94,7 +100,8 @@ all-named (v ∷ vs) a t =
 
 module _ (r : Float) (xs : List Float) (ks : List ℕ) (m : Meshes (length xs) ks) where
   -- none is refused where each names a place and a layer, and the store stands as it should
-  pub all-taken : (vs : List (Vals putLine)) (held : ℕ → Held) (a : After) → Stands r xs ks held (a .floats) (a .words) → Taken a → placesIn vs ≡ true → layersIn vs ≡ true
+  pub all-taken : (vs : List (Vals putLine)) (held : ℕ → Held) (a : After)
+      → Stands r xs ks held (a .floats) (a .words) → Taken a → placesIn vs ≡ true → layersIn vs ≡ true
       → EachTaken width vs a × Stands r xs ks (heldAfter vs held) (putsOn width vs a .floats) (putsOn width vs a .words)
   unfolding placesIn layersIn putsOn
   all-taken [] held a s t p l = (t, s)
@@ -102,8 +109,10 @@ module _ (r : Float) (xs : List Float) (ks : List ℕ) (m : Meshes (length xs) k
       let x = both (ltb (placeIn v) placeLimit) (placesIn vs) p in
       let y = both (ltb (layerIn v) layerLimit) (layersIn vs) l in
       let e = put-taken (a .floats) (a .words) (placeIn v) (kernelIn v) (layerIn v) (stands-sound s m) (x .0) (y .0) in
-      let h = put-stands s (placeIn v) (ltb-true (placeIn v) placeLimit (x .0)) (kernelIn v) (layerIn v) (ltb-true (layerIn v) layerLimit (y .0)) in
-      let z = all-taken vs (λ i. cond (eqb (placeIn v) i) (given (kernelIn v) (layerIn v)) (held i)) (putOn width v a) (rw e h) (ap (λ (b : After). b .reply .refusal) e) (x .1) (y .1) in
+      let i = ltb-true (placeIn v) placeLimit (x .0) in
+      let h = put-stands s (placeIn v) i (kernelIn v) (layerIn v) (ltb-true (layerIn v) layerLimit (y .0)) in
+      let t′ = ap (λ (b : After). b .reply .refusal) e in
+      let z = all-taken vs (heldBy v held) (putOn width v a) (rw e h) t′ (x .1) (y .1) in
       ((t, z .0), z .1)
 
 -- ---- the whole script
@@ -111,18 +120,23 @@ module _ (d : Script) (fs : List Float) (ws : List ℕ) where
   abbrev opening : After
   opening = openStep width fs ws (d .radius) (d .coords) (d .corners)
 
-  pub checked : scriptCheck width d (length fs) (length ws) ≡ Passed
-      → EachTaken width (d .puts) opening × Stands (d .radius) (d .coords) (d .corners) (heldAfter (d .puts) (λ i. none)) (played width fs ws d .floats) (played width fs ws d .words)
+  opened : openCheck width (length (d .coords)) (d .corners) (length fs) (length ws) ≡ Passed
+      → Taken opening × Stands (d .radius) (d .coords) (d .corners) (λ i. none) (opening .floats) (opening .words)
   unfolding openStep
+  opened e =
+      let o = open-passes width (length (d .coords)) (d .corners) (length fs) (length ws) e in
+      rw e (refl, opened-stands (d .radius) (d .coords) (d .corners) fs ws (o .floats) (o .words))
+
+  pub checked : scriptCheck width d (length fs) (length ws) ≡ Passed
+      → EachTaken width (d .puts) opening
+      × Stands (d .radius) (d .coords) (d .corners) (heldAfter (d .puts) (λ i. none)) (played width fs ws d .floats) (played width fs ws d .words)
   checked e =
-      let x = passed-both (openCheck width (length (d .coords)) (d .corners) (length fs) (length ws)) (putsCheck (d .puts)) e in
+      let c = openCheck width (length (d .coords)) (d .corners) (length fs) (length ws) in
+      let x = passed-both c (putsCheck (d .puts)) e in
       let y = passed-both (cond (placesIn (d .puts)) Passed (Failed NoPlace)) (cond (layersIn (d .puts)) Passed (Failed NoLayer)) (x .1) in
-      let o = open-passes width (length (d .coords)) (d .corners) (length fs) (length ws) (x .0) in
-      let f = ap (λ (c : Checked). guarded c fs ws (after (counted (length (d .coords) / 3 ∷ length (d .corners) / 3 ∷ []))
-      (write fs 0 (openFloats (d .radius) (d .coords))) (write ws 0 (openWords width (length (d .coords) / 3) (length (d .corners) / 3) (d .corners))))) (x .0) in
-      all-taken (d .radius) (d .coords) (d .corners) (o .mesh) (d .puts) (λ i. none) opening
-      (rw f (opened-stands (d .radius) (d .coords) (d .corners) fs ws (o .floats) (o .words)))
-      (ap (λ (b : After). b .reply .refusal) f)
+      let m = open-passes width (length (d .coords)) (d .corners) (length fs) (length ws) (x .0) .mesh in
+      let o = opened (x .0) in
+      all-taken (d .radius) (d .coords) (d .corners) m (d .puts) (λ i. none) opening (o .1) (o .0)
       (test-passed (placesIn (d .puts)) NoPlace (y .0)) (test-passed (layersIn (d .puts)) NoLayer (y .1))
 
   pub unrefused : EachTaken width (d .puts) opening → scriptCheck width d (length fs) (length ws) ≡ Passed
@@ -137,32 +151,38 @@ module _ (fs : List Float) (ws : List ℕ) (s : List ℕ) where
   abbrev script : Script
   script = readOf s .val
 
-  abbrev said : Answer
-  said = counted (script .verts ∷ script .faces ∷ length (script .puts) ∷ [])
+  abbrev after-script : After
+  after-script = played width fs ws script
 
-  abbrev check : Checked
-  check = andThen (formCheck (readOf s .text)) (scriptCheck width script (length fs) (length ws))
+  abbrev all-done : After
+  all-done =
+      after (counted (script .verts ∷ script .faces ∷ length (script .puts) ∷ [])) (after-script .floats) (after-script .words)
+
+  -- it refuses nothing else than bad lines and what the script's checks refuse
+  pub passing : formCheck (readOf s .text) ≡ Passed → scriptCheck width script (length fs) (length ws) ≡ Passed → Taken (readStep width fs ws s)
+  unfolding readStep
+  passing f c = rw (f, c) refl
+
+  has-passed : Taken (readStep width fs ws s)
+      → (formCheck (readOf s .text) ≡ Passed) × (scriptCheck width script (length fs) (length ws) ≡ Passed)
+  unfolding readStep
+  has-passed t =
+      let c = scriptCheck width script (length fs) (length ws) in
+      passed-both (formCheck (readOf s .text)) c (passed (andThen (formCheck (readOf s .text)) c) fs ws all-done t)
 
   -- a text that is not refused is played, line by line
-  pub plays : Taken (readStep width fs ws s) → readStep width fs ws s ≡ after said (played width fs ws script .floats) (played width fs ws script .words)
+  pub plays : Taken (readStep width fs ws s) → readStep width fs ws s ≡ all-done
   unfolding readStep
-  plays t = let e = passed check fs ws (after said (played width fs ws script .floats) (played width fs ws script .words)) t in rw e refl
+  plays t = let x = has-passed t in rw (x .0, x .1) refl
 
   -- "leaves what that opening and those puts, line by line, would"
   pub leaves : Taken (readStep width fs ws s)
-      → Stands (script .radius) (script .coords) (script .corners) (heldAfter (script .puts) (λ i. none)) (readStep width fs ws s .floats) (readStep width fs ws s .words)
-  unfolding readStep
-  leaves t =
-      let e = passed check fs ws (after said (played width fs ws script .floats) (played width fs ws script .words)) t in
-      rw (plays t) (checked script fs ws (passed-both (formCheck (readOf s .text)) (scriptCheck width script (length fs) (length ws)) e .1) .1)
+      → Stands (script .radius) (script .coords) (script .corners) (heldAfter (script .puts) (λ i. none))
+      (readStep width fs ws s .floats) (readStep width fs ws s .words)
+  leaves t = rw (plays t) (checked script fs ws (has-passed t .1) .1)
 
   -- "refuses the whole where one line would be refused", and nowhere else
   pub refuses-where : formCheck (readOf s .text) ≡ Passed
-      → (Taken (readStep width fs ws s) → EachTaken width (script .puts) (opening script fs ws)) × (EachTaken width (script .puts) (opening script fs ws) → Taken (readStep width fs ws s))
-  unfolding readStep
-  refuses-where f = (
-    (λ t.
-        checked script fs ws (passed-both (formCheck (readOf s .text)) (scriptCheck width script (length fs) (length ws))
-        (passed check fs ws (after said (played width fs ws script .floats) (played width fs ws script .words)) t) .1) .0),
-    (λ t. rw (f, unrefused script fs ws t) refl),
-  )
+      → (Taken (readStep width fs ws s) → EachTaken width (script .puts) (opening script fs ws))
+      × (EachTaken width (script .puts) (opening script fs ws) → Taken (readStep width fs ws s))
+  refuses-where f = ((λ t. checked script fs ws (has-passed t .1) .0), (λ t. passing f (unrefused script fs ws t)))
