@@ -13,7 +13,7 @@ use lib.ListN.{length, getD, drop, length-drop}
 use lib.Seq.{length-take-le}
 use lib.Ieee.{Float, nan}
 use borrow.Author.Tests.{lt-ltb, le-leb, le-ltb, eq-eqb, ne-eqb}
-use Rattle.base.specs.Answers.{counted, andThen}
+use Rattle.base.specs.Answers.{andThen}
 use Rattle.base.specs.declared.refusal.Refusal.{Refusal}
 use Rattle.base.specs.declared.refusal.Refusal.the-variants.{Unsound, ShortStore, NoPlace, NoLayer}
 use Rattle.base.specs.declared.refusal.Checked.{Checked}
@@ -23,74 +23,77 @@ use Rattle.pieces.specs.Pieces.{decomposed}
 use Rattle.layout.specs.Layout.{width, placeLimit, layerLimit, radiusOf, kernelFrom, coordsFrom, stateFrom, cornersFrom, cornersOf, vertsOf, facesOf, statusOf, layerOf}
 use Rattle.layout.specs.Soundness.{every, longEnough, placeSoundAt, sound, storeCheck}
 use Rattle.layout.specs.SoundLaws.{both, Fine, fine}
-use Rattle.layout.specs.After.{After, after, guarded}
+use Rattle.layout.specs.After.{After}
 use Rattle.store.specs.Calls.{openCheck}
 use Rattle.store.specs.OpenLaws.{open-passes}
 use Rattle.text.specs.Text.{Got}
 use Rattle.text.specs.Form.{Form, Vals, print, _&_}
 use Rattle.script.specs.Lines.{vertLine, faceLine, putLine}
 use Rattle.script.specs.Written.{rows, vertAt, faceAt, putAt, vertRows, faceRows, putRow, putRows, linesOf, written, writeStep}
-use Rattle.script.specs.ReadOf.{Script, kernelIn, layerIn, placesIn, layersIn, played, formCheck, scriptCheck, readStep}
-use Rattle.script.specs.RoundTrip.{putsFrom, scriptOf, Floats, read-written}
-use Rattle.script.specs.Leaves.{part, part-at, Held, none, given, sevenOf, stateOf, PlaceHolds, Stands, stands-sound}
-use Rattle.script.specs.LineByLine.{Taken, heldAfter, leaves}
+use Rattle.script.specs.ReadOf.{Script, kernelIn, layerIn, placesIn, layersIn, formCheck, scriptCheck, readStep}
+use Rattle.script.specs.RoundTrip.{putsFrom, scriptOf, kernelOf, put-says, Floats, read-written}
+use Rattle.script.specs.Leaves.{part, part-at, Held, none, given, sevenOf, stateOf, PlaceHolds, Stands, held-as, stands-sound}
+use Rattle.script.specs.LineByLine.{Taken, heldBy, heldAfter, passing, leaves}
 
 -- ---- what a store's script gives each place
 
--- the kernel and layer of a filled place
+-- a filled place's kernel, with its weight as it is kept, and its layer
 abbrev pub heldIn : List Float → List ℕ → ℕ → Held
-heldIn fs ws i =
-    let v = putAt width fs ws i in
-    cond (eqb (statusOf width ws i) 0) none (given (kernelIn v) (layerIn v))
+heldIn fs ws i = cond (eqb (statusOf width ws i) 0) none (given (kernelOf fs i) (layerOf width ws i))
 
 module _ (fs : List Float) (ws : List ℕ) where
-  -- places outside those looked at keep what they held, the others get what the store has
-  held-out : (n i : ℕ) (held : ℕ → Held) (j : ℕ) → j < i → heldAfter (putsFrom width fs ws n i) held j ≡ held j
+  -- the puts of n places from i on; of place i alone, before those after it
+  abbrev puts : ℕ → ℕ → List (Vals putLine)
+  puts n i = putsFrom width fs ws n i
+
+  abbrev first : Bool → ℕ → ℕ → List (Vals putLine)
+  first b n i = cond b (puts n (suc i)) (putAt width fs ws i ∷ puts n (suc i))
+
+  -- places before those looked at keep what they held, the others get what the store has
+  held-out : (n i : ℕ) (held : ℕ → Held) (j : ℕ) → j < i → heldAfter (puts n i) held j ≡ held j
   held-out zero i held j h = refl
   held-out (suc n) i held j h = go (eqb (statusOf width ws i) 0) (λ next. held-out n (suc i) next j (omega arith))
     where
-      go : (b : Bool) → ((next : ℕ → Held) → heldAfter (putsFrom width fs ws n (suc i)) next j ≡ next j)
-          → heldAfter (cond b (putsFrom width fs ws n (suc i)) (putAt width fs ws i ∷ putsFrom width fs ws n (suc i))) held j ≡ held j
+      go : (b : Bool) → ((next : ℕ → Held) → heldAfter (puts n (suc i)) next j ≡ next j) → heldAfter (first b n i) held j ≡ held j
       go true ih = ih held
-      go false ih =
-          ih (λ m. cond (eqb i m) (given (kernelIn (putAt width fs ws i)) (layerIn (putAt width fs ws i))) (held m))
-          ∙ rw (ne-eqb i j (λ z. omega arith)) refl
+      go false ih = ih (heldBy (putAt width fs ws i) held) ∙ rw (ne-eqb i j (λ z. omega arith)) refl
 
-  held-in : (n i : ℕ) (held : ℕ → Held) (j : ℕ) → held j ≡ none → i ≤ j → j < i + n → heldAfter (putsFrom width fs ws n i) held j ≡ heldIn fs ws j
+  put-gives : (i : ℕ) → given (kernelIn (putAt width fs ws i)) (layerIn (putAt width fs ws i)) ≡ given (kernelOf fs i) (layerOf width ws i)
+  put-gives i = (λ j. given (put-says width fs ws i .1 j) (layerOf width ws i))
+
+  held-in : (n i : ℕ) (held : ℕ → Held) (j : ℕ) → held j ≡ none → i ≤ j → j < i + n → heldAfter (puts n i) held j ≡ heldIn fs ws j
   held-in zero i held j e h l = absurd (omega arith)
-  held-in (suc n) i held j e h l = go (eqb (statusOf width ws i) 0) refl (decLt i j) (λ next f o. held-in n (suc i) next j f o (omega arith))
+  held-in (suc n) i held j e h l =
+      go (eqb (statusOf width ws i) 0) refl (decLt i j) (λ next f o. held-in n (suc i) next j f o (omega arith))
     where
-      next : ℕ → Held
-      next m = cond (eqb i m) (given (kernelIn (putAt width fs ws i)) (layerIn (putAt width fs ws i))) (held m)
-
       go : (b : Bool) → eqb (statusOf width ws i) 0 ≡ b → Dec (i < j)
-          → ((held : ℕ → Held) → held j ≡ none → suc i ≤ j → heldAfter (putsFrom width fs ws n (suc i)) held j ≡ heldIn fs ws j)
-          → heldAfter (cond b (putsFrom width fs ws n (suc i)) (putAt width fs ws i ∷ putsFrom width fs ws n (suc i))) held j ≡ heldIn fs ws j
+          → ((next : ℕ → Held) → next j ≡ none → suc i ≤ j → heldAfter (puts n (suc i)) next j ≡ heldIn fs ws j)
+          → heldAfter (first b n i) held j ≡ heldIn fs ws j
       go true s (yes o) ih = ih held e o
-      go false s (yes o) ih = ih next (rw (ne-eqb i j (λ z. omega arith)) e) o
+      go false s (yes o) ih = ih (heldBy (putAt width fs ws i) held) (rw (ne-eqb i j (λ z. omega arith)) e) o
       go true s (no o) ih =
           let z : i ≡ j = omega arith in
           held-out n (suc i) held j (omega arith) ∙ (e ∙ rw (← z, s) refl)
       go false s (no o) ih =
           let z : i ≡ j = omega arith in
-          held-out n (suc i) next j (omega arith) ∙ rw (← z, eq-eqb i i refl, s) refl
+          held-out n (suc i) (heldBy (putAt width fs ws i) held) j (omega arith) ∙ rw (← z, eq-eqb i i refl, s) (put-gives i)
 
   -- each put names a place, and a layer where the store's are
-  named-in : (n i : ℕ) → i + n ≤ 32 → placesIn (putsFrom width fs ws n i) ≡ true
+  named-in : (n i : ℕ) → i + n ≤ 32 → placesIn (puts n i) ≡ true
   unfolding placesIn
   named-in zero i h = refl
   named-in (suc n) i h = go (eqb (statusOf width ws i) 0) (named-in n (suc i) (omega arith))
     where
-      go : (b : Bool) → placesIn (putsFrom width fs ws n (suc i)) ≡ true → placesIn (cond b (putsFrom width fs ws n (suc i)) (putAt width fs ws i ∷ putsFrom width fs ws n (suc i))) ≡ true
+      go : (b : Bool) → placesIn (puts n (suc i)) ≡ true → placesIn (first b n i) ≡ true
       go true ih = ih
       go false ih = rw (lt-ltb i 32 (omega arith), ih) refl
 
-  layered-in : ((i : ℕ) → i < 32 → layerOf width ws i < layerLimit) → (n i : ℕ) → i + n ≤ 32 → layersIn (putsFrom width fs ws n i) ≡ true
+  layered-in : ((i : ℕ) → i < 32 → layerOf width ws i < layerLimit) → (n i : ℕ) → i + n ≤ 32 → layersIn (puts n i) ≡ true
   unfolding layersIn
   layered-in l zero i h = refl
   layered-in l (suc n) i h = go (eqb (statusOf width ws i) 0) (layered-in l n (suc i) (omega arith))
     where
-      go : (b : Bool) → layersIn (putsFrom width fs ws n (suc i)) ≡ true → layersIn (cond b (putsFrom width fs ws n (suc i)) (putAt width fs ws i ∷ putsFrom width fs ws n (suc i))) ≡ true
+      go : (b : Bool) → layersIn (puts n (suc i)) ≡ true → layersIn (first b n i) ≡ true
       go true ih = ih
       go false ih = rw (lt-ltb (layerOf width ws i) layerLimit (l i (omega arith)), ih) refl
 
@@ -98,10 +101,14 @@ module _ (fs : List Float) (ws : List ℕ) where
   unfolding storeCheck sound
   corners-below e = go (longEnough width fs ws) (sound width ws) refl e
     where
-      go : (a b : Bool) → sound width ws ≡ b → cond a (cond b Passed (Failed Unsound)) (Failed ShortStore) ≡ Passed → allBelow (vertsOf ws) (cornersOf width ws) ≡ true
-      go true true s h =
-          both (every (placeSoundAt width ws) placeLimit) (allBelow (vertsOf ws) (cornersOf width ws))
-          (both (leb (vertsOf ws) vertexLimit && leb (facesOf ws) faceLimit) (every (placeSoundAt width ws) placeLimit && allBelow (vertsOf ws) (cornersOf width ws)) s .1) .1
+      below : Bool
+      below = allBelow (vertsOf ws) (cornersOf width ws)
+
+      places : Bool
+      places = every (placeSoundAt width ws) placeLimit
+
+      go : (a b : Bool) → sound width ws ≡ b → cond a (cond b Passed (Failed Unsound)) (Failed ShortStore) ≡ Passed → below ≡ true
+      go true true s h = both places below (both (leb (vertsOf ws) vertexLimit && leb (facesOf ws) faceLimit) (places && below) s .1) .1
       go true false s h = absurd (let z : _≡_ {A = ℕ} 0 1 = cc in omega arith)
       go false b s h = absurd (let z : _≡_ {A = ℕ} 0 1 = cc in omega arith)
 
@@ -166,26 +173,43 @@ module _ (fs : List Float) (ws : List ℕ) (gs : List Float) (vs : List ℕ) (s 
   unfolding putRow
   row-same i h = go (eqb (statusOf width ws i) 0) (t .places i h)
     where
-      v : Vals putLine
-      v = putAt width fs ws i
+      r : Float
+      r = radiusOf fs
 
-      go : (b : Bool) → PlaceHolds (radiusOf fs) (length (cornersOf width ws) / 3) gs vs i (cond b none (given (kernelIn v) (layerIn v)))
-          → cond (eqb (statusOf width vs i) 0) [] (print putLine (putAt width gs vs i)) ≡ cond b [] (print putLine v)
-      go true p = let e = part-at vs (stateFrom width i) 4 0 (2 + 4 * i) 0 (omega arith) (omega arith) ∙ ap (λ (l : List ℕ). getD l 0 0) (p .state) in rw e refl
-      go false p =
-          let n = decomposed (kernelIn v) (radiusOf fs) .count in
-          let word : (j k : ℕ) → k ≡ stateFrom width i + j → j < 4 → getD vs k 0 ≡ getD (stateOf (radiusOf fs) (length (cornersOf width ws) / 3) (given (kernelIn v) (layerIn v))) j 0
-          = λ j k e l. part-at vs (stateFrom width i) 4 j k 0 e l ∙ ap (λ (r : List ℕ). getD r j 0) (p .state) in
-          let float : (j k : ℕ) → k ≡ kernelFrom i + j → j < 7 → getD gs k nan ≡ getD (sevenOf (radiusOf fs) (given (kernelIn v) (layerIn v))) j nan
-          = λ j k e l. part-at gs (kernelFrom i) 7 j k nan e l ∙ ap (λ (r : List Float). getD r j nan) (p .kernel) in
+      m : ℕ
+      m = length (cornersOf width ws) / 3
+
+      full : Held
+      full = given (kernelOf fs i) (layerOf width ws i)
+
+      -- word j and float j of the place
+      word : (v : Held) → PlaceHolds r m gs vs i v → (j k : ℕ) → k ≡ stateFrom width i + j → j < 4 → getD vs k 0 ≡ getD (stateOf r m v) j 0
+      word v p j k e l = part-at vs (stateFrom width i) 4 j k 0 e l ∙ ap (λ (u : List ℕ). getD u j 0) (p .state)
+
+      float : (v : Held) → PlaceHolds r m gs vs i v → (j k n : ℕ) → k ≡ kernelFrom i + j → j < 7 → getD (sevenOf r v) j nan ≡ getD fs n nan
+          → k ≡ n → getD gs k nan ≡ getD fs k nan
+      float v p j k n e l d f = part-at gs (kernelFrom i) 7 j k nan e l ∙ (ap (λ (u : List Float). getD u j nan) (p .kernel) ∙ (d ∙ ap (λ (u : ℕ). getD fs u nan) (sym f)))
+
+      same : PlaceHolds r m gs vs i full → putAt width gs vs i ≡ putAt width fs ws i
+      same p =
           let k = kernelFrom i in
-          let full : eqb (statusOf width vs i) 0 ≡ false = ap (λ (m : ℕ). eqb m 0) (word 0 (2 + 4 * i) (omega arith) (omega arith)) ∙ ne-eqb (1 + n) 0 (λ z. omega arith) in
-          let same : putAt width gs vs i ≡ v
-          = λ j.
-          i & float 0 k (omega arith) (omega arith) j & float 1 (k + 1) refl (omega arith) j & float 2 (k + 2) refl (omega arith) j
-          & float 3 (k + 3) refl (omega arith) j & float 4 (k + 4) refl (omega arith) j & float 5 (k + 5) refl (omega arith) j
-          & inr (word 3 (5 + 4 * i) (omega arith) (omega arith) j & tt) & tt in
-          rw full (ap (print putLine) {x = putAt width gs vs i} {y = v} same)
+          (λ j.
+          i & float full p 0 k (1 + 7 * i) (omega arith) (omega arith) refl (omega arith) j
+          & float full p 1 (k + 1) (2 + 7 * i) refl (omega arith) refl (omega arith) j
+          & float full p 2 (k + 2) (3 + 7 * i) refl (omega arith) refl (omega arith) j
+          & float full p 3 (k + 3) (4 + 7 * i) refl (omega arith) refl (omega arith) j
+          & float full p 4 (k + 4) (5 + 7 * i) refl (omega arith) refl (omega arith) j
+          & float full p 5 (k + 5) (6 + 7 * i) refl (omega arith) refl (omega arith) j
+          & inr (word full p 3 (5 + 4 * i) (omega arith) (omega arith) j & tt) & tt)
+
+      go : (b : Bool) → PlaceHolds r m gs vs i (cond b none full)
+          → cond (eqb (statusOf width vs i) 0) [] (print putLine (putAt width gs vs i)) ≡ cond b [] (print putLine (putAt width fs ws i))
+      go true p = rw (word none p 0 (2 + 4 * i) (omega arith) (omega arith)) refl
+      go false p =
+          let n = decomposed (kernelOf fs i) r .count in
+          let e : eqb (statusOf width vs i) 0 ≡ false
+          = ap (λ (u : ℕ). eqb u 0) (word full p 0 (2 + 4 * i) (omega arith) (omega arith)) ∙ ne-eqb (1 + n) 0 (λ z. omega arith) in
+          rw e (ap (print putLine) {x = putAt width gs vs i} {y = putAt width fs ws i} (same p))
 
   puts-same : (n i : ℕ) → i + n ≤ 32 → putRows width gs vs n i ≡ putRows width fs ws n i
   unfolding putRows
@@ -226,34 +250,22 @@ module _ (fs : List Float) (ws : List ℕ) (e : storeCheck width fs ws ≡ Passe
   abbrev again : After
   again = readStep width gs vs (written width fs ws)
 
-  abbrev reading : Got Script → After
-  reading h =
-      guarded (andThen (formCheck (h .text)) (scriptCheck width (h .val) (length gs) (length vs))) gs vs
-      (after (counted (h .val .verts ∷ h .val .faces ∷ length (h .val .puts) ∷ [])) (played width gs vs (h .val) .floats) (played width gs vs (h .val) .words))
-
   -- the writer's lines are not refused
   pub accepted : Taken again
-  unfolding readStep
   accepted =
-      ap (λ (h : Got Script). reading h .reply .refusal) (read-written width fs ws e g)
-      ∙ (λ i. guarded (passes i) gs vs (after (counted (vertsOf ws ∷ facesOf ws ∷ length (putsFrom width fs ws 32 0) ∷ [])) (played width gs vs (scriptOf width fs ws) .floats) (played width gs vs (scriptOf width fs ws) .words)) .reply .refusal)
+      let d = read-written width fs ws e g in
+      passing gs vs (written width fs ws) (ap (λ (h : Got Script). formCheck (h .text)) d)
+      (ap (λ (h : Got Script). scriptCheck width (h .val) (length gs) (length vs)) d ∙ passes)
 
   -- "the same mesh, radius, kernels and layers, with all steps still to do"
   pub same-store : Stands (radiusOf fs) xs ks (heldIn fs ws) (again .floats) (again .words)
   same-store =
-      let x = subst (λ (h : Got Script). Stands (h .val .radius) (h .val .coords) (h .val .corners) (heldAfter (h .val .puts) (λ i. none)) (again .floats) (again .words))
-      (read-written width fs ws e g) (leaves gs vs (written width fs ws) accepted) in
-      record {
-        floats = x .floats;
-        words = x .words;
-        size = x .size;
-        verts = x .verts;
-        faces = x .faces;
-        coords = x .coords;
-        corners = x .corners;
-        places = λ i h.
-            subst (PlaceHolds (radiusOf fs) (length ks / 3) (again .floats) (again .words) i) (held-in fs ws 32 0 (λ j. none) i refl (omega arith) (omega arith)) (x .places i h);
-      }
+      held-as
+      (subst
+      (λ (h : Got Script).
+      Stands (h .val .radius) (h .val .coords) (h .val .corners) (heldAfter (h .val .puts) (λ i. none)) (again .floats) (again .words))
+      (read-written width fs ws e g) (leaves gs vs (written width fs ws) accepted))
+      (heldIn fs ws) (λ i h. held-in fs ws 32 0 (λ j. none) i refl (omega arith) (omega arith))
 
   -- "Writing a store read from the writer's own lines yields them byte for byte"
   pub written-again : written width (again .floats) (again .words) ≡ written width fs ws

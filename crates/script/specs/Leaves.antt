@@ -22,7 +22,7 @@ use Rattle.pieces.specs.Pieces.{decomposed}
 use Rattle.pieces.specs.PieceLaws.{at-most-16}
 use Rattle.layout.specs.Runs.{write}
 use Rattle.layout.specs.RunLaws.{length-write, write-before, write-rest}
-use Rattle.layout.specs.Layout.{width, pieceLimit, layerLimit, radiusOf, kernelFrom, piecesFrom, coordsFrom, stateFrom, cornersFrom, cornersOf, vertsOf, facesOf, statusOf, finishedOf, doneOf, layerOf}
+use Rattle.layout.specs.Layout.{width, pieceLimit, layerLimit, radiusOf, kernelFrom, piecesFrom, coordsFrom, stateFrom, cornersFrom, cornersOf, vertsOf, facesOf}
 use Rattle.layout.specs.Soundness.{every, longEnough, placeSound, layerSound, placeSoundAt, sound, storeCheck}
 use Rattle.store.specs.Calls.{openFloats, openWords}
 use Rattle.store.specs.OpenLaws.{Meshes}
@@ -313,8 +313,13 @@ module _ {r : Float} {xs : List Float} {ks : List ℕ} {held : ℕ → Held} {fs
   place-sound : (i : ℕ) → i < 32 → placeSoundAt width ws i ≡ true
   unfolding placeSoundAt placeSound layerSound
   place-sound i h =
-      rw (word-is i 0 (2 + 4 * i) h (omega arith) (omega arith), word-is i 1 (3 + 4 * i) h (omega arith) (omega arith),
-      word-is i 2 (4 + 4 * i) h (omega arith) (omega arith), word-is i 3 (5 + 4 * i) h (omega arith) (omega arith), s .faces)
+      rw (
+        word-is i 0 (2 + 4 * i) h (omega arith) (omega arith),
+        word-is i 1 (3 + 4 * i) h (omega arith) (omega arith),
+        word-is i 2 (4 + 4 * i) h (omega arith) (omega arith),
+        word-is i 3 (5 + 4 * i) h (omega arith) (omega arith),
+        s .faces,
+      )
       (go (held i) (s .places i h .layer))
     where
       go : (v : Held) → InLayer v
@@ -331,7 +336,14 @@ module _ {r : Float} {xs : List Float} {ks : List ℕ} {held : ℕ → Held} {fs
       let y = div-add-mod' (length ks) 3 in
       let z : 3 * (length ks / 3) ≡ length ks = omega (arith, m .corners, y) in
       let k : cornersOf width ws ≡ ks = rw (s .faces, z) (s .corners) in
-      rw (k, s .verts, s .faces, le-leb (cornersFrom width + 3 * (length ks / 3)) (length ws) (omega (arith, s .words)),
-      le-leb (coordsFrom + 3 * (length xs / 3)) (length fs) (omega (arith, s .floats, m .coords, x)),
-      le-leb (length xs / 3) vertexLimit (m .verts), le-leb (length ks / 3) faceLimit (m .faces),
-      every-true (placeSoundAt width ws) 32 place-sound, m .below) refl
+      rw (
+        k,
+        s .verts,
+        s .faces,
+        le-leb (cornersFrom width + 3 * (length ks / 3)) (length ws) (omega (arith, s .words)),
+        le-leb (coordsFrom + 3 * (length xs / 3)) (length fs) (omega (arith, s .floats, m .coords, x)),
+        le-leb (length xs / 3) vertexLimit (m .verts),
+        le-leb (length ks / 3) faceLimit (m .faces),
+        every-true (placeSoundAt width ws) 32 place-sound,
+        m .below,
+      ) refl

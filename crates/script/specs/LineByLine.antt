@@ -4,13 +4,13 @@
 use mathlib.Core.Path.{_≡_, refl, sym, ap, _∙_}
 use mathlib.Core.Bool.{Bool, true, false, _&&_, cond}
 use mathlib.Core.List.{List, [], _∷_}
-use Prim.Native.Nat.{ℕ, _*_, _/_}
+use Prim.Native.Nat.{ℕ, _*_}
 use native.Mathlib.Omega.{arith}
 use lib.Dec.{eqb, ltb}
 use lib.ListN.{length}
 use lib.Ieee.{Float}
 use borrow.Author.Tests.{ltb-true, eq-eqb}
-use Rattle.base.specs.Answers.{Answer, counted, andThen}
+use Rattle.base.specs.Answers.{counted, andThen}
 use Rattle.base.specs.Refusals.{number}
 use Rattle.base.specs.RefusalLaws.{never-zero}
 use Rattle.base.specs.declared.refusal.Refusal.{Refusal}
@@ -20,12 +20,11 @@ use Rattle.base.specs.declared.refusal.Checked.the-variants.{Passed, Failed}
 use Rattle.kernel.specs.declared.kernel.Kernel.{Kernel}
 use Rattle.pieces.specs.Pieces.{decomposed}
 use Rattle.pieces.specs.FitEnd.{fitOf}
-use Rattle.layout.specs.Runs.{write}
 use Rattle.layout.specs.Layout.{width, placeLimit, layerLimit, radiusOf, facesOf}
 use Rattle.layout.specs.Soundness.{storeCheck, placeCheck, layerCheck}
 use Rattle.layout.specs.SoundLaws.{both, passed-both}
 use Rattle.layout.specs.After.{After, after, guarded}
-use Rattle.store.specs.Calls.{openCheck, openFloats, openWords, openStep}
+use Rattle.store.specs.Calls.{openCheck, openStep}
 use Rattle.store.specs.OpenLaws.{Meshes, open-passes}
 use Rattle.store.specs.Puts.{placedWith, putFloats, putWords, putStep}
 use Rattle.text.specs.Form.{Vals}

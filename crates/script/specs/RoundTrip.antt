@@ -12,7 +12,8 @@ use lib.ListN.{length, getD, take, drop}
 use lib.Seq.{drop-cons}
 use lib.Ieee.{Float, nan, binary64, fits}
 use Rattle.base.specs.declared.refusal.Checked.the-variants.{Passed}
-use Rattle.layout.specs.Layout.{placeLimit, radiusOf, kernelFrom, coordsFrom, cornersFrom, cornersOf, vertsOf, facesOf, statusOf, layerOf}
+use Rattle.kernel.specs.declared.kernel.Kernel.{Kernel}
+use Rattle.layout.specs.Layout.{placeLimit, radiusOf, kernelFrom, centreOf, weightOf, alphaOf, coordsFrom, cornersFrom, cornersOf, vertsOf, facesOf, statusOf, layerOf}
 use Rattle.layout.specs.Soundness.{storeCheck}
 use Rattle.layout.specs.SoundLaws.{Fine, fine}
 use Rattle.text.specs.Text.{left}
@@ -20,7 +21,7 @@ use Rattle.text.specs.Form.{Form, Vals, print, Spells, Fit, _&_}
 use Rattle.text.specs.FormLaws.{printed}
 use Rattle.script.specs.Lines.{openLine, vertLine, faceLine, putLine}
 use Rattle.script.specs.Written.{rows, vertAt, faceAt, putAt, vertRows, faceRows, putRow, putRows, linesOf, written}
-use Rattle.script.specs.ReadOf.{coordsIn, cornersIn, Script, readOf}
+use Rattle.script.specs.ReadOf.{coordsIn, cornersIn, placeIn, kernelIn, layerIn, Script, readOf}
 use Rattle.script.specs.Spelling.{SpellsAll, SpellsScript, taken}
 
 -- ---- what a store says
@@ -42,6 +43,26 @@ scriptOf q fs ws =
       corners = cornersOf q ws;
       puts = putsFrom q fs ws placeLimit 0;
     }
+
+-- what such a put says: "place, kernel and layer" as the store keeps them
+abbrev pub kernelOf : List Float → ℕ → Kernel
+kernelOf fs i = record { c = centreOf fs i; sigma = getD fs (4 + 7 * i) nan; w = weightOf fs i; alpha = alphaOf fs i }
+
+pub put-says : (q : ℕ) (fs : List Float) (ws : List ℕ) (i : ℕ)
+    → (placeIn (putAt q fs ws i) ≡ i) × (kernelIn (putAt q fs ws i) ≡ kernelOf fs i) × (layerIn (putAt q fs ws i) ≡ layerOf q ws i)
+put-says q fs ws i =
+    let at : (j k : ℕ) → kernelFrom i + j ≡ k → getD fs (kernelFrom i + j) nan ≡ getD fs k nan
+    = λ j k e. ap (λ (n : ℕ). getD fs n nan) e in (
+      refl,
+      (λ j.
+          record {
+            c = getD fs (1 + 7 * i) nan ∷ at 1 (2 + 7 * i) (omega arith) j ∷ at 2 (3 + 7 * i) (omega arith) j ∷ [];
+            sigma = at 3 (4 + 7 * i) (omega arith) j;
+            w = at 4 (5 + 7 * i) (omega arith) j;
+            alpha = at 5 (6 + 7 * i) (omega arith) j;
+          }),
+      refl,
+    )
 
 -- the floats of a run are of the format, as those of a lent run are
 pub record Floats (fs : List Float) : Type 0 where
