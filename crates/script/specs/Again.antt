@@ -54,14 +54,16 @@ module _ (fs : List Float) (ws : List ℕ) where
   held-out zero i held j h = refl
   held-out (suc n) i held j h = go (eqb (statusOf width ws i) 0) (λ next. held-out n (suc i) next j (omega arith))
     where
-      go : (b : Bool) → ((next : ℕ → Held) → heldAfter (puts n (suc i)) next j ≡ next j) → heldAfter (first b n i) held j ≡ held j
+      go : (b : Bool) → ((next : ℕ → Held) → heldAfter (puts n (suc i)) next j ≡ next j)
+          → heldAfter (first b n i) held j ≡ held j
       go true ih = ih held
       go false ih = ih (heldBy (putAt width fs ws i) held) ∙ rw (ne-eqb i j (λ z. omega arith)) refl
 
   put-gives : (i : ℕ) → given (kernelIn (putAt width fs ws i)) (layerIn (putAt width fs ws i)) ≡ given (kernelOf fs i) (layerOf width ws i)
   put-gives i = (λ j. given (put-says width fs ws i .1 j) (layerOf width ws i))
 
-  held-in : (n i : ℕ) (held : ℕ → Held) (j : ℕ) → held j ≡ none → i ≤ j → j < i + n → heldAfter (puts n i) held j ≡ heldIn fs ws j
+  held-in : (n i : ℕ) (held : ℕ → Held) (j : ℕ) → held j ≡ none → i ≤ j → j < i + n
+      → heldAfter (puts n i) held j ≡ heldIn fs ws j
   held-in zero i held j e h l = absurd (omega arith)
   held-in (suc n) i held j e h l =
       go (eqb (statusOf width ws i) 0) refl (decLt i j) (λ next f o. held-in n (suc i) next j f o (omega arith))
@@ -76,7 +78,8 @@ module _ (fs : List Float) (ws : List ℕ) where
           held-out n (suc i) held j (omega arith) ∙ (e ∙ rw (← z, s) refl)
       go false s (no o) ih =
           let z : i ≡ j = omega arith in
-          held-out n (suc i) (heldBy (putAt width fs ws i) held) j (omega arith) ∙ rw (← z, eq-eqb i i refl, s) (put-gives i)
+          held-out n (suc i) (heldBy (putAt width fs ws i) held) j (omega arith)
+          ∙ rw (← z, eq-eqb i i refl, s) (put-gives i)
 
   -- each put names a place, and a layer where the store's are
   named-in : (n i : ℕ) → i + n ≤ 32 → placesIn (puts n i) ≡ true
@@ -88,7 +91,8 @@ module _ (fs : List Float) (ws : List ℕ) where
       go true ih = ih
       go false ih = rw (lt-ltb i 32 (omega arith), ih) refl
 
-  layered-in : ((i : ℕ) → i < 32 → layerOf width ws i < layerLimit) → (n i : ℕ) → i + n ≤ 32 → layersIn (puts n i) ≡ true
+  layered-in : ((i : ℕ) → i < 32 → layerOf width ws i < layerLimit) → (n i : ℕ) → i + n ≤ 32
+      → layersIn (puts n i) ≡ true
   unfolding layersIn
   layered-in l zero i h = refl
   layered-in l (suc n) i h = go (eqb (statusOf width ws i) 0) (layered-in l n (suc i) (omega arith))
@@ -107,8 +111,11 @@ module _ (fs : List Float) (ws : List ℕ) where
       places : Bool
       places = every (placeSoundAt width ws) placeLimit
 
-      go : (a b : Bool) → sound width ws ≡ b → cond a (cond b Passed (Failed Unsound)) (Failed ShortStore) ≡ Passed → below ≡ true
-      go true true s h = both places below (both (leb (vertsOf ws) vertexLimit && leb (facesOf ws) faceLimit) (places && below) s .1) .1
+      go : (a b : Bool) → sound width ws ≡ b → cond a (cond b Passed (Failed Unsound)) (Failed ShortStore) ≡ Passed
+          → below ≡ true
+      go true true s h =
+          both places below
+          (both (leb (vertsOf ws) vertexLimit && leb (facesOf ws) faceLimit) (places && below) s .1) .1
       go true false s h = absurd (let z : _≡_ {A = ℕ} 0 1 = cc in omega arith)
       go false b s h = absurd (let z : _≡_ {A = ℕ} 0 1 = cc in omega arith)
 
@@ -121,7 +128,8 @@ test-is : (b : Bool) (r : Refusal) → b ≡ true → cond b Passed (Failed r) �
 test-is b r e = rw e refl
 
 -- a mesh of v vertices and f faces
-opens : (n : ℕ) (ks : List ℕ) (v f a b : ℕ) → n ≡ 3 * v → length ks ≡ 3 * f → v ≤ vertexLimit → f ≤ faceLimit → allBelow v ks ≡ true → coordsFrom + 3 * v ≤ a → cornersFrom width + 3 * f ≤ b
+opens : (n : ℕ) (ks : List ℕ) (v f a b : ℕ) → n ≡ 3 * v → length ks ≡ 3 * f → v ≤ vertexLimit → f ≤ faceLimit
+    → allBelow v ks ≡ true → coordsFrom + 3 * v ≤ a → cornersFrom width + 3 * f ≤ b
     → openCheck width n ks a b ≡ Passed
 unfolding openCheck meshCheck
 opens n ks v f a b en ek hv hf below room space =
@@ -129,17 +137,32 @@ opens n ks v f a b en ek hv hf below room space =
     let f0 : 3 * f % 3 ≡ 0 = omega arith in
     let v1 : 3 * v / 3 ≡ v = omega arith in
     let f1 : 3 * f / 3 ≡ f = omega arith in
-    rw (en, ek, v0, f0, v1, f1, le-ltb vertexLimit v hv, le-ltb faceLimit f hf, below, le-leb (coordsFrom + 3 * v) a room, le-leb (cornersFrom width + 3 * f) b space) refl
+    rw (
+      en,
+      ek,
+      v0,
+      f0,
+      v1,
+      f1,
+      le-ltb vertexLimit v hv,
+      le-ltb faceLimit f hf,
+      below,
+      le-leb (coordsFrom + 3 * v) a room,
+      le-leb (cornersFrom width + 3 * f) b space,
+    ) refl
 
 -- ---- two runs with the same words say the same lines
 
-same-at : {A : Type 0} (f g : List A) (at n k : ℕ) (d : A) → part f at n ≡ part g at n → at ≤ k → k < at + n → getD f k d ≡ getD g k d
+same-at : {A : Type 0} (f g : List A) (at n k : ℕ) (d : A) → part f at n ≡ part g at n → at ≤ k → k < at + n
+    → getD f k d ≡ getD g k d
 same-at f g at n k d e l h =
-    part-at f at n (k - at) k d (omega arith) (omega arith) ∙ (ap (λ t. getD t (k - at) d) e ∙ sym (part-at g at n (k - at) k d (omega arith) (omega arith)))
+    part-at f at n (k - at) k d (omega arith) (omega arith)
+    ∙ (ap (λ t. getD t (k - at) d) e ∙ sym (part-at g at n (k - at) k d (omega arith) (omega arith)))
 
 rows-same : (f : Form) (v w : ℕ → Vals f) (n i : ℕ) → ((j : ℕ) → j < i + n → v j ≡ w j) → rows f v n i ≡ rows f w n i
 rows-same f v w zero i h = refl
-rows-same f v w (suc n) i h = (λ j. print f (h i (omega arith) j) ++ rows-same f v w n (suc i) (λ k l. h k (omega arith)) j)
+rows-same f v w (suc n) i h =
+    (λ j. print f (h i (omega arith) j) ++ rows-same f v w n (suc i) (λ k l. h k (omega arith)) j)
 
 -- coordinates and corners of a sound store
 module _ (fs : List Float) (ws : List ℕ) (s : Fine width fs ws) where
@@ -147,26 +170,32 @@ module _ (fs : List Float) (ws : List ℕ) (s : Fine width fs ws) where
   coords-long = length-take-le (3 * vertsOf ws) (drop coordsFrom fs) (rw length-drop (omega (arith, s .mesh .floats)))
 
   corners-long : length (cornersOf width ws) ≡ 3 * facesOf ws
-  corners-long = length-take-le (3 * facesOf ws) (drop (cornersFrom width) ws) (rw length-drop (omega (arith, s .mesh .words)))
+  corners-long =
+      length-take-le (3 * facesOf ws) (drop (cornersFrom width) ws) (rw length-drop (omega (arith, s .mesh .words)))
 
 -- the runs gs and vs hold the mesh, the radius and the places of a store
 module _ (fs : List Float) (ws : List ℕ) (gs : List Float) (vs : List ℕ) (s : Fine width fs ws)
     (t : Stands (radiusOf fs) (part fs coordsFrom (3 * vertsOf ws)) (cornersOf width ws) (heldIn fs ws) gs vs) where
   coord-same : (k : ℕ) → coordsFrom ≤ k → k < coordsFrom + 3 * vertsOf ws → getD gs k nan ≡ getD fs k nan
-  coord-same k = same-at gs fs coordsFrom (3 * vertsOf ws) k nan (ap (part gs coordsFrom) (sym (coords-long fs ws s)) ∙ t .coords)
+  coord-same k =
+      same-at gs fs coordsFrom (3 * vertsOf ws) k nan (ap (part gs coordsFrom) (sym (coords-long fs ws s)) ∙ t .coords)
 
   corner-same : (k : ℕ) → cornersFrom width ≤ k → k < cornersFrom width + 3 * facesOf ws → getD vs k 0 ≡ getD ws k 0
-  corner-same k = same-at vs ws (cornersFrom width) (3 * facesOf ws) k 0 (ap (part vs (cornersFrom width)) (sym (corners-long fs ws s)) ∙ t .corners)
+  corner-same k =
+      same-at vs ws (cornersFrom width) (3 * facesOf ws) k 0
+      (ap (part vs (cornersFrom width)) (sym (corners-long fs ws s)) ∙ t .corners)
 
   vert-same : (i : ℕ) → i < 0 + vertsOf ws → vertAt gs i ≡ vertAt fs i
   vert-same i h =
       let k = coordsFrom + 3 * i in
-      (λ j. coord-same k (omega arith) (omega arith) j & coord-same (k + 1) (omega arith) (omega arith) j & coord-same (k + 2) (omega arith) (omega arith) j & tt)
+      (λ j. coord-same k (omega arith) (omega arith) j & coord-same (k + 1) (omega arith) (omega arith) j
+      & coord-same (k + 2) (omega arith) (omega arith) j & tt)
 
   face-same : (i : ℕ) → i < 0 + facesOf ws → faceAt width vs i ≡ faceAt width ws i
   face-same i h =
       let k = cornersFrom width + 3 * i in
-      (λ j. corner-same k (omega arith) (omega arith) j & corner-same (k + 1) (omega arith) (omega arith) j & corner-same (k + 2) (omega arith) (omega arith) j & tt)
+      (λ j. corner-same k (omega arith) (omega arith) j & corner-same (k + 1) (omega arith) (omega arith) j
+      & corner-same (k + 2) (omega arith) (omega arith) j & tt)
 
   -- the line of a place
   row-same : (i : ℕ) → i < 32 → putRow width gs vs i ≡ putRow width fs ws i
@@ -183,12 +212,16 @@ module _ (fs : List Float) (ws : List ℕ) (gs : List Float) (vs : List ℕ) (s 
       full = given (kernelOf fs i) (layerOf width ws i)
 
       -- word j and float j of the place
-      word : (v : Held) → PlaceHolds r m gs vs i v → (j k : ℕ) → k ≡ stateFrom width i + j → j < 4 → getD vs k 0 ≡ getD (stateOf r m v) j 0
+      word : (v : Held) → PlaceHolds r m gs vs i v → (j k : ℕ) → k ≡ stateFrom width i + j → j < 4
+          → getD vs k 0 ≡ getD (stateOf r m v) j 0
       word v p j k e l = part-at vs (stateFrom width i) 4 j k 0 e l ∙ ap (λ (u : List ℕ). getD u j 0) (p .state)
 
-      float : (v : Held) → PlaceHolds r m gs vs i v → (j k n : ℕ) → k ≡ kernelFrom i + j → j < 7 → getD (sevenOf r v) j nan ≡ getD fs n nan
+      float : (v : Held) → PlaceHolds r m gs vs i v → (j k n : ℕ) → k ≡ kernelFrom i + j → j < 7
+          → getD (sevenOf r v) j nan ≡ getD fs n nan
           → k ≡ n → getD gs k nan ≡ getD fs k nan
-      float v p j k n e l d f = part-at gs (kernelFrom i) 7 j k nan e l ∙ (ap (λ (u : List Float). getD u j nan) (p .kernel) ∙ (d ∙ ap (λ (u : ℕ). getD fs u nan) (sym f)))
+      float v p j k n e l d f =
+          part-at gs (kernelFrom i) 7 j k nan e l
+          ∙ (ap (λ (u : List Float). getD u j nan) (p .kernel) ∙ (d ∙ ap (λ (u : ℕ). getD fs u nan) (sym f)))
 
       same : PlaceHolds r m gs vs i full → putAt width gs vs i ≡ putAt width fs ws i
       same p =
@@ -208,7 +241,8 @@ module _ (fs : List Float) (ws : List ℕ) (gs : List Float) (vs : List ℕ) (s 
       go false p =
           let n = decomposed (kernelOf fs i) r .count in
           let e : eqb (statusOf width vs i) 0 ≡ false
-          = ap (λ (u : ℕ). eqb u 0) (word full p 0 (2 + 4 * i) (omega arith) (omega arith)) ∙ ne-eqb (1 + n) 0 (λ z. omega arith) in
+          = ap (λ (u : ℕ). eqb u 0) (word full p 0 (2 + 4 * i) (omega arith) (omega arith))
+          ∙ ne-eqb (1 + n) 0 (λ z. omega arith) in
           rw e (ap (print putLine) {x = putAt width gs vs i} {y = putAt width fs ws i} (same p))
 
   puts-same : (n i : ℕ) → i + n ≤ 32 → putRows width gs vs n i ≡ putRows width fs ws n i
@@ -221,11 +255,19 @@ module _ (fs : List Float) (ws : List ℕ) (gs : List Float) (vs : List ℕ) (s 
   same-lines =
       let x : vertsOf vs ≡ vertsOf ws = t .verts ∙ (let l = coords-long fs ws s in omega arith) in
       let y : facesOf vs ≡ facesOf ws = t .faces ∙ (let l = corners-long fs ws s in omega arith) in
-      rw (x, y, t .size, rows-same vertLine (vertAt gs) (vertAt fs) (vertsOf ws) 0 vert-same, rows-same faceLine (faceAt width vs) (faceAt width ws) (facesOf ws) 0 face-same, puts-same 32 0 (omega arith)) refl
+      rw (
+        x,
+        y,
+        t .size,
+        rows-same vertLine (vertAt gs) (vertAt fs) (vertsOf ws) 0 vert-same,
+        rows-same faceLine (faceAt width vs) (faceAt width ws) (facesOf ws) 0 face-same,
+        puts-same 32 0 (omega arith),
+      ) refl
 
 -- ---- a sound store, written and read into any runs that are long enough
 module _ (fs : List Float) (ws : List ℕ) (e : storeCheck width fs ws ≡ Passed) (g : Floats fs)
-    (gs : List Float) (vs : List ℕ) (room : coordsFrom + 3 * vertsOf ws ≤ length gs) (space : cornersFrom width + 3 * facesOf ws ≤ length vs) where
+    (gs : List Float) (vs : List ℕ) (room : coordsFrom + 3 * vertsOf ws ≤ length gs)
+    (space : cornersFrom width + 3 * facesOf ws ≤ length vs) where
   abbrev s : Fine width fs ws
   s = fine width fs ws e
 
@@ -237,7 +279,8 @@ module _ (fs : List Float) (ws : List ℕ) (e : storeCheck width fs ws ≡ Passe
 
   opening-passes : openCheck width (length xs) ks (length gs) (length vs) ≡ Passed
   opening-passes =
-      opens (length xs) ks (vertsOf ws) (facesOf ws) (length gs) (length vs) (coords-long fs ws s) (corners-long fs ws s) (s .mesh .verts) (s .mesh .faces)
+      opens (length xs) ks (vertsOf ws) (facesOf ws) (length gs) (length vs) (coords-long fs ws s)
+      (corners-long fs ws s) (s .mesh .verts) (s .mesh .faces)
       (corners-below fs ws e) room space
 
   passes : scriptCheck width (scriptOf width fs ws) (length gs) (length vs) ≡ Passed
@@ -263,7 +306,8 @@ module _ (fs : List Float) (ws : List ℕ) (e : storeCheck width fs ws ≡ Passe
       held-as
       (subst
       (λ (h : Got Script).
-      Stands (h .val .radius) (h .val .coords) (h .val .corners) (heldAfter (h .val .puts) (λ i. none)) (again .floats) (again .words))
+      Stands (h .val .radius) (h .val .coords) (h .val .corners) (heldAfter (h .val .puts) (λ i. none)) (again .floats)
+      (again .words))
       (read-written width fs ws e g) (leaves gs vs (written width fs ws) accepted))
       (heldIn fs ws) (λ i h. held-in fs ws 32 0 (λ j. none) i refl (omega arith) (omega arith))
 

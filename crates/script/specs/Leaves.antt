@@ -49,7 +49,8 @@ module _ {A : Type 0} where
       let r = drop (length vs) (drop at l) in
       ap (take n) (drop-at (take at l) (vs ++ r) at (length-take-le at l h)) ∙ take-at vs r n e
 
-  part-other : (l : List A) (at n b : ℕ) (vs : List A) → (at < b → at + n ≤ b) → (b ≤ at → b + length vs ≤ at) → b ≤ length l → part (write l b vs) at n ≡ part l at n
+  part-other : (l : List A) (at n b : ℕ) (vs : List A) → (at < b → at + n ≤ b) → (b ≤ at → b + length vs ≤ at)
+      → b ≤ length l → part (write l b vs) at n ≡ part l at n
   unfolding write
   part-other l at n b vs x y h = go (decLt at b)
     where
@@ -58,7 +59,8 @@ module _ {A : Type 0} where
           let k = length-take-le b l h in
           let z = x o in
           part-front (take b l) (vs ++ drop (length vs) (drop b l)) at n (omega arith)
-          ∙ (sym (part-front (take b l) (drop b l) at n (omega arith)) ∙ ap (λ (t : List A). part t at n) (take-append-drop b l))
+          ∙ (sym (part-front (take b l) (drop b l) at n (omega arith))
+          ∙ ap (λ (t : List A). part t at n) (take-append-drop b l))
       go (no o) = ap (take n) (write-rest l b vs at h (y (omega arith)))
 
   -- from the run's beginning
@@ -71,11 +73,15 @@ module _ {A : Type 0} where
       let r = m - (at + n) in
       let e : at + (n + r) ≡ m = omega arith in
       let s : replicate m z ≡ replicate at z ++ (replicate n z ++ replicate r z)
-      = ap (λ (k : ℕ). replicate k z) (sym e) ∙ (sym (replicate-append-replicate at (n + r) z) ∙ ap (λ (l : List A). replicate at z ++ l) (sym (replicate-append-replicate n r z))) in
-      rw s (ap (take n) (drop-at (replicate at z) (replicate n z ++ replicate r z) at (length-replicate at z)) ∙ take-at (replicate n z) (replicate r z) n (length-replicate n z))
+      = ap (λ (k : ℕ). replicate k z) (sym e)
+      ∙ (sym (replicate-append-replicate at (n + r) z)
+      ∙ ap (λ (l : List A). replicate at z ++ l) (sym (replicate-append-replicate n r z))) in
+      rw s (ap (take n) (drop-at (replicate at z) (replicate n z ++ replicate r z) at (length-replicate at z))
+      ∙ take-at (replicate n z) (replicate r z) n (length-replicate n z))
 
   -- of a head, zeros and a copy: among the zeros, and the copy
-  laid-zeros : (h : List A) (m at n k : ℕ) (z : A) (xs : List A) → k ≡ length h + at → at + n ≤ m → part (h ++ (replicate m z ++ xs)) k n ≡ replicate n z
+  laid-zeros : (h : List A) (m at n k : ℕ) (z : A) (xs : List A) → k ≡ length h + at → at + n ≤ m
+      → part (h ++ (replicate m z ++ xs)) k n ≡ replicate n z
   laid-zeros h m at n k z xs e b =
       let l = length-replicate m z in
       rw e (skip h) ∙ (part-front (replicate m z) xs at n (omega arith) ∙ part-zeros m at n z b)
@@ -83,9 +89,11 @@ module _ {A : Type 0} where
       skip : (h : List A) → part (h ++ (replicate m z ++ xs)) (length h + at) n ≡ part (replicate m z ++ xs) at n
       skip h = ap (take n) (drop-append-add h (replicate m z ++ xs) at)
 
-  laid-copy : (h : List A) (m k : ℕ) (z : A) (xs : List A) → k ≡ length h + m → part (h ++ (replicate m z ++ xs)) k (length xs) ≡ xs
+  laid-copy : (h : List A) (m k : ℕ) (z : A) (xs : List A) → k ≡ length h + m
+      → part (h ++ (replicate m z ++ xs)) k (length xs) ≡ xs
   laid-copy h m k z xs e =
-      rw e (ap (take (length xs)) (drop-append-add h (replicate m z ++ xs) m ∙ drop-at (replicate m z) xs m (length-replicate m z)) ∙ take-length xs)
+      rw e (ap (take (length xs)) (drop-append-add h (replicate m z ++ xs) m
+      ∙ drop-at (replicate m z) xs m (length-replicate m z)) ∙ take-length xs)
 
 -- ---- what a place holds: nothing, or what a put gave it
 
@@ -119,7 +127,8 @@ pub record PlaceHolds (radius : Float) (faces : ℕ) (fs : List Float) (ws : Lis
   pub layer : InLayer h
 
 -- the runs hold a mesh of these coordinates and corners, the radius, and at each place what is held there
-pub record Stands (radius : Float) (xs : List Float) (ks : List ℕ) (held : ℕ → Held) (fs : List Float) (ws : List ℕ) : Type 0 where
+pub record Stands (radius : Float) (xs : List Float) (ks : List ℕ) (held : ℕ → Held)
+    (fs : List Float) (ws : List ℕ) : Type 0 where
   pub floats : coordsFrom + length xs ≤ length fs
   pub words : cornersFrom width + length ks ≤ length ws
   pub size : radiusOf fs ≡ radius
@@ -166,7 +175,8 @@ module _ (r : Float) (xs : List Float) (ks : List ℕ) (fs : List Float) (ws : L
           pieces = part-first fs (piecesFrom i) 48 fresh-floats (omega arith)
               ∙ laid-zeros (r ∷ []) 1760 (224 + 48 * i) 48 (piecesFrom i) +0 xs (omega arith) (omega arith);
           state = part-first ws (stateFrom width i) 4 fresh-words (omega arith)
-              ∙ laid-zeros (length xs / 3 ∷ length ks / 3 ∷ []) 128 (4 * i) 4 (stateFrom width i) 0 ks refl (omega arith);
+              ∙ laid-zeros (length xs / 3 ∷ length ks / 3 ∷ []) 128 (4 * i) 4 (stateFrom width i) 0 ks refl
+              (omega arith);
           layer = tt;
         };
       }
@@ -208,11 +218,13 @@ module _ {r : Float} {xs : List Float} {ks : List ℕ} {held : ℕ → Held} {fs
 
   -- floats that lie in neither of the two rows, and words that do not lie in the one
   other-floats : (at n : ℕ) → (at < kernelFrom p → at + n ≤ kernelFrom p) → (kernelFrom p ≤ at → kernelFrom p + 7 ≤ at)
-      → (at < piecesFrom p → at + n ≤ piecesFrom p) → (piecesFrom p ≤ at → piecesFrom p + 48 ≤ at) → part floats′ at n ≡ part fs at n
+      → (at < piecesFrom p → at + n ≤ piecesFrom p) → (piecesFrom p ≤ at → piecesFrom p + 48 ≤ at)
+      → part floats′ at n ≡ part fs at n
   other-floats at n a b c d =
       let x = s .floats in
       let y = half-long in
-      part-other half at n (piecesFrom p) row48 c d (omega arith) ∙ part-other fs at n (kernelFrom p) row7 a b (omega arith)
+      part-other half at n (piecesFrom p) row48 c d (omega arith)
+      ∙ part-other fs at n (kernelFrom p) row7 a b (omega arith)
 
   other-words : (at n : ℕ) → (at < stateFrom width p → at + n ≤ stateFrom width p)
       → (stateFrom width p ≤ at → stateFrom width p + 4 ≤ at) → part words′ at n ≡ part ws at n
@@ -227,8 +239,10 @@ module _ {r : Float} {xs : List Float} {ks : List ℕ} {held : ℕ → Held} {fs
       let z = half-long in
       rw (← o)
       (record {
-        kernel = part-other half (kernelFrom p) 7 (piecesFrom p) row48 (λ u. omega arith) (λ u. omega arith) (omega arith)
-            ∙ (part-same fs (kernelFrom p) 7 row7 refl (omega arith) ∙ ap (λ (q : Float). sevenOf q (given k layer)) (s .size));
+        kernel =
+            part-other half (kernelFrom p) 7 (piecesFrom p) row48 (λ u. omega arith) (λ u. omega arith) (omega arith)
+            ∙ (part-same fs (kernelFrom p) 7 row7 refl (omega arith)
+            ∙ ap (λ (q : Float). sevenOf q (given k layer)) (s .size));
         pieces = part-same half (piecesFrom p) 48 row48 refl (omega arith)
             ∙ ap (λ (q : Float). piecesOf q (given k layer)) (s .size);
         state = part-same ws (stateFrom width p) 4 row4 refl (omega arith)
@@ -238,8 +252,12 @@ module _ {r : Float} {xs : List Float} {ks : List ℕ} {held : ℕ → Held} {fs
   place-after i l false e h =
       let o : p ≡ i → ⊥ = eqb-false p i e in
       record {
-        kernel = other-floats (kernelFrom i) 7 (λ u. omega arith) (λ u. omega arith) (λ u. omega arith) (λ u. omega arith) ∙ h .kernel;
-        pieces = other-floats (piecesFrom i) 48 (λ u. omega arith) (λ u. omega arith) (λ u. omega arith) (λ u. omega arith) ∙ h .pieces;
+        kernel =
+            other-floats (kernelFrom i) 7 (λ u. omega arith) (λ u. omega arith) (λ u. omega arith) (λ u. omega arith)
+            ∙ h .kernel;
+        pieces =
+            other-floats (piecesFrom i) 48 (λ u. omega arith) (λ u. omega arith) (λ u. omega arith) (λ u. omega arith)
+            ∙ h .pieces;
         state = other-words (stateFrom width i) 4 (λ u. omega arith) (λ u. omega arith) ∙ h .state;
         layer = h .layer;
       }
@@ -257,7 +275,9 @@ module _ {r : Float} {xs : List Float} {ks : List ℕ} {held : ℕ → Held} {fs
             ∙ (write-before fs (kernelFrom p) row7 0 nan (omega arith) (omega arith) ∙ s .size);
         verts = write-before ws (stateFrom width p) row4 0 0 (omega arith) (omega arith) ∙ s .verts;
         faces = write-before ws (stateFrom width p) row4 1 0 (omega arith) (omega arith) ∙ s .faces;
-        coords = other-floats coordsFrom (length xs) (λ u. omega arith) (λ u. omega arith) (λ u. omega arith) (λ u. omega arith)
+        coords =
+            other-floats coordsFrom (length xs) (λ u. omega arith) (λ u. omega arith) (λ u. omega arith)
+            (λ u. omega arith)
             ∙ s .coords;
         corners = other-words (cornersFrom width) (length ks) (λ u. omega arith) (λ u. omega arith) ∙ s .corners;
         places = λ i h. place-after i h (eqb p i) refl (s .places i h);
@@ -308,7 +328,8 @@ module _ {r : Float} {xs : List Float} {ks : List ℕ} {held : ℕ → Held} {fs
   wordOf h j = getD (stateOf r (length ks / 3) h) j 0
 
   word-is : (i j k : ℕ) → i < 32 → j < 4 → k ≡ stateFrom width i + j → getD ws k 0 ≡ wordOf (held i) j
-  word-is i j k h l e = part-at ws (stateFrom width i) 4 j k 0 e l ∙ ap (λ (t : List ℕ). getD t j 0) (s .places i h .state)
+  word-is i j k h l e =
+      part-at ws (stateFrom width i) 4 j k 0 e l ∙ ap (λ (t : List ℕ). getD t j 0) (s .places i h .state)
 
   place-sound : (i : ℕ) → i < 32 → placeSoundAt width ws i ≡ true
   unfolding placeSoundAt placeSound layerSound
@@ -327,7 +348,11 @@ module _ {r : Float} {xs : List Float} {ks : List ℕ} {held : ℕ → Held} {fs
       go none l = refl
       go (given k layer) l =
           let n = decomposed k r .count in
-          rw (first-sound n (length ks / 3) (at-most-16 k r), ne-eqb (1 + n) 0 (λ z. omega arith), lt-ltb layer layerLimit l) refl
+          rw (
+            first-sound n (length ks / 3) (at-most-16 k r),
+            ne-eqb (1 + n) 0 (λ z. omega arith),
+            lt-ltb layer layerLimit l,
+          ) refl
 
   pub stands-sound : Meshes (length xs) ks → storeCheck width fs ws ≡ Passed
   unfolding storeCheck longEnough sound

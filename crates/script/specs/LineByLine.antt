@@ -54,7 +54,9 @@ heldAfter (v ∷ vs) held = heldAfter vs (heldBy v held)
 -- ---- one call
 
 not-zero : {A : Type 0} (r : Refusal) → number r ≡ 0 → A
-not-zero r e = absurd (let z : false ≡ true = sym (never-zero r) ∙ eq-eqb (number r) 0 e in let y : _≡_ {A = ℕ} 0 1 = cc in omega arith)
+not-zero r e =
+    let z : false ≡ true = sym (never-zero r) ∙ eq-eqb (number r) 0 e in
+    absurd (let y : _≡_ {A = ℕ} 0 1 = cc in omega arith)
 
 -- a call that is not refused has passed its checks
 passed : (c : Checked) (fs : List Float) (ws : List ℕ) (good : After) → Taken (guarded c fs ws good) → c ≡ Passed
@@ -68,7 +70,8 @@ test-passed false r e = absurd (let z : _≡_ {A = ℕ} 0 1 = cc in omega arith)
 put-taken : (fs : List Float) (ws : List ℕ) (p : ℕ) (k : Kernel) (layer : ℕ)
     → storeCheck width fs ws ≡ Passed → ltb p placeLimit ≡ true → ltb layer layerLimit ≡ true
     → putStep width fs ws p k layer
-    ≡ after (placedWith (decomposed k (radiusOf fs) .count) (decomposed k (radiusOf fs) .count * facesOf ws) (fitOf k (radiusOf fs)))
+    ≡ after (placedWith (decomposed k (radiusOf fs) .count) (decomposed k (radiusOf fs) .count * facesOf ws)
+    (fitOf k (radiusOf fs)))
     (putFloats fs p k (decomposed k (radiusOf fs))) (putWords width ws p (decomposed k (radiusOf fs)) layer)
 unfolding putStep placeCheck layerCheck
 put-taken fs ws p k layer e hp hl = rw (e, hp, hl) refl
@@ -93,7 +96,8 @@ all-named : (vs : List (Vals putLine)) (a : After) → EachTaken width vs a → 
 unfolding placesIn layersIn
 all-named [] a t = (refl, refl)
 all-named (v ∷ vs) a t =
-    let x = put-named (a .floats) (a .words) (placeIn v) (kernelIn v) (layerIn v) (first-taken width vs (putOn width v a) (t .1)) in
+    let x = put-named (a .floats) (a .words) (placeIn v) (kernelIn v) (layerIn v)
+    (first-taken width vs (putOn width v a) (t .1)) in
     let y = all-named vs (putOn width v a) (t .1) in
     ((λ i. x .0 i && y .0 i), (λ i. x .1 i && y .1 i))
 
@@ -132,7 +136,8 @@ module _ (d : Script) (fs : List Float) (ws : List ℕ) where
   checked e =
       let c = openCheck width (length (d .coords)) (d .corners) (length fs) (length ws) in
       let x = passed-both c (putsCheck (d .puts)) e in
-      let y = passed-both (cond (placesIn (d .puts)) Passed (Failed NoPlace)) (cond (layersIn (d .puts)) Passed (Failed NoLayer)) (x .1) in
+      let y = passed-both (cond (placesIn (d .puts)) Passed (Failed NoPlace))
+      (cond (layersIn (d .puts)) Passed (Failed NoLayer)) (x .1) in
       let m = open-passes width (length (d .coords)) (d .corners) (length fs) (length ws) (x .0) .mesh in
       let o = opened (x .0) in
       all-taken (d .radius) (d .coords) (d .corners) m (d .puts) (λ i. none) opening (o .1) (o .0)
@@ -141,7 +146,8 @@ module _ (d : Script) (fs : List Float) (ws : List ℕ) where
   pub unrefused : EachTaken width (d .puts) opening → scriptCheck width d (length fs) (length ws) ≡ Passed
   unfolding openStep
   unrefused t =
-      let o = passed (openCheck width (length (d .coords)) (d .corners) (length fs) (length ws)) fs ws _ (first-taken width (d .puts) opening t) in
+      let o = passed (openCheck width (length (d .coords)) (d .corners) (length fs) (length ws)) fs ws _
+      (first-taken width (d .puts) opening t) in
       let n = all-named (d .puts) opening t in
       rw (o, n .0, n .1) refl
 
@@ -155,10 +161,12 @@ module _ (fs : List Float) (ws : List ℕ) (s : List ℕ) where
 
   abbrev all-done : After
   all-done =
-      after (counted (script .verts ∷ script .faces ∷ length (script .puts) ∷ [])) (after-script .floats) (after-script .words)
+      after (counted (script .verts ∷ script .faces ∷ length (script .puts) ∷ [])) (after-script .floats)
+      (after-script .words)
 
   -- it refuses nothing else than bad lines and what the script's checks refuse
-  pub passing : formCheck (readOf s .text) ≡ Passed → scriptCheck width script (length fs) (length ws) ≡ Passed → Taken (readStep width fs ws s)
+  pub passing : formCheck (readOf s .text) ≡ Passed → scriptCheck width script (length fs) (length ws) ≡ Passed
+      → Taken (readStep width fs ws s)
   unfolding readStep
   passing f c = rw (f, c) refl
 
