@@ -7,3 +7,4 @@ pub mod RoundTrip
 pub mod Leaves
 pub mod LineByLine
 pub mod Again
+pub mod BenchTakesNone
