@@ -20,7 +20,7 @@ use Rattle.base.specs.declared.refusal.Checked.the-variants.{Passed, Failed}
 use Rattle.kernel.specs.declared.kernel.Kernel.{Kernel}
 use Rattle.pieces.specs.Pieces.{decomposed}
 use Rattle.pieces.specs.FitEnd.{fitOf}
-use Rattle.layout.specs.Layout.{width, placeLimit, layerLimit, radiusOf, facesOf}
+use Rattle.layout.specs.Layout.{width, placeLimit, layerLimit, radiusOf, vertsOf, facesOf}
 use Rattle.layout.specs.Soundness.{storeCheck, placeCheck, layerCheck}
 use Rattle.layout.specs.SoundLaws.{both, passed-both}
 use Rattle.layout.specs.After.{After, after, guarded}
@@ -30,6 +30,7 @@ use Rattle.store.specs.Puts.{placedWith, putFloats, putWords, putStep}
 use Rattle.text.specs.Form.{Vals}
 use Rattle.script.specs.Lines.{putLine}
 use Rattle.script.specs.ReadOf.{Script, readOf, placeIn, kernelIn, layerIn, putOn, putsOn, played, formCheck, placesIn, layersIn, putsCheck, scriptCheck, readStep}
+use Rattle.script.specs.Spelling.{by-threes}
 use Rattle.script.specs.Leaves.{Held, none, given, Stands, opened-stands, put-stands, stands-sound}
 
 -- ---- line by line
@@ -187,6 +188,14 @@ module _ (fs : List Float) (ws : List ℕ) (s : List ℕ) where
       → Stands (script .radius) (script .coords) (script .corners) (heldAfter (script .puts) (λ i. none))
       (readStep width fs ws s .floats) (readStep width fs ws s .words)
   leaves t = rw (plays t) (checked script fs ws (has-passed t .1) .1)
+
+  -- the vertices and faces that it answers are those that the store then has
+  pub counts : Taken (readStep width fs ws s)
+      → (vertsOf (readStep width fs ws s .words) ≡ script .verts) × (facesOf (readStep width fs ws s .words) ≡ script .faces)
+  counts t =
+      let x = leaves t in
+      let y = by-threes s in
+      (x .verts ∙ omega (arith, y .0), x .faces ∙ omega (arith, y .1))
 
   -- "refuses the whole where one line would be refused", and nowhere else
   pub refuses-where : formCheck (readOf s .text) ≡ Passed

@@ -4,7 +4,7 @@
 use mathlib.Core.Path.{_≡_, refl, sym, ap, subst, _∙_}
 use mathlib.Core.List.{List, [], _∷_}
 use mathlib.Core.Bool.{Bool, true, false}
-use Prim.Native.Nat.{ℕ, zero, suc, _≤_, _<_}
+use Prim.Native.Nat.{ℕ, zero, suc, _*_, _%_, _≤_, _<_}
 use native.Mathlib.Omega.{arith}
 use lib.Dec.{T}
 use lib.ListN.{length, length-append}
@@ -14,6 +14,7 @@ use Rattle.text.specs.FormLaws.{reads, spells, read-lost}
 use Rattle.text.specs.LengthLaws.{at-least}
 use Rattle.text.specs.Tokens.{not-lost}
 use Rattle.base.specs.declared.refusal.Checked.the-variants.{Passed}
+use Rattle.mesh.specs.Checks.{ragged}
 use Rattle.script.specs.Lines.{openLine, vertLine, faceLine, putLine}
 use Rattle.script.specs.ReadOf.{more, linesFrom, toNext, linesTo, coordsIn, cornersIn, Script, readOf, formCheck}
 
@@ -223,3 +224,30 @@ well-formed s = (go (readOf s .text) refl, (λ d x. (λ i. formCheck (taken s d 
     go : (t : Text) → readOf s .text ≡ t → formCheck t ≡ Passed → (d : Script) × SpellsScript s d
     go lost e h = absurd (let z : _≡_ {A = ℕ} 0 1 = cc in omega arith)
     go (left r) e h = (readOf s .val, spelt s r e .1)
+
+-- ---- coordinates and corners come by threes, three of each line, so that 1 is never
+coords-three : (vs : List (Vals vertLine)) → length (coordsIn vs) ≡ 3 * length vs
+coords-three [] = refl
+coords-three (v ∷ vs) = omega (arith, coords-three vs)
+
+corners-three : (vs : List (Vals faceLine)) → length (cornersIn vs) ≡ 3 * length vs
+corners-three [] = refl
+corners-three (v ∷ vs) = omega (arith, corners-three vs)
+
+pub by-threes : (s : List ℕ)
+    → (length (readOf s .val .coords) ≡ 3 * readOf s .val .verts) × (length (readOf s .val .corners) ≡ 3 * readOf s .val .faces)
+unfolding readOf
+by-threes s =
+    let o = read openLine (left s) in
+    let v = linesFrom vertLine (o .val .1 .0) (o .text) in
+    let f = linesFrom faceLine (o .val .1 .1 .0) (v .text) in (
+      coords-three (v .val) ∙ ap (3 *_) (all-read vertLine tt (o .val .1 .0) (o .text)),
+      corners-three (f .val) ∙ ap (3 *_) (all-read faceLine tt (o .val .1 .1 .0) (v .text)),
+    )
+
+pub never-ragged : (s : List ℕ) → ragged (length (readOf s .val .coords)) (readOf s .val .corners) ≡ false
+never-ragged s =
+    let d = readOf s .val in
+    let v : 3 * d .verts % 3 ≡ 0 = omega arith in
+    let f : 3 * d .faces % 3 ≡ 0 = omega arith in
+    rw (by-threes s .0, by-threes s .1, v, f) refl
