@@ -4,7 +4,6 @@ use mathlib.Core.Path.{_≡_, refl, sym, ap, _∙_}
 use mathlib.Core.List.{List, []}
 use mathlib.Core.Logic.{inl, inr}
 use Prim.Native.Nat.{ℕ}
-use lib.Dec.{T}
 use Rattle.text.specs.Text.{Text, lost, left, Got, bytes, literal, strip, float, decimal}
 use Rattle.text.specs.Form.{Form, end, word, number, real, either, Vals, map, orAt, or, read, Spells, say, u32, followed}
 use Rattle.text.specs.FormLaws.{reads, read-lost, other-word}
@@ -38,13 +37,15 @@ module _ (v : Vals layered) (l : List ℕ) (s : Spells layered v l []) where
   no-end (left k) e = go (strip (bytes ") (layer ") k) refl
     where
       go : (t : Text) → strip (bytes ") (layer ") k ≡ t → read putEnd (left k) .text ≡ lost
-      go lost d = not-lost (sym (ap (λ (u : Text). read (u32 (say "))" end)) u .text) d ∙ read-lost (u32 (say "))" end))) ∙ e)
+      go lost d =
+          not-lost (sym (ap (λ (u : Text). read (u32 (say "))" end)) u .text) d ∙ read-lost (u32 (say "))" end))) ∙ e)
       go (left m) d = other-word (bytes ") (layer ") putEnd k m tt tt d
 
   no-put : read putForm (left l) .text ≡ lost
   no-put =
       followed-read putStart putEnd (left l)
-      ∙ no-end start (sym (followed-read putStart layerEnd (left l)) ∙ ap (λ (g : Got (Vals layered)). g .text) (reads layered v l [] tt s))
+      ∙ no-end start (sym (followed-read putStart layerEnd (left l))
+      ∙ ap (λ (g : Got (Vals layered)). g .text) (reads layered v l [] tt s))
 
   no-line : read lineForm (left l) .text ≡ lost
   no-line =

@@ -3,13 +3,13 @@
 -- and what it then leaves is a sound store of the script's mesh and radius, with the last put of each place. Assumes nothing.
 use mathlib.Core.Path.{_≡_, refl, sym, ap, _∙_}
 use mathlib.Core.Bool.{Bool, true, false, _&&_, cond}
-use mathlib.Core.List.{List, [], _∷_}
+use mathlib.Core.List.{List, [], _∷_, _++_}
 use Prim.Native.Nat.{ℕ, _*_}
 use native.Mathlib.Omega.{arith}
 use lib.Dec.{eqb, ltb}
 use lib.ListN.{length}
 use lib.Ieee.{Float}
-use borrow.Author.Tests.{ltb-true, eq-eqb}
+use borrow.Author.Tests.{ltb-true, eq-eqb, eqb-true}
 use Rattle.base.specs.Answers.{counted, andThen}
 use Rattle.base.specs.Refusals.{number}
 use Rattle.base.specs.RefusalLaws.{never-zero}
@@ -191,7 +191,8 @@ module _ (fs : List Float) (ws : List ℕ) (s : List ℕ) where
 
   -- the vertices and faces that it answers are those that the store then has
   pub counts : Taken (readStep width fs ws s)
-      → (vertsOf (readStep width fs ws s .words) ≡ script .verts) × (facesOf (readStep width fs ws s .words) ≡ script .faces)
+      → (vertsOf (readStep width fs ws s .words) ≡ script .verts)
+      × (facesOf (readStep width fs ws s .words) ≡ script .faces)
   counts t =
       let x = leaves t in
       let y = by-threes s in
@@ -202,3 +203,27 @@ module _ (fs : List Float) (ws : List ℕ) (s : List ℕ) where
       → (Taken (readStep width fs ws s) → EachTaken width (script .puts) (opening script fs ws))
       × (EachTaken width (script .puts) (opening script fs ws) → Taken (readStep width fs ws s))
   refuses-where f = ((λ t. checked script fs ws (has-passed t .1) .0), (λ t. passing f (unrefused script fs ws t)))
+
+-- ---- "The reader takes puts in any order": two of different places that change theirs give each place the same
+
+-- what a place holds is its own affair
+held-at : (vs : List (Vals putLine)) (held other : ℕ → Held) (i : ℕ) → held i ≡ other i
+    → heldAfter vs held i ≡ heldAfter vs other i
+held-at [] held other i e = e
+held-at (v ∷ vs) held other i e =
+    held-at vs (heldBy v held) (heldBy v other) i (ap (cond (eqb (placeIn v) i) (given (kernelIn v) (layerIn v))) e)
+
+pub any-order : (us : List (Vals putLine)) (v w : Vals putLine) (vs : List (Vals putLine)) (held : ℕ → Held) (i : ℕ)
+    → (placeIn v ≡ placeIn w → ⊥) → heldAfter (us ++ (v ∷ w ∷ vs)) held i ≡ heldAfter (us ++ (w ∷ v ∷ vs)) held i
+any-order (u ∷ us) v w vs held i d = any-order us v w vs (heldBy u held) i d
+any-order [] v w vs held i d =
+    held-at vs (heldBy w (heldBy v held)) (heldBy v (heldBy w held)) i
+    (go (eqb (placeIn v) i) (eqb (placeIn w) i) refl refl)
+  where
+    go : (a b : Bool) → eqb (placeIn v) i ≡ a → eqb (placeIn w) i ≡ b
+        → cond b (given (kernelIn w) (layerIn w)) (cond a (given (kernelIn v) (layerIn v)) (held i))
+        ≡ cond a (given (kernelIn v) (layerIn v)) (cond b (given (kernelIn w) (layerIn w)) (held i))
+    go true true x y = absurd (d (eqb-true (placeIn v) i x ∙ sym (eqb-true (placeIn w) i y)))
+    go true false x y = refl
+    go false true x y = refl
+    go false false x y = refl

@@ -186,7 +186,9 @@ module _ (q : ℕ) (fs : List Float) (ws : List ℕ) (e : storeCheck q fs ws ≡
         mesh = a;
         rest = b;
         tail = c;
-        opening = printed openLine o a (g .fit 0 & low (s .mesh .verts) (omega arith) & low (s .mesh .faces) (omega arith) & tt);
+        opening =
+            printed openLine o a (g .fit 0 & low (s .mesh .verts) (omega arith) & low (s .mesh .faces) (omega arith)
+            & tt);
         vertLines = rows-spell vertLine (vertAt fs) (vertsOf ws) 0 b (λ j l. vert-fits j);
         faceLines = rows-spell faceLine (faceAt q ws) (facesOf ws) 0 c (λ j l. face-fits j (omega arith));
         putLines =

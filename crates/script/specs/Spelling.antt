@@ -235,7 +235,8 @@ corners-three [] = refl
 corners-three (v ∷ vs) = omega (arith, corners-three vs)
 
 pub by-threes : (s : List ℕ)
-    → (length (readOf s .val .coords) ≡ 3 * readOf s .val .verts) × (length (readOf s .val .corners) ≡ 3 * readOf s .val .faces)
+    → (length (readOf s .val .coords) ≡ 3 * readOf s .val .verts)
+    × (length (readOf s .val .corners) ≡ 3 * readOf s .val .faces)
 unfolding readOf
 by-threes s =
     let o = read openLine (left s) in
