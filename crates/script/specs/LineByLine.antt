@@ -204,7 +204,7 @@ module _ (fs : List Float) (ws : List ℕ) (s : List ℕ) where
       × (EachTaken width (script .puts) (opening script fs ws) → Taken (readStep width fs ws s))
   refuses-where f = ((λ t. checked script fs ws (has-passed t .1) .0), (λ t. passing f (unrefused script fs ws t)))
 
--- ---- "The reader takes puts in any order": two of different places that change theirs give each place the same
+-- ---- "The reader takes puts in any order": where two that name different places are exchanged, each place holds the same
 
 -- what a place holds is its own affair
 held-at : (vs : List (Vals putLine)) (held other : ℕ → Held) (i : ℕ) → held i ≡ other i
