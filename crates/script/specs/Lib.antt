@@ -4,3 +4,7 @@ pub mod ReadOf
 pub mod Answers
 pub mod Spelling
 pub mod RoundTrip
+pub mod Leaves
+pub mod LineByLine
+pub mod Again
+pub mod BenchTakesNone

@@ -2,9 +2,9 @@
 -- lines and face lines as it names, and put lines, one behind the other, each float by any pattern of it. Any other bytes
 -- are refused with 13. Assumes nothing.
 use mathlib.Core.Path.{_≡_, refl, sym, ap, subst, _∙_}
-use mathlib.Core.List.{List, [], _∷_, _++_}
+use mathlib.Core.List.{List, [], _∷_}
 use mathlib.Core.Bool.{Bool, true, false}
-use Prim.Native.Nat.{ℕ, zero, suc, _+_, _≤_, _<_}
+use Prim.Native.Nat.{ℕ, zero, suc, _*_, _%_, _≤_, _<_}
 use native.Mathlib.Omega.{arith}
 use lib.Dec.{T}
 use lib.ListN.{length, length-append}
@@ -14,6 +14,7 @@ use Rattle.text.specs.FormLaws.{reads, spells, read-lost}
 use Rattle.text.specs.LengthLaws.{at-least}
 use Rattle.text.specs.Tokens.{not-lost}
 use Rattle.base.specs.declared.refusal.Checked.the-variants.{Passed}
+use Rattle.mesh.specs.Checks.{ragged}
 use Rattle.script.specs.Lines.{openLine, vertLine, faceLine, putLine}
 use Rattle.script.specs.ReadOf.{more, linesFrom, toNext, linesTo, coordsIn, cornersIn, Script, readOf, formCheck}
 
@@ -47,7 +48,8 @@ pub record SpellsScript (s : List ℕ) (d : Script) : Type 0 where
 
 module _ (f : Form) (c : T (clear f)) where
   -- n lines are read as their values
-  pub reads-all : (vs : List (Vals f)) (l r : List ℕ) → SpellsAll f vs l r → linesFrom f (length vs) (left l) ≡ record { val = vs; text = left r }
+  pub reads-all : (vs : List (Vals f)) (l r : List ℕ) → SpellsAll f vs l r
+      → linesFrom f (length vs) (left l) ≡ record { val = vs; text = left r }
   unfolding linesFrom
   reads-all [] l r s = (λ i. record { val = []; text = left (s i) })
   reads-all (v ∷ vs) l r s =
@@ -55,7 +57,8 @@ module _ (f : Form) (c : T (clear f)) where
       ∙ ap (more v) (reads-all vs (s .0) r (s .2))
 
   -- what n lines were read from spells them
-  pub spells-all : (n : ℕ) (t : Text) (r : List ℕ) → linesFrom f n t .text ≡ left r → (l : List ℕ) × (t ≡ left l) × SpellsAll f (linesFrom f n t .val) l r
+  pub spells-all : (n : ℕ) (t : Text) (r : List ℕ) → linesFrom f n t .text ≡ left r
+      → (l : List ℕ) × (t ≡ left l) × SpellsAll f (linesFrom f n t .val) l r
   unfolding linesFrom
   spells-all zero t r e = (r, e, refl)
   spells-all (suc n) lost r e = not-lost (sym (read-lost f) ∙ spells-all n (read f lost .text) r e .1)
@@ -87,7 +90,8 @@ begun (either a b f) = false
 shorter : (f : Form) → T (begun f) → (v : Vals f) (l r : List ℕ) → Spells f v l r → length r < length l
 shorter end h v l r s = absurd h
 shorter (word [] f) h v l r s = omega (arith, ap length (s .1), shorter f h v (s .0) r (s .2))
-shorter (word (b ∷ p) f) h v l r s = omega (arith, ap length (s .1) ∙ length-append (b ∷ p) (s .0), at-least f v (s .0) r (s .2))
+shorter (word (b ∷ p) f) h v l r s =
+    omega (arith, ap length (s .1) ∙ length-append (b ∷ p) (s .0), at-least f v (s .0) r (s .2))
 shorter (number most f) h v l r s = absurd h
 shorter (real f) h v l r s = absurd h
 shorter (either a b f) h v l r s = absurd h
@@ -97,11 +101,13 @@ module _ (f : Form) (c : T (clear f)) (w : T (begun f)) where
   no-more [] l r s = omega arith
   no-more (v ∷ vs) l r s = omega (arith, shorter f w v l (s .0) (s .1), no-more vs (s .0) r (s .2))
 
-  goes-on : (next : Text → Got (List (Vals f))) (l : List ℕ) → 0 < length l → toNext f next (left l) ≡ more (read f (left l) .val) (next (read f (left l) .text))
+  goes-on : (next : Text → Got (List (Vals f))) (l : List ℕ) → 0 < length l
+      → toNext f next (left l) ≡ more (read f (left l) .val) (next (read f (left l) .text))
   goes-on next [] h = absurd (omega arith)
   goes-on next (a ∷ l) h = refl
 
-  pub reads-to : (n : ℕ) (vs : List (Vals f)) (l : List ℕ) → length vs ≤ n → SpellsAll f vs l [] → linesTo f n (left l) ≡ record { val = vs; text = left [] }
+  pub reads-to : (n : ℕ) (vs : List (Vals f)) (l : List ℕ) → length vs ≤ n → SpellsAll f vs l []
+      → linesTo f n (left l) ≡ record { val = vs; text = left [] }
   unfolding linesTo
   reads-to zero [] l h s = (λ i. linesTo f zero (left (s i)))
   reads-to (suc n) [] l h s = (λ i. linesTo f (suc n) (left (s i)))
@@ -112,7 +118,8 @@ module _ (f : Form) (c : T (clear f)) (w : T (begun f)) where
       ∙ ((λ i. more (reads f v l (s .0) c (s .1) i .val) (linesTo f n (reads f v l (s .0) c (s .1) i .text)))
       ∙ ap (more v) (reads-to n vs (s .0) (omega arith) (s .2)))
 
-  pub spells-to : (n : ℕ) (t : Text) (r : List ℕ) → linesTo f n t .text ≡ left r → (l : List ℕ) × (t ≡ left l) × (r ≡ []) × SpellsAll f (linesTo f n t .val) l []
+  pub spells-to : (n : ℕ) (t : Text) (r : List ℕ) → linesTo f n t .text ≡ left r
+      → (l : List ℕ) × (t ≡ left l) × (r ≡ []) × SpellsAll f (linesTo f n t .val) l []
   unfolding linesTo
   spells-to zero lost r e = not-lost e
   spells-to (suc n) lost r e = not-lost e
@@ -130,7 +137,8 @@ module _ (s : List ℕ) where
   abbrev atPuts : Vals openLine → List (Vals vertLine) → List (Vals faceLine) → Got (List (Vals putLine)) → Got Script
   atPuts o vs fs p =
       record {
-        val = record { radius = o .0; verts = o .1 .0; faces = o .1 .1 .0; coords = coordsIn vs; corners = cornersIn fs; puts = p .val };
+        val =
+            record { radius = o .0; verts = o .1 .0; faces = o .1 .1 .0; coords = coordsIn vs; corners = cornersIn fs; puts = p .val };
         text = p .text;
       }
 
@@ -161,9 +169,11 @@ taken s d x =
     ap (atOpening s) (reads openLine o s (x .mesh) tt (x .opening))
     ∙ (ap (atVerts s o) v
     ∙ (ap (atFaces s o (x .vertices)) f
-    ∙ (ap (atPuts s o (x .vertices) (x .triangles)) (reads-to putLine tt tt (length s) (d .puts) (x .tail) h (x .putLines))
+    ∙ (ap (atPuts s o (x .vertices) (x .triangles))
+    (reads-to putLine tt tt (length s) (d .puts) (x .tail) h (x .putLines))
     ∙ (λ i. record {
-      val = record { radius = d .radius; verts = d .verts; faces = d .faces; coords = x .coords i; corners = x .corners i; puts = d .puts };
+      val =
+          record { radius = d .radius; verts = d .verts; faces = d .faces; coords = x .coords i; corners = x .corners i; puts = d .puts };
       text = left [];
     }))))
 
@@ -196,13 +206,49 @@ spelt s r e =
     )
 
 -- both ways
-pub accepts : (s : List ℕ) (d : Script) → (readOf s ≡ record { val = d; text = left [] } → SpellsScript s d) × (SpellsScript s d → readOf s ≡ record { val = d; text = left [] })
-accepts s d = ((λ e. subst (SpellsScript s) (ap (λ (g : Got Script). g .val) e) (spelt s [] (ap (λ (g : Got Script). g .text) e) .1)), taken s d)
+pub accepts : (s : List ℕ) (d : Script)
+    → (readOf s ≡ record { val = d; text = left [] } → SpellsScript s d)
+    × (SpellsScript s d → readOf s ≡ record { val = d; text = left [] })
+accepts s d = (
+  (λ e. subst (SpellsScript s) (ap (λ (g : Got Script). g .val) e)
+      (spelt s [] (ap (λ (g : Got Script). g .text) e) .1)),
+  taken s d,
+)
 
 -- "13 is [..] also for bytes that aren't one whole opening and then puts", and for no others
-pub well-formed : (s : List ℕ) → (formCheck (readOf s .text) ≡ Passed → (d : Script) × SpellsScript s d) × ((d : Script) → SpellsScript s d → formCheck (readOf s .text) ≡ Passed)
+pub well-formed : (s : List ℕ)
+    → (formCheck (readOf s .text) ≡ Passed → (d : Script) × SpellsScript s d)
+    × ((d : Script) → SpellsScript s d → formCheck (readOf s .text) ≡ Passed)
 well-formed s = (go (readOf s .text) refl, (λ d x. (λ i. formCheck (taken s d x i .text))))
   where
     go : (t : Text) → readOf s .text ≡ t → formCheck t ≡ Passed → (d : Script) × SpellsScript s d
     go lost e h = absurd (let z : _≡_ {A = ℕ} 0 1 = cc in omega arith)
     go (left r) e h = (readOf s .val, spelt s r e .1)
+
+-- ---- coordinates and corners come by threes, three of each line, so that 1 is never
+coords-three : (vs : List (Vals vertLine)) → length (coordsIn vs) ≡ 3 * length vs
+coords-three [] = refl
+coords-three (v ∷ vs) = omega (arith, coords-three vs)
+
+corners-three : (vs : List (Vals faceLine)) → length (cornersIn vs) ≡ 3 * length vs
+corners-three [] = refl
+corners-three (v ∷ vs) = omega (arith, corners-three vs)
+
+pub by-threes : (s : List ℕ)
+    → (length (readOf s .val .coords) ≡ 3 * readOf s .val .verts)
+    × (length (readOf s .val .corners) ≡ 3 * readOf s .val .faces)
+unfolding readOf
+by-threes s =
+    let o = read openLine (left s) in
+    let v = linesFrom vertLine (o .val .1 .0) (o .text) in
+    let f = linesFrom faceLine (o .val .1 .1 .0) (v .text) in (
+      coords-three (v .val) ∙ ap (3 *_) (all-read vertLine tt (o .val .1 .0) (o .text)),
+      corners-three (f .val) ∙ ap (3 *_) (all-read faceLine tt (o .val .1 .1 .0) (v .text)),
+    )
+
+pub never-ragged : (s : List ℕ) → ragged (length (readOf s .val .coords)) (readOf s .val .corners) ≡ false
+never-ragged s =
+    let d = readOf s .val in
+    let v : 3 * d .verts % 3 ≡ 0 = omega arith in
+    let f : 3 * d .faces % 3 ≡ 0 = omega arith in
+    rw (by-threes s .0, by-threes s .1, v, f) refl
