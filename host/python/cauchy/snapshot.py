@@ -2,8 +2,8 @@
 
 A snapshot is, numbers with their lowest byte first: the eight bytes `CAUCHY02`; the count of floats and the count of
 words, eight bytes each; the floats, eight bytes each, by their bits; the words, four bytes each; and the CRC-64/XZ of
-all bytes before it, eight bytes. One that begins with `CAUCHY01` is the same in the form before layers, with three words
-to a place: it is read too, and its store carried over; none is written.
+all bytes before it, eight bytes. One that begins with `CAUCHY01` is the same in the form before layers, with three
+words to a place: it is read too, and its store carried over; none is written.
 """
 import struct
 from functools import lru_cache
@@ -18,9 +18,9 @@ _CHECKSUM = struct.Struct("<Q")
 
 
 class SnapshotError(ValueError):
-    """Bytes were not taken as a snapshot. `fault` says why: "foreign" (they do not begin as one), "length" (they are fewer
-    or more than their counts say), "checksum" (it does not fit), or "refused" (they are whole, but hold no store; the
-    refusal is the `__cause__`).
+    """Bytes were not taken as a snapshot. `fault` says why: "foreign" (they do not begin as one), "length" (they are
+    fewer or more than their counts say), "checksum" (it does not fit), or "refused" (they are whole, but hold no store;
+    the refusal is the `__cause__`).
 
     >>> Store.from_bytes(b"v 0 0 0")
     Traceback (most recent call last):
