@@ -89,8 +89,8 @@ static uint32_t unsound(const double *floats, size_t n_floats, const uint32_t *w
     return cauchy_store_density(floats, n_floats, words, n_words, raw, CAUCHY_ALL_LAYERS, origin).no;
 }
 
-/* Whether all that stands past the mesh is what squeezes leave: no word, and the zeros of whole vertices. A store of this
- * form, or of the one before it, has `own_words` words. */
+/* Whether all that stands past the mesh is what squeezes leave: no word, and the zeros of whole vertices. A store of
+ * this form, or of the one before it, has `own_words` words. */
 static int exact(const double *floats, size_t n_floats, const uint32_t *words, size_t n_words, size_t own_words) {
     uint64_t bits, stray = 0;
     const size_t own = CAUCHY_STORE_FLOATS(words[0]);
@@ -140,7 +140,9 @@ static CauchySnapshot needed(CauchySnapshot whole) {
     return whole;
 }
 
-CauchySnapshot cauchy_snapshot_look(const uint8_t *bytes, size_t n_bytes) { return needed(whole_snapshot(bytes, n_bytes)); }
+CauchySnapshot cauchy_snapshot_look(const uint8_t *bytes, size_t n_bytes) {
+    return needed(whole_snapshot(bytes, n_bytes));
+}
 
 static CauchyRestored restored(uint32_t no, const uint32_t *words, uint32_t carried) {
     CauchyRestored told = {no, 0, 0, 0};

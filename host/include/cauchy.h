@@ -279,12 +279,12 @@ CAUCHY_MUST_USE
 CauchyOpened cauchy_store_open(double *floats, size_t n_floats, uint32_t *words, size_t n_words, double radius,
                                const double *xyz, size_t n_xyz, const uint32_t *faces, size_t n_faces);
 
-/* Carries a store of the form before layers over, as its calls left it between two of them: makes two fresh runs a store
- * like it, with every kernel in layer 0. Work goes on where it was; nothing is fitted anew, and pieces go across as they
- * are held, also those of a version whose powers were others. The old runs are only read, what they have past the old
- * store's own is left behind, and what the new runs held does not matter; they keep their excess. 4 is answered where
- * the old runs are too short for the counts in them, or the new ones for a store of these counts; 5 where the old runs
- * hold no sound store.                                                                             4 5 */
+/* Carries a store of the form before layers over, as its calls left it between two of them: makes two fresh runs a
+ * store like it, with every kernel in layer 0. Work goes on where it was; nothing is fitted anew, and pieces go across
+ * as they are held, also those of a version whose powers were others. The old runs are only read, what they have past
+ * the old store's own is left behind, and what the new runs held does not matter; they keep their excess. 4 is
+ * answered where the old runs are too short for the counts in them, or the new ones for a store of these counts; 5
+ * where the old runs hold no sound store.                                                          4 5 */
 CAUCHY_MUST_USE
 CauchyOpened cauchy_store_carry(const double *old_floats, size_t n_old_floats, const uint32_t *old_words,
                                 size_t n_old_words, double *floats, size_t n_floats, uint32_t *words, size_t n_words);

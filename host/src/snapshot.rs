@@ -54,8 +54,9 @@ impl Store {
         bytes
     }
 
-    /// The store that [`Store::to_bytes`] wrote. Bytes that were damaged since are refused. A snapshot of the form before
-    /// layers is taken too, and its store carried over, as by [`Store::carry_from_old`]; [`Store::carried`] then tells it.
+    /// The store that [`Store::to_bytes`] wrote. Bytes that were damaged since are refused. A snapshot of the form
+    /// before layers is taken too, and its store carried over, as by [`Store::carry_from_old`]; [`Store::carried`]
+    /// then tells it.
     ///
     /// ```
     /// # use cauchy::{Mesh, SnapshotError, Store};

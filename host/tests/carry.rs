@@ -1,6 +1,6 @@
-//! A store of the form before layers, carried over. The snapshot in `data` is of a half worked store, and the answers beside it
-//! are those of the version that wrote it, as it went on; `data/make.py` tells how both were made. That version stood before
-//! L2 too, so its pieces are of other powers: they must go across as they are held.
+//! A store of the form before layers, carried over. The snapshot in `data` is of a half worked store, and the
+//! answers beside it are those of the version that wrote it, as it went on; `data/make.py` tells how both were
+//! made. That version stood before L2 too, so its pieces are of other powers: they must go across as they are held.
 use cauchy::{Convention, Kernel, OpenError, PLACES, Refusal, SnapshotError, Store};
 use std::collections::VecDeque;
 
@@ -41,7 +41,8 @@ impl Fields<'_> {
     }
 }
 
-/// Makes the calls of all lines, in order, and finds each answer as the old version gave it, bit for bit. Answers how many.
+/// Makes the calls of all lines, in order, and finds each answer as the old version gave it, bit for bit. Answers how
+/// many.
 fn goes_on(store: &mut Store) -> usize {
     let mut by = Convention::Raw;
     let (mut pieces, mut page) = (VecDeque::new(), None);

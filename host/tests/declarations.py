@@ -144,7 +144,8 @@ def same_numbers(ours, rattle):
 # What the library calls a size of the store, and what Rust's crate does.
 SIZES = {
     "PLACES": "PLACES", "KERNEL": "KERNELS_AT", "KERNEL_SIZE": "KERNEL_FLOATS", "COORDS": "FLOATS_BEFORE_MESH",
-    "STATE": "STATES_AT", "WIDTH": "STATE_WORDS", "CORNERS": "WORDS_BEFORE_MESH", "OLD_CORNERS": "OLD_WORDS_BEFORE_MESH",
+    "STATE": "STATES_AT", "WIDTH": "STATE_WORDS", "CORNERS": "WORDS_BEFORE_MESH",
+    "OLD_CORNERS": "OLD_WORDS_BEFORE_MESH",
 }
 
 

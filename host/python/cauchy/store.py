@@ -73,10 +73,10 @@ class Store:
 
     @classmethod
     def carry_from_old(cls, floats: arrays.Items, words: arrays.Items) -> "Store":
-        """Carries a store of the form before layers over, which had three words to a place: a store like it, with every
-        kernel in layer 0 and all work as far as it was done. Nothing is fitted anew: pieces go across as they are held,
-        also those of a version whose powers were others. The two runs are flat arrays and only read; what they have past
-        the old store's own is left behind. `from_bytes` does the same with a snapshot of that form.
+        """Carries a store of the form before layers over, which had three words to a place: a store like it, with
+        every kernel in layer 0 and all work as far as it was done. Nothing is fitted anew: pieces go across as they are
+        held, also those of a version whose powers were others. The two runs are flat arrays and only read; what they
+        have past the old store's own is left behind. `from_bytes` does the same with a snapshot of that form.
 
         >>> from array import array
         >>> floats, words = array("d", [0.0] * (1761 + 3 * 3)), array("I", [0] * (98 + 3 * 4))
@@ -370,9 +370,9 @@ class Store:
 
     @property
     def carried(self) -> bool:
-        """Whether the store was carried over from the form before layers, by `carry_from_old` or, from a snapshot of that
-        form, by `from_bytes`. Copies know it too, and snapshots and pickles of this store do not: they are of the form with
-        layers.
+        """Whether the store was carried over from the form before layers, by `carry_from_old` or, from a snapshot of
+        that form, by `from_bytes`. Copies know it too, and snapshots and pickles of this store do not: they are of the
+        form with layers.
 
         >>> Store(500, [0] * 9, [0, 1, 2]).carried
         False

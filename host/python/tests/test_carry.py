@@ -1,5 +1,5 @@
-"""A store of the form before layers, carried over. The snapshot in ../../tests/data is of a half worked store, and the answers beside
-it are those of the version that wrote it, as it went on: see make.py there."""
+"""A store of the form before layers, carried over. The snapshot in ../../tests/data is of a half worked store, and the
+answers beside it are those of the version that wrote it, as it went on: see make.py there."""
 import struct
 import unittest
 from array import array
@@ -117,15 +117,15 @@ class Carry(unittest.TestCase):
     def test_old_runs_that_hold_no_store_are_refused(self):
         floats, words = old_runs()
         verts, faces = words[:2]
-        short = ((floats, []), ([], words), (floats, words[:97]), (floats, words[:-1]), (floats[:1761 + 3 * verts - 1], words))
+        of_mesh = 1761 + 3 * verts
+        short = ((floats, []), ([], words), (floats, words[:97]), (floats, words[:-1]), (floats[:of_mesh - 1], words))
         for given in short:
             with self.assertRaises(cauchy.ShortStore):
                 Store.carry_from_old(*given)
-        for at, to, refusal in ((0, 2**32 - 1, cauchy.ShortStore), (1, 2**32 - 1, cauchy.ShortStore), (2, 18, cauchy.Unsound),
-                                (4, faces, cauchy.Unsound), (98, verts, cauchy.Unsound), (-1, 2**32 - 1, cauchy.Unsound)):
+        for at, to in ((0, 2**32 - 1), (1, 2**32 - 1), (2, 18), (4, faces), (98, verts), (-1, 2**32 - 1)):
             damaged = words[:]
             damaged[at] = to
-            with self.subTest(at=at), self.assertRaises(refusal):
+            with self.subTest(at=at), self.assertRaises(cauchy.ShortStore if at in (0, 1) else cauchy.Unsound):
                 Store.carry_from_old(floats, damaged)
         for wrong in (None, 5, "text", b"bytes", [1.5]):
             with self.subTest(wrong=wrong), self.assertRaises(TypeError):

@@ -100,7 +100,8 @@ METHODS = {
     "track": "convention points layers", "report": "convention layers", "finished": "convention layers", "list": "convention layers", "page": "", "held": "place", "mesh": "", "to_bytes": "", "copy": "",
 }
 FUNCTIONS = {
-    "Store": "number vertices faces", "Store.from_bytes": "bytes", "Store.carry_from_old": "floats words", "Kernel": "point number number number",
+    "Store": "number vertices faces", "Store.from_bytes": "bytes", "Store.carry_from_old": "floats words",
+    "Kernel": "point number number number",
     "Convention": "kind number number", "rho0": "number", "mass": "number number",
     "kernel_from_file": "point number number number number", "convert": "lines number loader",
     "decompose": "kernel number", "decompose_list": "kernels number", "bill": "kernels count count",

@@ -67,7 +67,7 @@ class Declarations(unittest.TestCase):
             ("double cauchy_ten(double y);", "double cauchy_ten(double y); double cauchy_eleven(double y);"),
             ("CauchyListed cauchy_store_list(", "CauchyTrack cauchy_store_list("),
             ("uint32_t no, freed;", "uint32_t freed, no;"),
-            ("size_t n_old_words, double *floats, size_t n_floats,", "double *floats, size_t n_floats, size_t n_old_words,"),
+            ("size_t n_old_words, double *floats, size_t n_floats", "double *floats, size_t n_floats, size_t n_old_words"),
             ("uint64_t steps, floats;", "uint64_t floats, steps;"),
             ("const uint8_t *lines, size_t n_lines, double", "const double *lines, size_t n_lines, double"),
             ("double default_alpha, uint32_t loader,", "uint32_t loader, double default_alpha,"),

@@ -1,5 +1,5 @@
-"""Writes before-layers.snapshot and before-layers.answers, run by `make` beside this file with the package `cauchy` of the
-version before layers.
+"""Writes before-layers.snapshot and before-layers.answers, run by `make` beside this file with the package `cauchy` of
+the version before layers.
 
 The answers are lines in the order of the calls, floats by the 16 hexadecimal digits of their bits, counts as decimals:
   state PLACE STATUS FINISHED DONE    the words of a filled place, as the snapshot has them
@@ -85,8 +85,8 @@ def main(folder):
     for numbers, convention in CONVENTIONS:
         say("by", *numbers)
         told = store.report(convention)
-        say("report", told.raw_mass, told.rho0_scale, told.rho0_mass, told.applied_scale, told.applied_mass, told.target_mass,
-            told.volume, told.kernels, told.pieces, told.error)
+        say("report", told.raw_mass, told.rho0_scale, told.rho0_mass, told.applied_scale, told.applied_mass,
+            told.target_mass, told.volume, told.kernels, told.pieces, told.error)
         for k in store.list(convention):
             say("piece", *k.c, k.sigma, k.w, k.alpha)
     for line in store.page().splitlines():
