@@ -13,7 +13,7 @@ use Rattle.base.specs.Answers.{counted}
 use Rattle.base.specs.declared.refusal.Refusal.the-variants.{ShortStore}
 use Rattle.base.specs.declared.refusal.Checked.the-variants.{Passed, Failed}
 use Rattle.layout.specs.Runs.{write}
-use Rattle.layout.specs.Layout.{width, coordsFrom, cornersFrom, vertsOf, facesOf}
+use Rattle.layout.specs.Layout.{width, coordsFrom, cornersFrom}
 use Rattle.layout.specs.After.{after}
 use Rattle.carry.specs.Carry.{oldWidth, carriedFloats, carriedRows, carriedWords, carryCheck, carryStep}
 use Rattle.machine.specs.Machine.{Mesh, Place, empty, full, leftPlace, leftSum, shortRow}
@@ -22,7 +22,7 @@ use Rattle.machine.specs.Demands.{carriedPlace, refusedBy}
 use Rattle.machine.specs.Valid.{Within, Valid}
 use Rattle.machine.proofs.Rows.{width3, width4, flat-length}
 use Rattle.machine.proofs.Sixteen.{sixteen, laidOut, laid-out}
-use Rattle.machine.proofs.Held.{each-row, each7, each48, status-held, finished-held, done-held, corners-held}
+use Rattle.machine.proofs.Held.{verts-held, faces-held, each-row, each7, each48, status-held, finished-held, done-held, corners-held}
 use Rattle.machine.proofs.Sane.{long-enough, is-sound}
 use Rattle.machine.proofs.Opened.{write-front}
 use Rattle.machine.proofs.Refused.{not-below, Row}
@@ -91,14 +91,6 @@ module _ (m : Mesh) (ss : List Place) (v : Valid m ss) (xs : List Float) (ys : L
 
   abbrev new : List Place
   new = map carriedPlace ss
-
-  verts-held : vertsOf WS ≡ m .verts
-  unfolding wordsOf
-  verts-held = refl
-
-  faces-held : facesOf WS ≡ m .faces
-  unfolding wordsOf
-  faces-held = refl
 
   -- the records
   rows-to : (n : ℕ) → n ≤ 32 → carriedRows WS n ≡ flat (map (placeRow width m) (map carriedPlace (take n ss)))
@@ -186,7 +178,7 @@ module _ (m : Mesh) (ss : List Place) (v : Valid m ss) (xs : List Float) (ys : L
   floats-kept : carriedFloats FS WS ≡ laidOut m ss []
   floats-kept =
       let n = coordsFrom + 3 * m .verts in
-      rw verts-held
+      rw (verts-held oldWidth m ss ys)
       (ap (take n) (laid-out m ss v xs ∙ sym (floats-split xs))
       ∙ take-at (laidOut m ss []) xs n (omega (arith, floats-length, v .mesh .coords)))
 
@@ -209,8 +201,8 @@ module _ (m : Mesh) (ss : List Place) (v : Valid m ss) (xs : List Float) (ys : L
           laid-out m ss v xs,
           long-enough oldWidth width3 m ss v xs ys,
           is-sound oldWidth width3 m ss v xs ys,
-          verts-held,
-          faces-held,
+          verts-held oldWidth m ss ys,
+          faces-held oldWidth m ss ys,
           not-below (cornersFrom width + 3 * m .faces) (length us),
           not-below (coordsFrom + 3 * m .verts) (length gs),
         ) (cases (ltb (length gs) (coordsFrom + 3 * m .verts)) (ltb (length us) (cornersFrom width + 3 * m .faces)))
@@ -233,4 +225,4 @@ module _ (m : Mesh) (ss : List Place) (v : Valid m ss) (xs : List Float) (ys : L
     carries h =
         let f = floats-carried gs in
         let w = words-carried us in
-        rw (row .none h, f, w, verts-held, faces-held) refl
+        rw (row .none h, f, w, verts-held oldWidth m ss ys, faces-held oldWidth m ss ys) refl

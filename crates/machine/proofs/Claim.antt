@@ -27,7 +27,7 @@ use Rattle.pieces.specs.declared.fit.Fit.the-variants as ended
 use Rattle.pieces.specs.Pieces.{decomposed}
 use Rattle.pieces.specs.FitEnd.{fitOf, kindOf, columnOf, pivotOf}
 use Rattle.pieces.specs.PieceLaws.{Clean, clean, at-most-16, same-pieces}
-use Rattle.layout.specs.Layout.{placeLimit, radiusOf, vertsOf, facesOf, statusOf}
+use Rattle.layout.specs.Layout.{placeLimit, statusOf}
 use Rattle.layout.specs.Soundness.{storeCheck, placeCheck, filledCheck, layerCheck}
 use Rattle.store.specs.Calls.{clearStep, reweighStep}
 use Rattle.advance.specs.Steps.{advanceStep}
@@ -41,7 +41,7 @@ use Rattle.machine.specs.Calls.{Call, put, clear, reweigh, advance, sque
 use Rattle.machine.specs.Valid.{FittedBy, Within, Valid}
 use Rattle.machine.proofs.Rows.{Width, width4, Layered, formed}
 use Rattle.machine.proofs.Sixteen.{sixteen, laidOut, laid-out}
-use Rattle.machine.proofs.Held.{zeros-row, status-held, write-words, write-floats, set-seven, coords-held, corners-held}
+use Rattle.machine.proofs.Held.{radius-held, verts-held, faces-held, zeros-row, status-held, write-words, write-floats, set-seven, coords-held, corners-held}
 use Rattle.machine.proofs.Sane.{no-fault}
 use Rattle.machine.proofs.Look.{read-held}
 use Rattle.machine.proofs.Finished.{finished-report}
@@ -150,18 +150,6 @@ module _ (wd : ℕ) (fm : Width wd) (m : Machine) (v : Valid (m .mesh) (m .place
       go (no h) = rw (filled-out i (omega arith), le-ltb i 32 (omega arith)) refl
 
   -- ---- put
-  pub radius-held : radiusOf FS ≡ m .mesh .radius
-  unfolding laidOut
-  radius-held = refl
-
-  faces-held : facesOf WS ≡ m .mesh .faces
-  unfolding wordsOf
-  faces-held = refl
-
-  verts-held : vertsOf WS ≡ m .mesh .verts
-  unfolding wordsOf
-  verts-held = refl
-
   fresh-cells : (k : Kernel) (fit : Pieces) (n j : ℕ) → fresh fit n j ≡ cells (m .mesh) k fit n j 0
   unfolding volumeTo times
   fresh-cells k fit zero j = refl
@@ -179,7 +167,7 @@ module _ (wd : ℕ) (fm : Width wd) (m : Machine) (v : Valid (m .mesh) (m .place
       let s = full k fit o 0 l in
       let f = write-floats wd fm (m .mesh) (m .places) (v .places) (past m xs) i h s in
       let g = rw (zero-div, zero-mod) at (write-words wd fm (m .mesh) (m .places) (v .places) ys i h s) in
-      rw (faces-held, fresh-cells k fit 16 0, f, g) refl
+      rw (faces-held wd (m .mesh) (m .places) ys, fresh-cells k fit 16 0, f, g) refl
 
   put-in : (i : ℕ) (k : Kernel) (fit : Pieces) (end : Fit) (l : ℕ) → i < 32
       → result (record { reply = placedWith (fit .count) (need (m .mesh) fit) end; floats = putFloats FS i k fit; words = putWords wd WS i fit l }) ≡ shownIn wd xs ys (putTurn m i k fit end l)
@@ -194,7 +182,14 @@ module _ (wd : ℕ) (fm : Width wd) (m : Machine) (v : Valid (m .mesh) (m .place
     where
       go : Dec (i < 32) → Dec (l < 16) → store wd (inner wd m xs ys) (put i k l) ≡ shownIn wd xs ys (machine m (put i k l))
       go (yes h) (yes b) =
-          rw (place-in i h, lt-ltb i 32 h, lt-ltb l 16 b, le-leb l 15 (omega arith), radius-held, faces-held)
+          rw (
+            place-in i h,
+            lt-ltb i 32 h,
+            lt-ltb l 16 b,
+            le-leb l 15 (omega arith),
+            radius-held (m .mesh) (m .places) (past m xs),
+            faces-held wd (m .mesh) (m .places) ys,
+          )
           (put-in i k (decomposed k (m .mesh .radius)) (fitOf k (m .mesh .radius)) l h)
       go (yes h) (no b) = rw (place-in i h, lt-ltb i 32 h, le-ltb l 16 (omega arith), lt-leb l 15 (omega arith)) refl
       go (no h) b = rw (place-out i (omega arith), le-ltb i 32 (omega arith)) refl
@@ -207,8 +202,8 @@ module _ (wd : ℕ) (fm : Width wd) (m : Machine) (v : Valid (m .mesh) (m .place
       let a : n - (n - l) ≡ min n l = omega arith in
       rw (
         sane,
-        verts-held,
-        faces-held,
+        verts-held wd (m .mesh) (m .places) ys,
+        faces-held wd (m .mesh) (m .places) ys,
         coords-held wd fm (m .mesh) (m .places) (v .places) (past m xs) (v .mesh .coords),
         corners-held wd fm (m .mesh) (m .places) (v .places) ys (v .mesh .corners),
         all-held wd fm (m .mesh) (m .places) v (past m xs) ys n,
@@ -229,8 +224,8 @@ module _ (wd : ℕ) (fm : Width wd) (m : Machine) (v : Valid (m .mesh) (m .place
   squeeze-held =
       rw (
         sane,
-        verts-held,
-        faces-held,
+        verts-held wd (m .mesh) (m .places) ys,
+        faces-held wd (m .mesh) (m .places) ys,
         coords-held wd fm (m .mesh) (m .places) (v .places) (past m xs) (v .mesh .coords),
         corners-held wd fm (m .mesh) (m .places) (v .places) ys (v .mesh .corners),
         floats-squeezed wd fm (m .mesh) (m .places) v (m .freed) xs,

@@ -8,13 +8,26 @@ use lib.ListN.{length, take, drop, getD, set, replicate, length-append, length-m
 use lib.Seq.{getD-append-add, drop-at, take-at, set-set, set-getD, getD-set-same}
 use lib.Ieee.{Float, nan}
 use Rattle.layout.specs.Runs.{write}
-use Rattle.layout.specs.Layout.{cornersFrom, statusOf, finishedOf, doneOf, layerOf}
+use Rattle.layout.specs.Layout.{cornersFrom, radiusOf, vertsOf, facesOf, statusOf, finishedOf, doneOf, layerOf}
 use Rattle.kernel.specs.declared.kernel.Kernel.{Kernel}
 use Rattle.pieces.specs.declared.pieces.Pieces.{Pieces}
 use Rattle.machine.specs.Machine.{Mesh, Place, empty, full}
 use Rattle.machine.specs.Holding.{placeRow, floats7, cells, flat, wordsOf}
 use Rattle.machine.proofs.Sixteen.{sixteen, laidOut}
 use Rattle.machine.proofs.Rows.{Width, width3, width4, Each, row-get, row-set, row-write, flat-length, map-set, map-getD, each-map, set-append-add, write-append-add, each-set}
+
+-- the radius and the counts
+pub radius-held : (m : Mesh) (ss : List Place) (xs : List Float) → radiusOf (laidOut m ss xs) ≡ m .radius
+unfolding laidOut
+radius-held m ss xs = refl
+
+pub verts-held : (wd : ℕ) (m : Mesh) (ss : List Place) (ys : List ℕ) → vertsOf (wordsOf wd m ss ys) ≡ m .verts
+unfolding wordsOf
+verts-held wd m ss ys = refl
+
+pub faces-held : (wd : ℕ) (m : Mesh) (ss : List Place) (ys : List ℕ) → facesOf (wordsOf wd m ss ys) ≡ m .faces
+unfolding wordsOf
+faces-held wd m ss ys = refl
 
 -- a form has at least three words per place
 at-least : {w : ℕ} → Width w → 3 ≤ w

@@ -31,7 +31,7 @@ use Rattle.machine.specs.Calls.{byTarget, needs}
 use Rattle.machine.specs.Valid.{Within, Valid}
 use Rattle.machine.proofs.Rows.{Width, Layered, formed}
 use Rattle.machine.proofs.Sixteen.{laidOut}
-use Rattle.machine.proofs.Held.{get7, status-held, coords-held, corners-held}
+use Rattle.machine.proofs.Held.{verts-held, faces-held, get7, status-held, coords-held, corners-held}
 use Rattle.machine.proofs.Sane.{no-fault}
 use Rattle.machine.proofs.Sweep.{left-held}
 use Rattle.machine.proofs.Read.{fit-afresh, There, bare-all, whole-all}
@@ -145,16 +145,14 @@ module _
   all : take 32 ts ≡ ts
   all = take-all 32 ts (rw (v .places) (omega arith))
 
-  faces-held : facesOf WS ≡ m .faces
-  unfolding wordsOf
-  faces-held = refl
-
-  verts-held : vertsOf WS ≡ m .verts
-  unfolding wordsOf
-  verts-held = refl
-
   body-held : bodyVolume (held wd FS WS (vertsOf WS) (facesOf WS)) (facesOf WS) ≡ bodyVolume (triangles m) (m .faces)
-  body-held = rw (verts-held, faces-held, coords-held wd fm m ss hs xs (v .mesh .coords), corners-held wd fm m ts (v .places) ys (v .mesh .corners)) refl
+  body-held =
+      rw (
+        verts-held wd m ts ys,
+        faces-held wd m ts ys,
+        coords-held wd fm m ss hs xs (v .mesh .coords),
+        corners-held wd fm m ts (v .places) ys (v .mesh .corners),
+      ) refl
 
   pub filled-held : heldFilled wd WS 32 ≡ length (workAll (m .radius) ts)
   filled-held = filled-to 32 (omega arith) ∙ ap (λ (l : List Place). length (workAll (m .radius) l)) all
@@ -172,7 +170,7 @@ module _
 
   read-parts : (r : Reading)
       → readingOf r (leftOf wd WS (facesOf WS) 32) (heldSeen wd FS WS) ≡ readingOf r (leftSum m ts) (freshSeen m ts)
-  read-parts r = rw (faces-held, left-held wd fm m ts v ys) (go (needsWork r) refl (ltb 0 (leftSum m ts)) refl)
+  read-parts r = rw (faces-held wd m ts ys, left-held wd fm m ts v ys) (go (needsWork r) refl (ltb 0 (leftSum m ts)) refl)
     where
       go : (b : Bool) → needsWork r ≡ b → (c : Bool) → ltb 0 (leftSum m ts) ≡ c
           → cond (b && c) (refusing r Unfinished) (answerOf r (heldSeen wd FS WS))

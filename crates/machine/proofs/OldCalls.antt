@@ -15,11 +15,12 @@ use Rattle.pieces.specs.PieceLaws.{Clean}
 use Rattle.layout.specs.Layout.{placeLimit}
 use Rattle.carry.specs.Carry.{oldWidth}
 use Rattle.machine.specs.Machine.{Provenance, Machine, putInto}
-use Rattle.machine.specs.Calls.{clear, reweigh, advance, squeeze, Store, Result, store, holding}
+use Rattle.machine.specs.Calls.{clear, reweigh, advance, squeeze, Store, Result, store, past, holding}
 use Rattle.machine.specs.OldStore.{Fitter, Old, puts, clears, reweighs, advances, squeezes, reads, pages, oldStore, oldLeaves, oldMachine, oldAfter}
 use Rattle.machine.specs.Valid.{FittedBy, Valid}
 use Rattle.machine.proofs.Rows.{width3}
-use Rattle.machine.proofs.Claim.{inner, place-in, place-out, radius-held, put-runs, clear-held, reweigh-held, advance-held, squeeze-held, put-valid, kept, held-in}
+use Rattle.machine.proofs.Held.{radius-held}
+use Rattle.machine.proofs.Claim.{inner, place-in, place-out, put-runs, clear-held, reweigh-held, advance-held, squeeze-held, put-valid, kept, held-in}
 
 -- what may fit the pieces of places that say o of them
 pub record Source (fitter : Fitter) (o : Provenance) : Type 0 where
@@ -59,7 +60,7 @@ module _ (fitter : Fitter) (o : Provenance) (source : Source fitter o) where
             → oldStore fitter (inner oldWidth m xs ys) (puts i k)
             ≡ inner oldWidth (oldMachine fitter o m (puts i k)) xs ys
         go (yes h) =
-            rw (place-in oldWidth width3 m v xs ys i h, lt-ltb i 32 h, radius-held oldWidth width3 m v xs ys)
+            rw (place-in oldWidth width3 m v xs ys i h, lt-ltb i 32 h, radius-held (m .mesh) (m .places) (past m xs))
             (put-runs oldWidth width3 m v xs ys i k (fit k) o 0 h)
         go (no h) = rw (place-out oldWidth width3 m v xs ys i (omega arith), le-ltb i 32 (omega arith)) refl
     call-in (clears i) = ap (λ (a : Result). a .runs) (clear-held oldWidth width3 m v xs ys i)

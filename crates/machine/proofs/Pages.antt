@@ -13,7 +13,6 @@ use Rattle.base.specs.Answers.{refused, printout, guardedBytes}
 use Rattle.base.specs.declared.refusal.Refusal.the-variants.{Unfinished}
 use Rattle.base.specs.declared.refusal.Checked.the-variants.{Passed, Failed}
 use Rattle.pieces.specs.declared.pieces.Pieces.{Pieces}
-use Rattle.layout.specs.Layout.{facesOf}
 use Rattle.readings.specs.Readings.{rawMass}
 use Rattle.page.specs.Page.{Row, row, pageAnswer, rowAt, heldRows, doneCheck, pageStep}
 use Rattle.machine.specs.Machine.{Mesh, Place, empty, full, leftSum}
@@ -22,7 +21,7 @@ use Rattle.machine.specs.Fresh.{fitAfresh, massOf, piecesOf, freshRow, f
 use Rattle.machine.specs.Valid.{Within, Valid}
 use Rattle.machine.proofs.Rows.{Width}
 use Rattle.machine.proofs.Sixteen.{laidOut}
-use Rattle.machine.proofs.Held.{status-held}
+use Rattle.machine.proofs.Held.{faces-held, status-held}
 use Rattle.machine.proofs.Sane.{no-fault}
 use Rattle.machine.proofs.Sweep.{left-held}
 use Rattle.machine.proofs.Read.{fit-afresh, whole-place}
@@ -72,13 +71,9 @@ module _ (wd : ℕ) (fm : Width wd) (m : Mesh) (ss : List Place) (v : Valid m ss
     rows-held : heldRows wd FS WS 32 ≡ freshRows m 0 ss
     rows-held = rows-to 32 (omega arith) ∙ ap (freshRows m 0) (take-all 32 ss (rw (v .places) (omega arith)))
 
-  faces-held : facesOf WS ≡ m .faces
-  unfolding wordsOf
-  faces-held = refl
-
   pub page-held : (bs : List ℕ) → pageStep wd FS WS bs ≡ cond (ltb 0 (leftSum m ss)) (printout (refused Unfinished) bs) (pageAfresh m ss bs)
   unfolding pageStep doneCheck pageAfresh
-  page-held bs = rw (no-fault wd fm m ss v xs ys, faces-held, left-held wd fm m ss v ys) (go (ltb 0 (leftSum m ss)) refl)
+  page-held bs = rw (no-fault wd fm m ss v xs ys, faces-held wd m ss ys, left-held wd fm m ss v ys) (go (ltb 0 (leftSum m ss)) refl)
     where
       go : (b : Bool) → ltb 0 (leftSum m ss) ≡ b → guardedBytes (cond b (Failed Unfinished) Passed) bs (pageAnswer (heldRows wd FS WS 32) bs) ≡ cond b (printout (refused Unfinished) bs) (pageAnswer (freshRows m 0 ss) bs)
       go true e = refl

@@ -30,9 +30,9 @@ use Rattle.machine.specs.Rewriting.{anew, restarted, Rewritten, Rewritin
 use Rattle.machine.specs.Valid.{Within, Shape, Valid}
 use Rattle.machine.proofs.Rows.{width4, layered4, set-append-add}
 use Rattle.machine.proofs.Sixteen.{laidOut, laid-out}
-use Rattle.machine.proofs.Held.{coords-held, corners-held}
+use Rattle.machine.proofs.Held.{radius-held, verts-held, faces-held, coords-held, corners-held}
 use Rattle.machine.proofs.Sane.{no-fault}
-use Rattle.machine.proofs.Written.{puts-held, radius-held, verts-held, faces-held, written-held}
+use Rattle.machine.proofs.Written.{puts-held, written-held}
 use Rattle.machine.proofs.Claim.{held-in}
 use Rattle.machine.proofs.Refused.{loose-below}
 use Rattle.machine.proofs.Loading.{putsRow, puts-tests, scripted-valid, loaded}
@@ -247,15 +247,15 @@ module _ (m : Machine) (v : Valid (m .mesh) (m .places)) where
     script-is =
         let g = m .mesh in
         let ss = m .places in
-        let a = verts-held width layered4 g ss v (past m exF) exW in
-        let b = faces-held width layered4 g ss v (past m exF) exW in
+        let a = verts-held width g ss exW in
+        let b = faces-held width g ss exW in
         let x = ap (λ (n : ℕ). take (3 * n) (drop coordsFrom FS)) a
         ∙ coords-held width width4 g ss (v .places) (past m exF) (v .mesh .coords) in
         let y = ap (λ (n : ℕ). take (3 * n) (drop (cornersFrom width) WS)) b
         ∙ corners-held width width4 g ss (v .places) exW (v .mesh .corners) in
         let p = puts-held width layered4 g ss v (past m exF) exW in
         λ i. record {
-          radius = radius-held width layered4 g ss v (past m exF) exW i;
+          radius = radius-held g ss (past m exF) i;
           verts = a i;
           faces = b i;
           coords = x i;

@@ -12,14 +12,14 @@ use borrow.Author.Tests.{lt-ltb, le-leb, eq-eqb, ne-eqb, eqb-true, eqb-false}
 use Rattle.base.specs.Loops.{every}
 use Rattle.base.specs.declared.refusal.Checked.the-variants.{Passed}
 use Rattle.mesh.specs.Checks.{vertexLimit, faceLimit}
-use Rattle.layout.specs.Layout.{coordsFrom, cornersFrom, facesOf}
+use Rattle.layout.specs.Layout.{coordsFrom, cornersFrom}
 use Rattle.layout.specs.Soundness.{longEnough, placeSound, layerSound, placeSoundAt, sound, storeCheck}
 use Rattle.machine.specs.Machine.{Mesh, Place, empty, full}
 use Rattle.machine.specs.Holding.{placeRow, wordsOf}
 use Rattle.machine.specs.Valid.{Within, Valid}
 use Rattle.machine.proofs.Rows.{Width, width3, width4}
 use Rattle.machine.proofs.Sixteen.{laidOut}
-use Rattle.machine.proofs.Held.{status-held, finished-held, done-held, layer-held, words-long, floats-long, corners-held}
+use Rattle.machine.proofs.Held.{faces-held, status-held, finished-held, done-held, layer-held, words-long, floats-long, corners-held}
 
 -- the words of n pieces, f faces and p steps are sound
 steps-sound : (n f p : ℕ) → n ≤ 16 → p ≤ n * f → placeSound (1 + n) (cond (eqb f 0) n (p / f)) (p % f) f ≡ true
@@ -66,10 +66,6 @@ layer-sound width4 m empty h = refl
 layer-sound width4 m (full k fit o p l) h = rw (ne-eqb (1 + fit .count) 0 (λ e. omega arith), lt-ltb l 16 (h .layer)) refl
 
 module _ (wd : ℕ) (fm : Width wd) (m : Mesh) (ss : List Place) (v : Valid m ss) (xs : List Float) (ys : List ℕ) where
-  faces-held : facesOf (wordsOf wd m ss ys) ≡ m .faces
-  unfolding wordsOf
-  faces-held = refl
-
   places-sound : (n : ℕ) → n ≤ 32 → every (placeSoundAt wd (wordsOf wd m ss ys)) n ≡ true
   unfolding every placeSoundAt
   places-sound zero h = refl
@@ -80,7 +76,7 @@ module _ (wd : ℕ) (fm : Width wd) (m : Mesh) (ss : List Place) (v : Valid m ss
         finished-held wd fm m ss (v .places) ys n h,
         done-held wd fm m ss (v .places) ys n h,
         layer-held wd fm m ss (v .places) ys n h,
-        faces-held,
+        faces-held wd m ss ys,
         place-sound wd m (getD ss n empty) (v .within n),
         layer-sound fm m (getD ss n empty) (v .within n),
       ) refl

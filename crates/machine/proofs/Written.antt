@@ -11,7 +11,7 @@ use lib.Ieee.{Float, nan}
 use borrow.Author.Tests.{ne-eqb}
 use Rattle.kernel.specs.declared.kernel.Kernel.{Kernel}
 use Rattle.pieces.specs.declared.pieces.Pieces.{Pieces}
-use Rattle.layout.specs.Layout.{placeLimit, radiusOf, kernelFrom, coordsFrom, cornersFrom, vertsOf, facesOf, statusOf, layerOf}
+use Rattle.layout.specs.Layout.{placeLimit, kernelFrom, coordsFrom, cornersFrom, vertsOf, facesOf, statusOf, layerOf}
 use Rattle.text.specs.Form.{Vals, print, _&_}
 use Rattle.script.specs.Lines.{openLine, vertLine, faceLine, putLine}
 use Rattle.script.specs.Written.{rows, vertAt, faceAt, putAt, vertRows, faceRows, putRow, putRows, linesOf, written, textAnswer, writeStep}
@@ -22,7 +22,7 @@ use Rattle.machine.specs.Lines.{vertLines, faceLines, putValues, putsOf,
 use Rattle.machine.specs.Valid.{Valid}
 use Rattle.machine.proofs.Rows.{Width, Layered, layered4, formed}
 use Rattle.machine.proofs.Sixteen.{laidOut}
-use Rattle.machine.proofs.Held.{get7, status-held, layer-held, coords-held, corners-held, words-long, floats-long}
+use Rattle.machine.proofs.Held.{radius-held, verts-held, faces-held, get7, status-held, layer-held, coords-held, corners-held, words-long, floats-long}
 use Rattle.machine.proofs.Sane.{no-fault}
 
 -- ---- a line to three words
@@ -126,22 +126,10 @@ module _ (wd : ℕ) (ly : Layered wd) (m : Mesh) (ss : List Place) (v : Valid m 
       ∙ puts-of ss 0 (omega (arith, v .places)) (λ j h. rw (zero-add j) refl)
 
   -- ---- the whole
-  pub radius-held : radiusOf FS ≡ m .radius
-  unfolding laidOut
-  radius-held = refl
-
-  pub verts-held : vertsOf WS ≡ m .verts
-  unfolding wordsOf
-  verts-held = refl
-
-  pub faces-held : facesOf WS ≡ m .faces
-  unfolding wordsOf
-  faces-held = refl
-
   verts-written : vertRows FS (vertsOf WS) 0 ≡ vertLines (m .coords)
   unfolding vertRows
   verts-written =
-      ap (λ (n : ℕ). rows vertLine (vertAt FS) n 0) verts-held
+      ap (λ (n : ℕ). rows vertLine (vertAt FS) n 0) (verts-held wd m ss ys)
       ∙ (verts-are FS (m .verts) 0 (omega (arith, floats-long wd fm m ss (v .places) xs (v .mesh .coords)))
       ∙ ap vertLines (coords-held wd fm m ss (v .places) xs (v .mesh .coords)))
 
@@ -150,7 +138,7 @@ module _ (wd : ℕ) (ly : Layered wd) (m : Mesh) (ss : List Place) (v : Valid m 
   faces-written =
       let n : cornersFrom wd + 3 * (0 + m .faces) ≤ length WS
       = omega (arith, words-long wd fm m ss (v .places) ys (v .mesh .corners)) in
-      ap (λ (n : ℕ). rows faceLine (faceAt wd WS) n 0) faces-held
+      ap (λ (n : ℕ). rows faceLine (faceAt wd WS) n 0) (faces-held wd m ss ys)
       ∙ (faces-are wd WS (m .faces) 0 n
       ∙ (ap (λ (j : ℕ). faceLines (take (3 * m .faces) (drop j WS))) (add-zero (cornersFrom wd))
       ∙ ap faceLines (corners-held wd fm m ss (v .places) ys (v .mesh .corners))))
@@ -160,7 +148,7 @@ module _ (wd : ℕ) (ly : Layered wd) (m : Mesh) (ss : List Place) (v : Valid m 
   written-held =
       let p = puts-printed wd FS WS placeLimit 0 ∙ ap putLines puts-held in
       λ i.
-      print openLine (radius-held i & verts-held i & faces-held i & tt)
+      print openLine (radius-held m ss xs i & verts-held wd m ss ys i & faces-held wd m ss ys i & tt)
       ++ (verts-written i ++ (faces-written i ++ p i))
 
   pub lines-held : (bs : List ℕ) → writeStep wd FS WS bs ≡ textAnswer (machineLines m ss) bs

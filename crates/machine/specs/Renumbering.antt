@@ -36,7 +36,7 @@ pub record Agree (q : ℕ) (a b : After) : Type 0 where
   pub calls : (cs : List Call) → heardOf numberless q (leaving a) cs ≡ heardOf numberless q (leaving b) cs
 
 -- ---- "both openings are accepted with the same radius": r, in runs fs, ws and gs, us, whatever was in them. "demand
--- 3's premises hold for each store": they are in `answers`, whose first call gets what the accepted opening left;
+-- 3's premises hold for each store": they are in `heardOf`, whose first call gets what the accepted opening left;
 -- nothing else is asked
 abbrev pub Renumbering : Type 0
 Renumbering =
