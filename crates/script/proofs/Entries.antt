@@ -27,8 +27,8 @@ module _ (s : List ℕ) (at e : ℕ) (p : rest s e ≡ literal (bytes "))") (res
       ∙ (λ i. ends (rest s at) (sym (rest-in s e h) i))
       ∙ (λ i. ends (rest s at) (p i))
 
-  pub second-end : length s < e → {n u : ℕ}
+  pub second-end : length s < e → (n u : ℕ)
       → let d = decimal (2 ^ 32 - 1) (literal (bytes ") (layer ") (rest s at)) in
       got s n u ≡ record { val = d .val; text = literal (bytes "))") (d .text) }
       → got s n u ≡ map layerNamed (read (either putEnd layerEnd end) (rest s at))
-  second-end h q = q ∙ (λ i. ends (rest s at) (sym (rest-out s e h) i)) ∙ (λ i. ends (rest s at) (p i))
+  second-end h n u q = q ∙ (λ i. ends (rest s at) (sym (rest-out s e h) i)) ∙ (λ i. ends (rest s at) (p i))

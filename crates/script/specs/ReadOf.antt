@@ -77,7 +77,7 @@ abbrev pub layerIn : Vals putLine → ℕ
 layerIn v = layerNamed (v .1 .1 .1 .1 .1 .1 .1)
 
 -- all that a put line says
-abbrev pub entryIn : Vals putLine → ℕ × Float × Float × Float × Float × Float × Float × ℕ × Unit {0}
+abbrev pub entryIn : Vals putLine → ℕ × (Float × (Float × (Float × (Float × (Float × (Float × (ℕ × Unit {0})))))))
 entryIn v =
     placeIn v & v .1 .0 & v .1 .1 .0 & v .1 .1 .1 .0 & v .1 .1 .1 .1 .0 & v .1 .1 .1 .1 .1 .0 & v .1 .1 .1 .1 .1 .1 .0
     & layerIn v & tt

@@ -110,8 +110,8 @@ module _ (fs : List Float) (ws s : List ℕ) (r : Float) (v f n h : ℕ) where
   abbrev K : Got (List (Vals faceLine))
   K = linesFrom faceLine f (X .text)
 
-  abbrev V : List (Vals putLine)
-  V = linesFrom putLine n (K .text) .val
+  abbrev PS : List (Vals putLine)
+  PS = linesFrom putLine n (K .text) .val
 
   abbrev F : List Float
   F = write fs 0 (openFloats r (coordsIn (X .val)))
@@ -123,20 +123,20 @@ module _ (fs : List Float) (ws s : List ℕ) (r : Float) (v f n h : ℕ) where
     pub floats : coordsFrom + 3 * v ≤ length fs
     pub words : cornersFrom width + 3 * f ≤ length ws
     pub sound : storeCheck width F W ≡ Passed
-    pub places : placesIn V ≡ true
-    pub layers : layersIn V ≡ true
-    pub left-floats : putsOn width V (after done F W) .floats ≡ played width fs ws (scriptFrom s r v f n h) .floats
-    pub left-words : putsOn width V (after done F W) .words ≡ played width fs ws (scriptFrom s r v f n h) .words
+    pub places : placesIn PS ≡ true
+    pub layers : layersIn PS ≡ true
+    pub left-floats : putsOn width PS (after done F W) .floats ≡ played width fs ws (scriptFrom s r v f n h) .floats
+    pub left-words : putsOn width PS (after done F W) .words ≡ played width fs ws (scriptFrom s r v f n h) .words
 
   pub loads : scriptCheck width (scriptFrom s r v f n h) (length fs) (length ws) ≡ Passed → Loads
   unfolding scriptFrom
   loads e =
-      let d = saying r v f (rest s h) (X .text) V in
+      let d = saying r v f (rest s h) (X .text) PS in
       let ex = coords-count v (rest s h) in
       let ek = corners-count f (X .text) in
-      let b = passed-both (openCheck width (length (d .coords)) (d .corners) (length fs) (length ws)) (putsCheck V) e in
+      let b = passed-both (openCheck width (length (d .coords)) (d .corners) (length fs) (length ws)) (putsCheck PS) e in
       let o = open-passes width (length (d .coords)) (d .corners) (length fs) (length ws) (b .0) in
-      let t = put-tests V (b .1) in
+      let t = put-tests PS (b .1) in
       let p = played-as width d ex ek fs ws e in
       record {
         floats = omega (arith, ex, o .floats);

@@ -30,6 +30,9 @@ use text::write::write_bytes;
 use text::write::write_number;
 use text::write::write_real;
 
+// A place's layer, the last word of its record, stands at LAYER + WIDTH * i.
+const LAYER: usize = 5;
+
 // (open (radius h) (verts V) (faces F))
 fn write_open(out: &mut [u8], at: usize, radius: f64, verts: u32, faces: u32) -> usize
     requires { ⌜ at + 51 + decimalLength verts + decimalLength faces ≤ length (now out) ⌝ }
@@ -154,7 +157,7 @@ fn write_row(out: &mut [u8], at: usize, floats: &[f64], words: &[u32], i: usize)
     if words[STATE + WIDTH * i] == 0 {
         return at;
     }
-    write_put(out, at, i as u32, words[STATE + WIDTH * i + 3], floats)
+    write_put(out, at, i as u32, words[LAYER + WIDTH * i], floats)
 }
 
 // The lines of all places.
@@ -180,7 +183,7 @@ fn row_length(words: &[u32], i: usize) -> usize
     if words[STATE + WIDTH * i] == 0 {
         return 0;
     }
-    142 + decimal_length(i as u64) + decimal_length(words[STATE + WIDTH * i + 3] as u64)
+    142 + decimal_length(i as u64) + decimal_length(words[LAYER + WIDTH * i] as u64)
 }
 
 // The bytes of all places' lines.

@@ -2,22 +2,26 @@
 use mathlib.Core.Path.{_∙_}
 use Prim.Native.Nat.{_-_, _^_}
 use native.Mathlib.Omega.{arith}
-use borrow.Author.Needs.{needs}
 use Rattle.text.specs.Text.{bytes, literal, decimal}
 use Rattle.script.proofs.Entries.{first-end, second-end}
+use borrow.Author.Needs.{needs}
 use Rattle.script.proofs.lines.read_layer.Statement.{statement}
 use Rattle.script.proofs.lines.read_layer.Tie as tie
 
 returns : tie.Need-returns
-returns c = first-end (c .before .before .args .s .now) (c .before .before .args .at) (c .before .read-bytes .result) (c .before .read-bytes .ensures) (c .if1 .taken)
+returns c =
+    let a = c .before .before .before .before .args in
+    let b = c .before .read-bytes in
+    first-end (a .s .now) (a .at) (b .result) (b .ensures) (c .if1 .taken)
 
 returns-2 : tie.Need-returns-2
 returns-2 c =
-    let b = c .before .before .before .before .read-bytes in
+    let a = c .before .before .before .before .before .before .before .before .before .args in
+    let b = c .before .before .before .before .before .before .read-bytes in
     let w = c .before .before .before .read-bytes2 .ensures in
     let n = c .before .before .read-u32 .ensures ∙ (λ i. decimal (2 ^ 32 - 1) (w i)) in
     let e = c .read-bytes3 .ensures ∙ (λ i. literal (bytes "))") (n i .text)) in
-    second-end (c .before .before .before .before .before .args .s .now) (c .before .before .before .before .before .args .at) (b .result) (b .ensures) (omega (arith, c .before .before .before .before .if1 .left)) (λ i. record { val = n i .val; text = e i })
+    second-end (a .s .now) (a .at) (b .result) (b .ensures) (c .before .before .before .before .before .if1 .left) _ _ (λ i. record { val = n i .val; text = e i })
 
 pub read-layer-spec : {M : Type 1} → statement M
 read-layer-spec =

@@ -39,10 +39,10 @@ returns c =
 
 loop-again : tie.Need-loop-again Inv-loop μ-loop
 loop-again c =
-    let a = c .before .before .before .before .before .before .args in
-    let l = c .before .before .before .before .loop in
-    let p = c .before .read-put in
-    let t = rest-cons (a .s .now) (l .k) (c .before .before .before .loop-test .taken) in
+    let a = c .before .before .before .before .before .before .before .args in
+    let l = c .before .before .before .before .before .loop in
+    let p = c .before .before .read-put in
+    let t = rest-cons (a .s .now) (l .k) (c .before .before .before .before .loop-test .taken) in
     let b = getD (a .s .now) (l .k) 0 in
     let m = drop (suc (l .k)) (a .s .now) in
     let n = p .ensures ∙ (λ j. record { val = entryIn (read putLine (t j) .val); text = read putLine (t j) .text }) in

@@ -36,26 +36,26 @@ mul-j c = search needs
 add-j : tie.Need-add-j Inv-loop μ-loop
 add-j c = search needs
 
-mul-f : tie.Need-mul-f Inv-loop μ-loop
-mul-f c = search needs
+mul-floats : tie.Need-mul-floats Inv-loop μ-loop
+mul-floats c = search needs
 
 slice-write-floats : tie.Need-slice-write-floats Inv-loop μ-loop
 slice-write-floats c = search needs
 
-add-f : tie.Need-add-f Inv-loop μ-loop
-add-f c = search needs
+add-floats : tie.Need-add-floats Inv-loop μ-loop
+add-floats c = search needs
 
-mul-f-2 : tie.Need-mul-f-2 Inv-loop μ-loop
-mul-f-2 c = search needs
+mul-floats-2 : tie.Need-mul-floats-2 Inv-loop μ-loop
+mul-floats-2 c = search needs
 
 slice-write-floats-2 : tie.Need-slice-write-floats-2 Inv-loop μ-loop
 slice-write-floats-2 c = simp length-set (omega arith)
 
-add-f-2 : tie.Need-add-f-2 Inv-loop μ-loop
-add-f-2 c = search needs
+add-floats-2 : tie.Need-add-floats-2 Inv-loop μ-loop
+add-floats-2 c = search needs
 
-mul-f-3 : tie.Need-mul-f-3 Inv-loop μ-loop
-mul-f-3 c = search needs
+mul-floats-3 : tie.Need-mul-floats-3 Inv-loop μ-loop
+mul-floats-3 c = search needs
 
 slice-write-floats-3 : tie.Need-slice-write-floats-3 Inv-loop μ-loop
 slice-write-floats-3 c = simp length-set (omega arith)
@@ -96,13 +96,13 @@ load-verts-spec =
     read-vert-requires
     mul-j
     add-j
-    mul-f
+    mul-floats
     slice-write-floats
-    add-f
-    mul-f-2
+    add-floats
+    mul-floats-2
     slice-write-floats-2
-    add-f-2
-    mul-f-3
+    add-floats-2
+    mul-floats-3
     slice-write-floats-3
     add-i
     loop-less

@@ -16,7 +16,7 @@ use Rattle.script.proofs.write.faces_length.Statement.{statement}
 use Rattle.script.proofs.write.faces_length.Tie as tie
 
 abbrev Inv-loop : tie.InvT-loop
-Inv-loop w n sum₀ i₀ sum i = (i ≤ n) × (sum ≤ 40 * i) × (sum + length (faceRows width w (n - i) i) ≡ length (faceRows width w n 0))
+Inv-loop w n sum₀ i₀ sum i = (i ≤ n) × (sum ≤ 70 * i) × (sum + length (faceRows width w (n - i) i) ≡ length (faceRows width w n 0))
 
 abbrev μ-loop : tie.MeasureT-loop
 μ-loop w n sum₀ i₀ sum i = n - i

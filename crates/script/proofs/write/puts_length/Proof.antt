@@ -14,7 +14,7 @@ use Rattle.script.proofs.write.puts_length.Statement.{statement}
 use Rattle.script.proofs.write.puts_length.Tie as tie
 
 abbrev Inv-loop : tie.InvT-loop
-Inv-loop w sum₀ i₀ sum i = (i ≤ 32) × (sum ≤ 143 * i) × ((fs : List Float) → sum + length (putRows width fs w (32 - i) i) ≡ length (putRows width fs w 32 0))
+Inv-loop w sum₀ i₀ sum i = (i ≤ 32) × (sum ≤ 182 * i) × ((fs : List Float) → sum + length (putRows width fs w (32 - i) i) ≡ length (putRows width fs w 32 0))
 
 abbrev μ-loop : tie.MeasureT-loop
 μ-loop w sum₀ i₀ sum i = 32 - i

@@ -1,55 +1,42 @@
-use mathlib.Core.Path.{_≡_, refl, sym, ap, subst, _∙_}
-use mathlib.Core.List.{List, [], _∷_, _++_}
-use Prim.Native.Nat.{ℕ, suc, _+_, _*_, _-_, _≤_, _<_, _%_}
+-- A filled place's line by its numbers' digits. Assumes nothing.
+use mathlib.Core.Path.{sym, ap}
+use Prim.Native.Nat.{_+_, _*_}
 use native.Mathlib.Omega.{arith}
 use lib.ListN.{length}
-use lib.Seq.{sets}
 use Rattle.layout.specs.Layout.{width}
 use Rattle.script.specs.LineLaws.{row-empty, row-bytes}
 use borrow.Author.Needs.{needs}
 use Rattle.script.proofs.write.row_length.Statement.{statement}
 use Rattle.script.proofs.write.row_length.Tie as tie
 
-mul-if1 : tie.Need-mul-if1
-mul-if1 c = search needs
-
-add-if1 : tie.Need-add-if1
-add-if1 c = search needs
-
-mul-if1-2 : tie.Need-mul-if1-2
-mul-if1-2 c = search needs
-
-shared-slice-read-if1 : tie.Need-shared-slice-read-if1
-shared-slice-read-if1 c = search needs
-
 returns : tie.Need-returns
-returns c = (omega arith, λ fs. sym (ap length (row-empty width fs (c .before .before .before .args .words .now) (c .before .before .before .args .i) (c .if1 .taken))))
-
-cast-decimal-length : tie.Need-cast-decimal-length
-cast-decimal-length c = search needs
-
-decimal-length-requires : tie.Need-decimal-length-requires
-decimal-length-requires c κs = search needs
-
-add-result : tie.Need-add-result
-add-result c = search needs
+returns c =
+    let a = c .before .before .before .args in
+    (omega arith, λ fs. sym (ap length (row-empty width fs (a .words .now) (a .i) (c .if1 .taken))))
 
 returns-2 : tie.Need-returns-2
-returns-2 c = 
-    let a = c .before .before .before .before .args in
-    let d = c .decimal-length .ensures in
-    (omega (arith, d .1), λ fs. omega (arith, d .0, row-bytes width fs (a .words .now) (a .i) (c .before .if1 .left)))
+returns-2 c =
+    let a = c .before .before .before .before .before .before .args in
+    let d = c .before .before .decimal-length .ensures in
+    let e = c .decimal-length2 .ensures in
+    (omega (arith, d .1, e .1), λ fs. omega (arith, d .0, e .0, row-bytes width fs (a .words .now) (a .i) (c .before .before .before .if1 .left)))
 
 pub row-length-spec : {M : Type 1} → statement M
 row-length-spec =
     tie.close
     (tie.spec
-    mul-if1
-    add-if1
-    mul-if1-2
-    shared-slice-read-if1
+    (λ c. search needs)
+    (λ c. search needs)
+    (λ c. search needs)
+    (λ c. search needs)
     returns
-    cast-decimal-length
-    decimal-length-requires
-    add-result
+    (λ c κs. search needs)
+    (λ c. search needs)
+    (λ c. search needs)
+    (λ c. search needs)
+    (λ c. search needs)
+    (λ c. search needs)
+    (λ c. omega (arith, c .shared-slice-known3 .given (5 + 4 * c .before .before .before .before .before .args .i)))
+    (λ c κs. search needs)
+    (λ c. search needs)
     returns-2)

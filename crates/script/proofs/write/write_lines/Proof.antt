@@ -8,6 +8,8 @@ use Rattle.text.specs.WriteLaws.{then}
 use Rattle.layout.specs.Layout.{width}
 use Rattle.script.specs.Written.{linesOf}
 use Rattle.script.specs.LineLaws.{lines-bytes}
+use denote.Ref.{now}
+use Rattle.layout.specs.RunLaws.{sets-write}
 use borrow.Author.Needs.{needs}
 use Rattle.script.proofs.write.write_lines.Statement.{statement}
 use Rattle.script.proofs.write.write_lines.Tie as tie
@@ -32,7 +34,10 @@ same-length c = search needs
 
 returns : tie.Need-returns
 unfolding linesOf
-returns c = then (c .before .before .before .before .before .before .before .before .before .before .before .before .before .before .write-open .ensures .1) (then (c .before .before .before .before .before .before .before .before .before .before .write-verts .ensures .1) (then (c .before .before .before .before .before .before .write-faces .ensures) (c .before .before .write-puts .ensures))) .run
+returns c =
+    let a = c .before .before .before .before .before .before .before .before .before .before .before .before .before .before .before .before .before .before .before .before .args in
+    then (c .before .before .before .before .before .before .before .before .before .before .before .before .before .before .write-open .ensures .1) (then (c .before .before .before .before .before .before .before .before .before .before .write-verts .ensures .1) (then (c .before .before .before .before .before .before .write-faces .ensures) (c .before .before .write-puts .ensures))) .run
+    ∙ sets-write (linesOf width (a .floats .now) (a .words .now) (a .verts) (a .faces)) (now (a .out)) 0 (omega (arith, c .before .before .before .before .before .before .before .before .before .before .before .before .before .before .before .before .before .before .before .before .pre .0))
 
 pub write-lines-spec : {M : Type 1} → statement M
 write-lines-spec =
