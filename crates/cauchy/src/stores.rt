@@ -29,7 +29,7 @@ ghost use Rattle.base.specs.Answers.{printedAs};
 ghost use Rattle.page.specs.Page.{pageStep};
 ghost use Rattle.cauchy.specs.Volumes.{valueFrom};
 ghost use Rattle.cauchy.specs.Crossing.{lent, lentFrom, numberFrom};
-ghost use Rattle.cauchy.specs.StoreCrossing.{crossed, across, openedFrom, placedFrom, stepsFrom, squeezedFrom, conventionOf, reportFrom, finishedFrom, listedFrom, trackFrom, bytesFrom, pinnedFrom};
+ghost use Rattle.cauchy.specs.StoreCrossing.{crossed, across, openedFrom, placedFrom, stepsFrom, squeezedFrom, conventionOf, reportFrom, finishedFrom, listedFrom, trackFrom, bytesFrom, printedFrom};
 use crate::kernels::CauchyFit;
 use crate::kernels::fit_of;
 use crate::kernels::no_fit;
@@ -490,7 +490,7 @@ pub extern "C" fn cauchy_store_track(
     ))
 }
 
-fn bytes_of(d: Printed) -> CauchyBytes
+pub fn bytes_of(d: Printed) -> CauchyBytes
     ensures { λ r. ⌜ r ≡ bytesFrom (printedAs d) ⌝ }
 {
     match d {
@@ -505,7 +505,7 @@ fn bytes_of(d: Printed) -> CauchyBytes
 // Writes the wall page of a store with no work left: 4, 5, 8, 17 or 18. Bytes of `out` past it stay.
 #[no_mangle]
 pub extern "C" fn cauchy_store_page(floats: &[f64], words: &[u32], out: &mut [u8]) -> CauchyBytes
-    ensures { λ r. ⌜ lent r (now (out .exit)) ≡ pinnedFrom (pageStep width (now (floats .entry)) (now (words .entry)) (now (out .entry))) ⌝ }
+    ensures { λ r. ⌜ lent r (now (out .exit)) ≡ printedFrom (pageStep width (now (floats .entry)) (now (words .entry)) (now (out .entry))) ⌝ }
 {
     bytes_of(page(floats, words, out))
 }

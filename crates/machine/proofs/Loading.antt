@@ -20,7 +20,7 @@ use Rattle.store.specs.Calls.{openStep}
 use Rattle.text.specs.Text.{Text, lost, left}
 use Rattle.text.specs.Form.{Vals}
 use Rattle.script.specs.Lines.{putLine}
-use Rattle.script.specs.ReadOf.{placeIn, layerIn, Script, readOf, putOn, putsOn, formCheck, placesIn, layersIn, putsCheck, scriptCheck, readStep}
+use Rattle.script.specs.ReadOf.{placeIn, layerIn, Script, readOf, putOn, putsOn, formCheck, placesIn, layersIn, putsCheck, scriptCheck, loadStep}
 use Rattle.machine.specs.Machine.{Machine, leftSum, opened, openRow}
 use Rattle.machine.specs.Holding.{excessF, excessW}
 use Rattle.machine.specs.Calls.{machine, Store, store, leaves, after-all, holding, without, heard}
@@ -155,15 +155,15 @@ module _ (wd : ℕ) (ly : Layered wd) (fs : List Float) (ws : List ℕ) where
     n = linesRow (readOf s .text) wd d (length fs) (length ws)
 
     played-on : n ≡ 0
-        → (readStep wd fs ws s .reply ≡ counted (d .verts ∷ d .faces ∷ length (d .puts) ∷ []))
-        × (leaving (readStep wd fs ws s)
+        → (loadStep wd fs ws s .reply ≡ counted (d .verts ∷ d .faces ∷ length (d .puts) ∷ []))
+        × (leaving (loadStep wd fs ws s)
         ≡ leaves wd (leaving (openStep wd fs ws (d .radius) (d .coords) (d .corners))) (map putCall (d .puts)))
-    unfolding readStep
+    unfolding loadStep
     played-on h =
         rw (lines-row (readOf s .text) wd d (length fs) (length ws) .none h)
         (refl, puts-called wd (d .puts) (openStep wd fs ws (d .radius) (d .coords) (d .corners)))
 
-    pub loaded : n ≡ 0 → Loaded wd fs ws s d (readStep wd fs ws s)
+    pub loaded : n ≡ 0 → Loaded wd fs ws s d (loadStep wd fs ws s)
     loaded h =
         let o = opens-too (readOf s .text) wd d (length fs) (length ws) h in
         let e = played-on h in
@@ -184,8 +184,8 @@ module _ (wd : ℕ) (ly : Layered wd) (fs : List Float) (ws : List ℕ) where
               (unaltered wd ly f w (scripted d) v cs);
         }
 
-    not-loaded : 0 < n → readStep wd fs ws s ≡ after (refusedBy n) fs ws
-    unfolding readStep
+    not-loaded : 0 < n → loadStep wd fs ws s ≡ after (refusedBy n) fs ws
+    unfolding loadStep
     not-loaded h = lines-row (readOf s .text) wd d (length fs) (length ws) .some h fs ws _
 
     pub loads : Loads wd fs ws s

@@ -19,7 +19,7 @@ use Rattle.pieces.specs.PieceLaws.{same-pieces}
 use Rattle.layout.specs.Layout.{width, coordsFrom, cornersFrom}
 use Rattle.text.specs.Text.{left, Got}
 use Rattle.script.specs.Written.{written}
-use Rattle.script.specs.ReadOf.{kernelIn, placesIn, layersIn, Script, readOf, readStep}
+use Rattle.script.specs.ReadOf.{kernelIn, placesIn, layersIn, Script, readOf, loadStep}
 use Rattle.script.specs.RoundTrip.{scriptOf, Floats, read-written}
 use Rattle.machine.specs.Machine.{Mesh, own, Place, empty, full, leftSum, need, Machine, opened, shortRow, openRow}
 use Rattle.machine.specs.Holding.{floats7, floats48, cells, floatsOf, placeRow, wordsOf, excessF, excessW}
@@ -295,7 +295,7 @@ module _ (m : Machine) (v : Valid (m .mesh) (m .places)) where
             let e : putsRow (putsOf 0 (m .places)) ≡ 0 = puts-tests (putsOf 0 (m .places)) ∙ rw (g .0, g .1) refl in
             rw (opens, e) refl
 
-        holds-scripted : leaving (readStep width fs ws text) ≡ holding width (scripted said) newF newW
+        holds-scripted : leaving (loadStep width fs ws text) ≡ holding width (scripted said) newF newW
         holds-scripted =
             let n = ap (λ (g : Got Script). linesRow (g .text) width (g .val) (length fs) (length ws)) read-again in
             let s : Script → Store

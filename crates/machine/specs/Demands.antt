@@ -23,7 +23,7 @@ use Rattle.carry.specs.Carry.{oldWidth, carryStep}
 use Rattle.text.specs.Text.{Text, lost, left}
 use Rattle.text.specs.Form.{Vals}
 use Rattle.script.specs.Lines.{putLine}
-use Rattle.script.specs.ReadOf.{placeIn, kernelIn, layerIn, Script, readOf, readStep}
+use Rattle.script.specs.ReadOf.{placeIn, kernelIn, layerIn, Script, readOf, loadStep}
 use Rattle.readings.specs.Readings.{Reading, report, sixes}
 use Rattle.readings.specs.Finished.{beside}
 use Rattle.density.specs.declared.convention.Convention.{Convention}
@@ -270,10 +270,10 @@ pub record Loaded (q : ℕ) (fs : List Float) (ws : List ℕ) (s : List ℕ) (d 
 
 pub record Loads (q : ℕ) (fs : List Float) (ws : List ℕ) (s : List ℕ) : Type 0 where
   pub refused-as : 0 < linesRow (readOf s .text) q (readOf s .val) (length fs) (length ws)
-      → readStep q fs ws s
+      → loadStep q fs ws s
       ≡ after (refusedBy (linesRow (readOf s .text) q (readOf s .val) (length fs) (length ws))) fs ws
   pub accepted : linesRow (readOf s .text) q (readOf s .val) (length fs) (length ws) ≡ 0
-      → Loaded q fs ws s (readOf s .val) (readStep q fs ws s)
+      → Loaded q fs ws s (readOf s .val) (loadStep q fs ws s)
 
 -- ---- demand 3, at the width that the contracts have: of every opening, of every carry of a store that an accepted
 -- opening of the old form and any calls on it left, and of every text that a store is read from

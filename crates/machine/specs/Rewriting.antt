@@ -10,7 +10,7 @@ use lib.Ieee.{Float, nan, binary64, fits}
 use Rattle.layout.specs.Layout.{width}
 use Rattle.pieces.specs.Pieces.{decomposed}
 use Rattle.script.specs.Written.{written}
-use Rattle.script.specs.ReadOf.{readStep}
+use Rattle.script.specs.ReadOf.{loadStep}
 use Rattle.machine.specs.Machine.{own, Place, empty, full, Machine, leftSum, shortRow}
 use Rattle.machine.specs.Holding.{excessF, excessW}
 use Rattle.machine.specs.Valid.{Valid}
@@ -30,11 +30,11 @@ restarted m =
 
 -- what the lines of a store s that holds the machine m give, read into runs fs and ws, whatever was in them
 pub record Rewritten (m : Machine) (s : Store) (fs : List Float) (ws : List ℕ) : Type 0 where
-  pub holds : leaving (readStep width fs ws (written width (s .floats) (s .words)))
+  pub holds : leaving (loadStep width fs ws (written width (s .floats) (s .words)))
       ≡ holding width (restarted m) (excessF (m .mesh .coords) fs) (excessW width (m .mesh .corners) ws)
   -- "yields them byte for byte"
   pub again :
-      let t = leaving (readStep width fs ws (written width (s .floats) (s .words))) in
+      let t = leaving (loadStep width fs ws (written width (s .floats) (s .words))) in
       written width (t .floats) (t .words) ≡ written width (s .floats) (s .words)
 
 -- ---- of every store that holds a machine, as demand 3 says of each that an opening, a carry or lines and any calls led to;

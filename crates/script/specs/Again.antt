@@ -21,7 +21,8 @@ use Rattle.base.specs.declared.refusal.Checked.the-variants.{Passed, Failed}
 use Rattle.mesh.specs.Checks.{vertexLimit, faceLimit, allBelow, meshCheck}
 use Rattle.pieces.specs.Pieces.{decomposed}
 use Rattle.layout.specs.Layout.{width, placeLimit, layerLimit, radiusOf, kernelFrom, coordsFrom, stateFrom, cornersFrom, cornersOf, vertsOf, facesOf, statusOf, layerOf}
-use Rattle.layout.specs.Soundness.{every, longEnough, placeSoundAt, sound, storeCheck}
+use Rattle.base.specs.Loops.{every}
+use Rattle.layout.specs.Soundness.{longEnough, placeSoundAt, sound, storeCheck}
 use Rattle.layout.specs.SoundLaws.{both, Fine, fine}
 use Rattle.layout.specs.After.{After}
 use Rattle.store.specs.Calls.{openCheck}
@@ -30,7 +31,7 @@ use Rattle.text.specs.Text.{Got}
 use Rattle.text.specs.Form.{Form, Vals, print, _&_}
 use Rattle.script.specs.Lines.{vertLine, faceLine, putLine}
 use Rattle.script.specs.Written.{rows, vertAt, faceAt, putAt, vertRows, faceRows, putRow, putRows, linesOf, written, writeStep}
-use Rattle.script.specs.ReadOf.{Script, kernelIn, layerIn, placesIn, layersIn, formCheck, scriptCheck, readStep}
+use Rattle.script.specs.ReadOf.{Script, kernelIn, layerIn, placesIn, layersIn, formCheck, scriptCheck, loadStep}
 use Rattle.script.specs.RoundTrip.{putsFrom, scriptOf, kernelOf, put-says, Floats, read-written}
 use Rattle.script.specs.Leaves.{part, part-at, Held, none, given, sevenOf, stateOf, PlaceHolds, Stands, held-as, stands-sound}
 use Rattle.script.specs.LineByLine.{Taken, heldBy, heldAfter, passing, leaves}
@@ -291,7 +292,7 @@ module _ (fs : List Float) (ws : List ℕ) (e : storeCheck width fs ws ≡ Passe
 
   -- the reader's answer and runs
   abbrev again : After
-  again = readStep width gs vs (written width fs ws)
+  again = loadStep width gs vs (written width fs ws)
 
   -- the writer's lines are not refused
   pub accepted : Taken again

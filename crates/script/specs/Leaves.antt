@@ -23,7 +23,8 @@ use Rattle.pieces.specs.PieceLaws.{at-most-16}
 use Rattle.layout.specs.Runs.{write}
 use Rattle.layout.specs.RunLaws.{length-write, write-before, write-rest}
 use Rattle.layout.specs.Layout.{width, pieceLimit, layerLimit, radiusOf, kernelFrom, piecesFrom, coordsFrom, stateFrom, cornersFrom, cornersOf, vertsOf, facesOf}
-use Rattle.layout.specs.Soundness.{every, longEnough, placeSound, layerSound, placeSoundAt, sound, storeCheck}
+use Rattle.layout.specs.Soundness.{placeSound, layerSound, placeSoundAt, storeCheck}
+use Rattle.store.specs.SoundStores.{passes}
 use Rattle.store.specs.Calls.{openFloats, openWords}
 use Rattle.store.specs.OpenLaws.{Meshes}
 use Rattle.store.specs.Puts.{seven, fresh, atFirst, putFloats, putWords}
@@ -302,11 +303,6 @@ first-sound n faces h =
         let z : faces ≡ 0 → ⊥ = eqb-false faces 0 e in
         rw (le-leb 0 n (omega arith), lt-ltb 0 faces (omega arith)) (either (eqb 0 n))
 
-every-true : (test : ℕ → Bool) (n : ℕ) → ((i : ℕ) → i < n → test i ≡ true) → every test n ≡ true
-unfolding every
-every-true test zero h = refl
-every-true test (suc n) h = rw (every-true test n (λ i l. h i (omega arith)), h n (omega arith)) refl
-
 module _ {r : Float} {xs : List Float} {ks : List ℕ} {held : ℕ → Held} {fs : List Float} {ws : List ℕ}
     (s : Stands r xs ks held fs ws) where
   -- what each place is to hold may be said otherwise
@@ -355,20 +351,11 @@ module _ {r : Float} {xs : List Float} {ks : List ℕ} {held : ℕ → Held} {fs
           ) refl
 
   pub stands-sound : Meshes (length xs) ks → storeCheck width fs ws ≡ Passed
-  unfolding storeCheck longEnough sound
   stands-sound m =
       let x = div-add-mod' (length xs) 3 in
       let y = div-add-mod' (length ks) 3 in
       let z : 3 * (length ks / 3) ≡ length ks = omega (arith, m .corners, y) in
       let k : cornersOf width ws ≡ ks = rw (s .faces, z) (s .corners) in
-      rw (
-        k,
-        s .verts,
-        s .faces,
-        le-leb (cornersFrom width + 3 * (length ks / 3)) (length ws) (omega (arith, s .words)),
-        le-leb (coordsFrom + 3 * (length xs / 3)) (length fs) (omega (arith, s .floats, m .coords, x)),
-        le-leb (length xs / 3) vertexLimit (m .verts),
-        le-leb (length ks / 3) faceLimit (m .faces),
-        every-true (placeSoundAt width ws) 32 place-sound,
-        m .below,
-      ) refl
+      passes fs ws (rw (s .faces) (omega (arith, s .words)))
+      (rw (s .verts) (omega (arith, s .floats, m .coords, x)))
+      (rw (s .verts) (m .verts)) (rw (s .faces) (m .faces)) place-sound (rw (k, s .verts) (m .below))

@@ -29,7 +29,7 @@ use Rattle.store.specs.OpenLaws.{Meshes, open-passes}
 use Rattle.store.specs.Puts.{placedWith, putFloats, putWords, putStep}
 use Rattle.text.specs.Form.{Vals}
 use Rattle.script.specs.Lines.{putLine}
-use Rattle.script.specs.ReadOf.{Script, readOf, placeIn, kernelIn, layerIn, putOn, putsOn, played, formCheck, placesIn, layersIn, putsCheck, scriptCheck, readStep}
+use Rattle.script.specs.ReadOf.{Script, readOf, placeIn, kernelIn, layerIn, putOn, putsOn, played, formCheck, placesIn, layersIn, putsCheck, scriptCheck, loadStep}
 use Rattle.script.specs.Spelling.{by-threes}
 use Rattle.script.specs.Leaves.{Held, none, given, Stands, opened-stands, put-stands, stands-sound}
 
@@ -167,32 +167,32 @@ module _ (fs : List Float) (ws : List ℕ) (s : List ℕ) where
 
   -- it refuses nothing else than bad lines and what the script's checks refuse
   pub passing : formCheck (readOf s .text) ≡ Passed → scriptCheck width script (length fs) (length ws) ≡ Passed
-      → Taken (readStep width fs ws s)
-  unfolding readStep
+      → Taken (loadStep width fs ws s)
+  unfolding loadStep
   passing f c = rw (f, c) refl
 
-  has-passed : Taken (readStep width fs ws s)
+  has-passed : Taken (loadStep width fs ws s)
       → (formCheck (readOf s .text) ≡ Passed) × (scriptCheck width script (length fs) (length ws) ≡ Passed)
-  unfolding readStep
+  unfolding loadStep
   has-passed t =
       let c = scriptCheck width script (length fs) (length ws) in
       passed-both (formCheck (readOf s .text)) c (passed (andThen (formCheck (readOf s .text)) c) fs ws all-done t)
 
   -- a text that is not refused is played, line by line
-  pub plays : Taken (readStep width fs ws s) → readStep width fs ws s ≡ all-done
-  unfolding readStep
+  pub plays : Taken (loadStep width fs ws s) → loadStep width fs ws s ≡ all-done
+  unfolding loadStep
   plays t = let x = has-passed t in rw (x .0, x .1) refl
 
   -- "leaves what that opening and those puts, line by line, would"
-  pub leaves : Taken (readStep width fs ws s)
+  pub leaves : Taken (loadStep width fs ws s)
       → Stands (script .radius) (script .coords) (script .corners) (heldAfter (script .puts) (λ i. none))
-      (readStep width fs ws s .floats) (readStep width fs ws s .words)
+      (loadStep width fs ws s .floats) (loadStep width fs ws s .words)
   leaves t = rw (plays t) (checked script fs ws (has-passed t .1) .1)
 
   -- the vertices and faces that it answers are those that the store then has
-  pub counts : Taken (readStep width fs ws s)
-      → (vertsOf (readStep width fs ws s .words) ≡ script .verts)
-      × (facesOf (readStep width fs ws s .words) ≡ script .faces)
+  pub counts : Taken (loadStep width fs ws s)
+      → (vertsOf (loadStep width fs ws s .words) ≡ script .verts)
+      × (facesOf (loadStep width fs ws s .words) ≡ script .faces)
   counts t =
       let x = leaves t in
       let y = by-threes s in
@@ -200,8 +200,8 @@ module _ (fs : List Float) (ws : List ℕ) (s : List ℕ) where
 
   -- "refuses the whole where one line would be refused", and nowhere else
   pub refuses-where : formCheck (readOf s .text) ≡ Passed
-      → (Taken (readStep width fs ws s) → EachTaken width (script .puts) (opening script fs ws))
-      × (EachTaken width (script .puts) (opening script fs ws) → Taken (readStep width fs ws s))
+      → (Taken (loadStep width fs ws s) → EachTaken width (script .puts) (opening script fs ws))
+      × (EachTaken width (script .puts) (opening script fs ws) → Taken (loadStep width fs ws s))
   refuses-where f = ((λ t. checked script fs ws (has-passed t .1) .0), (λ t. passing f (unrefused script fs ws t)))
 
 -- ---- "The reader takes puts in any order": where two that name different places are exchanged, each place holds the same

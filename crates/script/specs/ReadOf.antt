@@ -15,8 +15,9 @@ use Rattle.layout.specs.After.{After, after, guarded}
 use Rattle.store.specs.Calls.{openCheck, openStep}
 use Rattle.store.specs.Puts.{putStep}
 use Rattle.text.specs.Text.{Text, lost, left, Got}
-use Rattle.text.specs.Form.{Form, Vals, choose, read}
-use Rattle.script.specs.Lines.{openLine, vertLine, faceLine, putLine}
+use Rattle.text.specs.Form.{Form, end, either, Vals, choose, read, _&_}
+use Rattle.forms.specs.Forms.{putEnd}
+use Rattle.script.specs.Lines.{openLine, vertLine, faceLine, layerEnd, putLine}
 
 -- ---- lines one after the other
 
@@ -69,8 +70,17 @@ kernelIn v =
       alpha = v .1 .1 .1 .1 .1 .1 .0;
     }
 
+abbrev pub layerNamed : Vals (either putEnd layerEnd end) → ℕ
+layerNamed = choose (λ none. 0) (λ n. n .0)
+
 abbrev pub layerIn : Vals putLine → ℕ
-layerIn v = choose (λ none. 0) (λ n. n .0) (v .1 .1 .1 .1 .1 .1 .1)
+layerIn v = layerNamed (v .1 .1 .1 .1 .1 .1 .1)
+
+-- all that a put line says
+abbrev pub entryIn : Vals putLine → ℕ × (Float × (Float × (Float × (Float × (Float × (Float × (ℕ × Unit {0})))))))
+entryIn v =
+    placeIn v & v .1 .0 & v .1 .1 .0 & v .1 .1 .1 .0 & v .1 .1 .1 .1 .0 & v .1 .1 .1 .1 .1 .0 & v .1 .1 .1 .1 .1 .1 .0
+    & layerIn v & tt
 
 -- ---- "one whole opening and then puts": a put line has a byte at least, so that there are no more of them than bytes
 pub record Script : Type 0 where
@@ -138,8 +148,8 @@ abbrev pub scriptCheck : ℕ → Script → ℕ → ℕ → Checked
 scriptCheck q d a b = andThen (openCheck q (length (d .coords)) (d .corners) a b) (putsCheck (d .puts))
 
 -- ---- the contract: "refuses the whole where one line would be refused"; else it answers vertices, faces and lines of puts
-unfoldable pub readStep : ℕ → List Float → List ℕ → List ℕ → After
-readStep q fs ws s =
+unfoldable pub loadStep : ℕ → List Float → List ℕ → List ℕ → After
+loadStep q fs ws s =
     let g = readOf s in
     let d = g .val in
     let e = played q fs ws d in

@@ -32,11 +32,14 @@ faceAt q ws i =
     getD ws (cornersFrom q + 3 * i) 0 & getD ws (cornersFrom q + 3 * i + 1) 0 & getD ws (cornersFrom q + 3 * i + 2) 0 & tt
 
 -- place i: c, sigma, the weight as it is kept, alpha, and always the layer
-abbrev pub putAt : ℕ → List Float → List ℕ → ℕ → Vals putLine
-putAt q fs ws i =
+abbrev pub putIn : List Float → ℕ → ℕ → Vals putLine
+putIn fs i layer =
     i & getD fs (kernelFrom i) nan & getD fs (kernelFrom i + 1) nan & getD fs (kernelFrom i + 2) nan
     & getD fs (kernelFrom i + 3) nan & getD fs (kernelFrom i + 4) nan & getD fs (kernelFrom i + 5) nan
-    & inr (layerOf q ws i & tt) & tt
+    & inr (layer & tt) & tt
+
+abbrev pub putAt : ℕ → List Float → List ℕ → ℕ → Vals putLine
+putAt q fs ws i = putIn fs i (layerOf q ws i)
 
 unfoldable pub vertRows : List Float → ℕ → ℕ → List ℕ
 vertRows fs n i = rows vertLine (vertAt fs) n i
