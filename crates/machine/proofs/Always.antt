@@ -10,7 +10,6 @@ use lib.Ieee.{Float}
 use Rattle.base.specs.Answers.{refused}
 use Rattle.base.specs.Loops.{iterate}
 use Rattle.base.specs.declared.refusal.Refusal.the-variants.{NoPlace}
-use Rattle.kernel.specs.declared.kernel.Kernel.{Kernel}
 use Rattle.pieces.specs.declared.pieces.Pieces.{Pieces}
 use Rattle.pieces.specs.Pieces.{decomposed}
 use Rattle.pieces.specs.FitEnd.{fitOf}
@@ -18,7 +17,7 @@ use Rattle.layout.specs.Layout.{width, placeLimit}
 use Rattle.machine.specs.Machine.{Mesh, Provenance, own, Place, empty, full, leftPlace, adv, bump, stepsOf, Machine, Turn, turn, putInto, putTurn, clearTurn, weighed, reweighTurn}
 use Rattle.machine.specs.Holding.{placeRow, wordsOf}
 use Rattle.machine.specs.Calls.{Call, machine, Store, after-all, holding, answers}
-use Rattle.machine.specs.OldStore.{Fitter, Old, puts, clears, reweighs, advances, squeezes, reads, pages, nowadays, oldMachine, oldAfter}
+use Rattle.machine.specs.OldStore.{Todays, Old, puts, clears, reweighs, advances, squeezes, reads, pages, nowadays, OfPut, OfPuts, oldMachine, oldAfter}
 use Rattle.machine.specs.Demands.{carriedPlace, carriedOver}
 use Rattle.machine.specs.Valid.{Valid}
 use Rattle.machine.proofs.Claim.{all-set}
@@ -72,9 +71,9 @@ module _ (m : Machine) (h : Low (m .places)) where
       low-set (m .places) i (full (weighed k v) fit o p l) (sym (ap layerIn e) ∙ h i) h
   low-reweigh i v false s e = h
 
-  low-next : (fitter : Fitter) (o : Provenance) (c : Old) → Low (oldMachine fitter o m c .places)
+  low-next : (o : Provenance) (c : Old) → Low (oldMachine o m c .places)
   unfolding oldMachine machine
-  low-next fitter o (puts i k) = go (ltb i placeLimit)
+  low-next o (puts fitter i k) = go (ltb i placeLimit)
     where
       fit : Pieces
       fit = fitter k (m .mesh .radius)
@@ -82,44 +81,44 @@ module _ (m : Machine) (h : Low (m .places)) where
       go : (b : Bool) → Low (cond b (putInto m i k fit o 0) m .places)
       go true = low-set (m .places) i (full k fit o 0 0) refl h
       go false = h
-  low-next fitter o (clears i) = low-clear i (ltb i placeLimit) (at i)
-  low-next fitter o (reweighs i v) = low-reweigh i v (ltb i placeLimit) (at i) refl
-  low-next fitter o (advances n) = low-bumps (m .mesh) (stepsOf m n) (m .places) h
-  low-next fitter o squeezes = h
-  low-next fitter o (reads r) = h
-  low-next fitter o (pages bs) = h
+  low-next o (clears i) = low-clear i (ltb i placeLimit) (at i)
+  low-next o (reweighs i v) = low-reweigh i v (ltb i placeLimit) (at i) refl
+  low-next o (advances n) = low-bumps (m .mesh) (stepsOf m n) (m .places) h
+  low-next o squeezes = h
+  low-next o (reads r) = h
+  low-next o (pages bs) = h
 
-pub low-all : (fitter : Fitter) (o : Provenance) (cs : List Old) (m : Machine) → Low (m .places)
-    → Low (oldAfter fitter o m cs .places)
-low-all fitter o [] m h = h
-low-all fitter o (c ∷ cs) m h = low-all fitter o cs (oldMachine fitter o m c) (low-next m h fitter o c)
+pub low-all : (o : Provenance) (cs : List Old) (m : Machine) → Low (m .places) → Low (oldAfter o m cs .places)
+low-all o [] m h = h
+low-all o (c ∷ cs) m h = low-all o cs (oldMachine o m c) (low-next m h o c)
 
 -- ---- the machine of an old store that fitted as today is the machine of today's calls
-module _ (fitter : Fitter) (same : (k : Kernel) (radius : Float) → fitter k radius ≡ decomposed k radius) where
-  same-next : (m : Machine) (c : Old) → oldMachine fitter own m c ≡ machine m (nowadays c) .next
-  unfolding oldMachine machine
-  same-next m (puts i k) = rw (same k (m .mesh .radius)) (go (ltb i placeLimit))
-    where
-      r : Float
-      r = m .mesh .radius
+same-next : (m : Machine) (c : Old) → OfPut Todays c → oldMachine own m c ≡ machine m (nowadays c) .next
+unfolding oldMachine machine
+same-next m (puts fitter i k) same = rw (same k (m .mesh .radius)) (go (ltb i placeLimit))
+  where
+    r : Float
+    r = m .mesh .radius
 
-      put : Turn
-      put = putTurn m i k (decomposed k r) (fitOf k r) 0
+    put : Turn
+    put = putTurn m i k (decomposed k r) (fitOf k r) 0
 
-      go : (b : Bool) → cond b (put .next) m ≡ cond b put (turn m (refused NoPlace)) .next
-      go true = refl
-      go false = refl
-  same-next m (clears i) = refl
-  same-next m (reweighs i v) = refl
-  same-next m (advances n) = refl
-  same-next m squeezes = refl
-  same-next m (reads r) = refl
-  same-next m (pages bs) = refl
+    go : (b : Bool) → cond b (put .next) m ≡ cond b put (turn m (refused NoPlace)) .next
+    go true = refl
+    go false = refl
+same-next m (clears i) same = refl
+same-next m (reweighs i v) same = refl
+same-next m (advances n) same = refl
+same-next m squeezes same = refl
+same-next m (reads r) same = refl
+same-next m (pages bs) same = refl
 
-  pub same-after : (cs : List Old) (m : Machine) → oldAfter fitter own m cs ≡ after-all m (map nowadays cs)
-  same-after [] m = refl
-  same-after (c ∷ cs) m =
-      ap (λ (n : Machine). oldAfter fitter own n cs) (same-next m c) ∙ same-after cs (machine m (nowadays c) .next)
+pub same-after : (cs : List Old) → OfPuts Todays cs → (m : Machine)
+    → oldAfter own m cs ≡ after-all m (map nowadays cs)
+same-after [] same m = refl
+same-after (c ∷ cs) same m =
+    ap (λ (n : Machine). oldAfter own n cs) (same-next m c (same .0))
+    ∙ same-after cs (same .1) (machine m (nowadays c) .next)
 
 -- ---- what a carry leaves out: where pieces come from, the sums, and the words that squeezes freed
 module _ (m : Mesh) where

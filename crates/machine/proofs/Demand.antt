@@ -6,8 +6,6 @@ use Prim.Native.Nat.{ℕ, _<_}
 use native.Mathlib.Omega.{arith}
 use lib.ListN.{length}
 use lib.Ieee.{Float}
-use Rattle.kernel.specs.declared.kernel.Kernel.{Kernel}
-use Rattle.pieces.specs.Pieces.{decomposed}
 use Rattle.base.specs.Answers.{counted}
 use Rattle.layout.specs.Layout.{width, vertsOf, facesOf}
 use Rattle.layout.specs.After.{After, after}
@@ -16,7 +14,7 @@ use Rattle.carry.specs.Carry.{oldWidth, carryStep}
 use Rattle.machine.specs.Machine.{Provenance, own, carried, Machine, opened, shortRow, openRow}
 use Rattle.machine.specs.Holding.{wordsOf, excessF, excessW}
 use Rattle.machine.specs.Calls.{Call, Store, leaves, after-all, holding, without, heard, answers}
-use Rattle.machine.specs.OldStore.{Fitter, Fitting, Old, nowadays, oldLeaves, oldAfter}
+use Rattle.machine.specs.OldStore.{Fitting, Todays, Old, nowadays, OfPuts, oldLeaves, oldAfter}
 use Rattle.machine.specs.Demands.{Follows, leaving, refusedBy, carrying, carriedOver, Carries, Demand3}
 use Rattle.machine.specs.Valid.{Valid}
 use Rattle.machine.proofs.Rows.{width3, width4, layered4}
@@ -24,7 +22,7 @@ use Rattle.machine.proofs.Opened.{none-at}
 use Rattle.machine.proofs.Unaltered.{heardBy, store-heard, unaltered}
 use Rattle.machine.proofs.Follow.{last, follows, holds, valid, opens-at}
 use Rattle.machine.proofs.Loading.{loads}
-use Rattle.machine.proofs.OldCalls.{Source, old-all}
+use Rattle.machine.proofs.OldCalls.{Source, both-puts, old-all}
 use Rattle.machine.proofs.Carrying.{left-same, carried-valid, refuses, carries}
 use Rattle.machine.proofs.Always.{low-all, same-after, carried-told}
 
@@ -65,14 +63,14 @@ module _
 
 -- ---- from the opening of the old store on
 module _
-    (fitter : Fitter) (fitting : Fitting fitter) (r : Float) (xs : List Float) (ks : List ℕ) (fs : List Float)
-    (ws : List ℕ) (h : openRow oldWidth xs ks (length fs) (length ws) ≡ 0) (cs : List Old) (gs : List Float)
-    (us : List ℕ) where
+    (r : Float) (xs : List Float) (ks : List ℕ) (fs : List Float) (ws : List ℕ)
+    (h : openRow oldWidth xs ks (length fs) (length ws) ≡ 0) (cs : List Old) (fitting : OfPuts Fitting cs)
+    (gs : List Float) (us : List ℕ) where
   abbrev M : Machine
   M = opened r xs ks
 
   abbrev old : Store
-  old = oldLeaves fitter (leaving (openStep oldWidth fs ws r xs ks)) cs
+  old = oldLeaves (leaving (openStep oldWidth fs ws r xs ks)) cs
 
   abbrev exF : List Float
   exF = excessF xs fs
@@ -82,27 +80,29 @@ module _
 
   -- the machine that says o of all pieces
   abbrev by : Provenance → Machine
-  by o = oldAfter fitter o M cs
+  by o = oldAfter o M cs
 
   record Held (o : Provenance) : Type 0 where
     runs : old ≡ holding oldWidth (by o) exF exW
     sound : Valid (by o .mesh) (by o .places)
 
-  held : (o : Provenance) → Source fitter o → Held o
+  held : (o : Provenance) → OfPuts (Source o) cs → Held o
   held o s =
-      let i = old-all fitter o s cs M (valid oldWidth width3 r xs ks fs ws h) exF exW in
+      let i = old-all o cs s M (valid oldWidth width3 r xs ks fs ws h) exF exW in
       record {
-        runs = ap (λ (t : Store). oldLeaves fitter t cs) (holds oldWidth width3 r xs ks fs ws h) ∙ i .0;
+        runs = ap (λ (t : Store). oldLeaves t cs) (holds oldWidth width3 r xs ks fs ws h) ∙ i .0;
         sound = i .1;
       }
 
   brought : Held carried
-  brought = held carried (record { few = fitting .few; clean = fitting .clean; fitted = λ k radius. tt {0} })
+  brought =
+      held carried
+      (both-puts (λ f p q. record { few = p .few; clean = p .clean; fitted = λ k radius. tt {0} }) cs fitting fitting)
 
   -- ---- with today's fit
-  module _ (same : (k : Kernel) (radius : Float) → fitter k radius ≡ decomposed k radius) where
+  module _ (same : OfPuts Todays cs) where
     put : Held own
-    put = held own (record { few = fitting .few; clean = fitting .clean; fitted = same })
+    put = held own (both-puts (λ f p q. record { few = p .few; clean = p .clean; fitted = q }) cs fitting same)
 
     -- one pair of runs holds both machines
     counts-same : (by carried .mesh .verts ≡ by own .mesh .verts) × (by carried .mesh .faces ≡ by own .mesh .faces)
@@ -113,13 +113,13 @@ module _
 
     always : shortRow width (by carried .mesh .verts) (by carried .mesh .faces) (length gs) (length us) ≡ 0
         → (hs : List Float) (vs : List ℕ) → openRow width xs ks (length hs) (length vs) ≡ 0 → (ds : List Call)
-        → answers width (leaving (carrying fitter r xs ks fs ws cs gs us)) ds
+        → answers width (leaving (carrying r xs ks fs ws cs gs us)) ds
         ≡ answers width (leaves width (leaving (openStep width hs vs r xs ks)) (map nowadays cs)) ds
     always n hs vs g ds =
         let m = by own in
         let c = counts-same in
         let z = rw (c .0, c .1) at n in
-        let low = low-all fitter own cs M (λ i. rw (none-at 32 i) refl) in
+        let low = low-all own cs M (λ i. rw (none-at 32 i) refl) in
         let new = ofRuns m (put .sound) exF exW gs us in
         let a = ap (λ (s : Store). leaving (new s)) (put .runs) ∙ carried-to m (put .sound) exF exW gs us z .1 in
         let u = valid width width4 r xs ks hs vs g in
@@ -127,12 +127,12 @@ module _
         let b = ap (λ (s : Store). leaves width s (map nowadays cs)) (holds width width4 r xs ks hs vs g) ∙ l .0 in
         ap (λ (s : Store). answers width s ds) a
         ∙ (carried-told m (put .sound) low (excessF (m .mesh .coords) gs) (excessW width (m .mesh .corners) us) ds
-        ∙ (ap (λ (t : Machine). heardBy (λ c. true) t ds) (same-after fitter same cs M)
+        ∙ (ap (λ (t : Machine). heardBy (λ c. true) t ds) (same-after cs same M)
         ∙ sym (ap (λ (s : Store). answers width s ds) b
         ∙ store-heard width layered4 (excessF xs hs) (excessW width ks vs) (λ c. true) ds
         (after-all M (map nowadays cs)) (l .1))))
 
-  carry : Carries fitter r xs ks fs ws cs (by carried) gs us
+  carry : Carries r xs ks fs ws cs (by carried) gs us
   carry =
       let m = by carried in
       let v = brought .sound in

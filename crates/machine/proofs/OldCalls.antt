@@ -16,52 +16,65 @@ use Rattle.layout.specs.Layout.{placeLimit}
 use Rattle.carry.specs.Carry.{oldWidth}
 use Rattle.machine.specs.Machine.{Provenance, Machine, putInto}
 use Rattle.machine.specs.Calls.{clear, reweigh, advance, squeeze, Store, Result, store, past, holding}
-use Rattle.machine.specs.OldStore.{Fitter, Old, puts, clears, reweighs, advances, squeezes, reads, pages, oldStore, oldLeaves, oldMachine, oldAfter}
+use Rattle.machine.specs.OldStore.{Fitter, Old, puts, clears, reweighs, advances, squeezes, reads, pages, OfPut, OfPuts, oldStore, oldLeaves, oldMachine, oldAfter}
 use Rattle.machine.specs.Valid.{FittedBy, Valid}
 use Rattle.machine.proofs.Rows.{width3}
 use Rattle.machine.proofs.Held.{radius-held}
 use Rattle.machine.proofs.Claim.{inner, place-in, place-out, put-runs, clear-held, reweigh-held, advance-held, squeeze-held, put-valid, kept, held-in}
 
 -- what may fit the pieces of places that say o of them
-pub record Source (fitter : Fitter) (o : Provenance) : Type 0 where
+pub record Source (o : Provenance) (fitter : Fitter) : Type 0 where
   pub few : (k : Kernel) (radius : Float) → fitter k radius .count ≤ 16
   pub clean : (k : Kernel) (radius : Float) → Clean (fitter k radius)
   pub fitted : (k : Kernel) (radius : Float) → FittedBy radius k (fitter k radius) o
 
-module _ (fitter : Fitter) (o : Provenance) (source : Source fitter o) where
-  module _ (m : Machine) (v : Valid (m .mesh) (m .places)) (xs : List Float) (ys : List ℕ) where
-    abbrev fit : Kernel → Pieces
-    fit k = fitter k (m .mesh .radius)
+-- of puts that were fitted by such and such
+pub both-puts : {P Q R : Fitter → Type 0} → ((fitter : Fitter) → P fitter → Q fitter → R fitter)
+    → (cs : List Old) → OfPuts P cs → OfPuts Q cs → OfPuts R cs
+both-puts f [] p q = tt {0}
+both-puts f (puts fitter i k ∷ cs) p q = (f fitter (p .0) (q .0), both-puts f cs (p .1) (q .1))
+both-puts f (clears i ∷ cs) p q = (tt {0}, both-puts f cs (p .1) (q .1))
+both-puts f (reweighs i v ∷ cs) p q = (tt {0}, both-puts f cs (p .1) (q .1))
+both-puts f (advances n ∷ cs) p q = (tt {0}, both-puts f cs (p .1) (q .1))
+both-puts f (squeezes ∷ cs) p q = (tt {0}, both-puts f cs (p .1) (q .1))
+both-puts f (reads r ∷ cs) p q = (tt {0}, both-puts f cs (p .1) (q .1))
+both-puts f (pages bs ∷ cs) p q = (tt {0}, both-puts f cs (p .1) (q .1))
 
-    still-valid : (c : Old) → Valid (oldMachine fitter o m c .mesh) (oldMachine fitter o m c .places)
+module _ (o : Provenance) where
+  module _ (m : Machine) (v : Valid (m .mesh) (m .places)) (xs : List Float) (ys : List ℕ) where
+    still-valid : (c : Old) → OfPut (Source o) c → Valid (oldMachine o m c .mesh) (oldMachine o m c .places)
     unfolding oldMachine
-    still-valid (puts i k) = go (ltb i placeLimit)
+    still-valid (puts fitter i k) source = go (ltb i placeLimit)
       where
+        fit : Pieces
+        fit = fitter k (m .mesh .radius)
+
         next : Bool → Machine
-        next b = cond b (putInto m i k (fit k) o 0) m
+        next b = cond b (putInto m i k fit o 0) m
 
         go : (b : Bool) → Valid (next b .mesh) (next b .places)
         go true =
             let r = m .mesh .radius in
-            put-valid m v i k (fit k) o 0 (source .fitted k r) (source .few k r) (source .clean k r) (omega arith)
+            put-valid m v i k fit o 0 (source .fitted k r) (source .few k r) (source .clean k r) (omega arith)
         go false = v
-    still-valid (clears i) = kept m v (clear i) .valid
-    still-valid (reweighs i w) = kept m v (reweigh i w) .valid
-    still-valid (advances n) = kept m v (advance n) .valid
-    still-valid squeezes = kept m v squeeze .valid
-    still-valid (reads r) = v
-    still-valid (pages bs) = v
+    still-valid (clears i) source = kept m v (clear i) .valid
+    still-valid (reweighs i w) source = kept m v (reweigh i w) .valid
+    still-valid (advances n) source = kept m v (advance n) .valid
+    still-valid squeezes source = kept m v squeeze .valid
+    still-valid (reads r) source = v
+    still-valid (pages bs) source = v
 
-    call-in : (c : Old) → oldStore fitter (inner oldWidth m xs ys) c ≡ inner oldWidth (oldMachine fitter o m c) xs ys
+    call-in : (c : Old) → oldStore (inner oldWidth m xs ys) c ≡ inner oldWidth (oldMachine o m c) xs ys
     unfolding oldStore oldMachine store
-    call-in (puts i k) = go (decLt i 32)
+    call-in (puts fitter i k) = go (decLt i 32)
       where
-        go : Dec (i < 32)
-            → oldStore fitter (inner oldWidth m xs ys) (puts i k)
-            ≡ inner oldWidth (oldMachine fitter o m (puts i k)) xs ys
+        c : Old
+        c = puts fitter i k
+
+        go : Dec (i < 32) → oldStore (inner oldWidth m xs ys) c ≡ inner oldWidth (oldMachine o m c) xs ys
         go (yes h) =
             rw (place-in oldWidth width3 m v xs ys i h, lt-ltb i 32 h, radius-held (m .mesh) (m .places) (past m xs))
-            (put-runs oldWidth width3 m v xs ys i k (fit k) o 0 h)
+            (put-runs oldWidth width3 m v xs ys i k (fitter k (m .mesh .radius)) o 0 h)
         go (no h) = rw (place-out oldWidth width3 m v xs ys i (omega arith), le-ltb i 32 (omega arith)) refl
     call-in (clears i) = ap (λ (a : Result). a .runs) (clear-held oldWidth width3 m v xs ys i)
     call-in (reweighs i w) = ap (λ (a : Result). a .runs) (reweigh-held oldWidth width3 m v xs ys i w)
@@ -70,17 +83,19 @@ module _ (fitter : Fitter) (o : Provenance) (source : Source fitter o) where
     call-in (reads r) = refl
     call-in (pages bs) = refl
 
-    one-old : (c : Old)
-        → oldStore fitter (holding oldWidth m xs ys) c ≡ holding oldWidth (oldMachine fitter o m c) xs ys
-    one-old c =
-        ap (λ (s : Store). oldStore fitter s c) (held-in oldWidth m v xs ys)
-        ∙ (call-in c ∙ sym (held-in oldWidth (oldMachine fitter o m c) (still-valid c) xs ys))
+    one-old : (c : Old) → OfPut (Source o) c
+        → oldStore (holding oldWidth m xs ys) c ≡ holding oldWidth (oldMachine o m c) xs ys
+    one-old c source =
+        ap (λ (s : Store). oldStore s c) (held-in oldWidth m v xs ys)
+        ∙ (call-in c ∙ sym (held-in oldWidth (oldMachine o m c) (still-valid c source) xs ys))
 
   -- every list of calls
-  pub old-all : (cs : List Old) (m : Machine) → Valid (m .mesh) (m .places) → (xs : List Float) (ys : List ℕ)
-      → (oldLeaves fitter (holding oldWidth m xs ys) cs ≡ holding oldWidth (oldAfter fitter o m cs) xs ys)
-      × Valid (oldAfter fitter o m cs .mesh) (oldAfter fitter o m cs .places)
-  old-all [] m v xs ys = (refl, v)
-  old-all (c ∷ cs) m v xs ys =
-      let i = old-all cs (oldMachine fitter o m c) (still-valid m v xs ys c) xs ys in
-      (ap (λ (s : Store). oldLeaves fitter s cs) (one-old m v xs ys c) ∙ i .0, i .1)
+  pub old-all : (cs : List Old) → OfPuts (Source o) cs → (m : Machine) → Valid (m .mesh) (m .places)
+      → (xs : List Float) (ys : List ℕ)
+      → (oldLeaves (holding oldWidth m xs ys) cs ≡ holding oldWidth (oldAfter o m cs) xs ys)
+      × Valid (oldAfter o m cs .mesh) (oldAfter o m cs .places)
+  old-all [] sources m v xs ys = (refl, v)
+  old-all (c ∷ cs) sources m v xs ys =
+      let source = sources .0 in
+      let i = old-all cs (sources .1) (oldMachine o m c) (still-valid m v xs ys c source) xs ys in
+      (ap (λ (s : Store). oldLeaves s cs) (one-old m v xs ys c source) ∙ i .0, i .1)

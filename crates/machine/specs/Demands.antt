@@ -32,7 +32,7 @@ use Rattle.machine.specs.Holding.{excessF, excessW}
 use Rattle.machine.specs.Valid.{Valid}
 use Rattle.machine.specs.Fresh.{Worked, kernelsOf, allPieces, worstFrom, workedAfresh, finishedAfresh, pageAfresh}
 use Rattle.machine.specs.Calls.{Call, put, advance, read, finished, page, needs, workSeen, machine, Store, store, leaves, after-all, holding, leftIn, chargedIn, doneIn, without, heard, answers}
-use Rattle.machine.specs.OldStore.{Fitter, Fitting, Old, oldLeaves, oldAfter, nowadays}
+use Rattle.machine.specs.OldStore.{Fitting, Todays, Old, nowadays, OfPuts, oldLeaves, oldAfter}
 
 -- ---- one call c: the store s beside the machine m, which "gets that opening and the same calls"; exF and exW are the
 -- excess of the two runs, as the opening found it
@@ -181,11 +181,10 @@ pub record Opens (q : ℕ) (r : Float) (xs : List Float) (ks : List ℕ) (fs : L
   pub accepted : openRow q xs ks (length fs) (length ws) ≡ 0 → Accepted q r xs ks fs ws
 
 -- ---- 02, L6: a store of the form before L5 is carried over. r, xs, ks, fs and ws are those of its opening, cs its
--- calls, fitter is what fitted its puts' kernels; gs and us are the new runs, whatever was in them
-abbrev pub carrying : Fitter → Float → List Float → List ℕ → List Float → List ℕ → List Old → List Float → List ℕ
-    → After
-carrying fitter r xs ks fs ws cs gs us =
-    let old = oldLeaves fitter (leaving (openStep oldWidth fs ws r xs ks)) cs in
+-- calls; gs and us are the new runs, whatever was in them
+abbrev pub carrying : Float → List Float → List ℕ → List Float → List ℕ → List Old → List Float → List ℕ → After
+carrying r xs ks fs ws cs gs us =
+    let old = oldLeaves (leaving (openStep oldWidth fs ws r xs ks)) cs in
     carryStep (old .floats) (old .words) gs us
 
 -- "demand 3's list begins at the carry, its machine with the mesh, radius, places and steps carried, and its charged
@@ -205,7 +204,7 @@ carriedOver m =
     }
 
 pub record Carried
-    (fitter : Fitter) (r : Float) (xs : List Float) (ks : List ℕ) (fs : List Float) (ws : List ℕ) (cs : List Old)
+    (r : Float) (xs : List Float) (ks : List ℕ) (fs : List Float) (ws : List ℕ) (cs : List Old)
     (m : Machine) (gs : List Float) (us : List ℕ) (a : After) : Type 0 where
   pub reply : a .reply ≡ counted (m .mesh .verts ∷ m .mesh .faces ∷ [])
   -- "with every kernel in layer 0. Unfinished sums and step counts go along": each word of the new runs, their excess
@@ -219,7 +218,7 @@ pub record Carried
   -- "For every list of later calls, the new store answers as one would that had received the old store's calls, its
   -- puts in layer 0, where those puts were made with L2's powers": that one was opened in runs hs and vs, whatever was
   -- in them
-  pub as-if-always : ((k : Kernel) (radius : Float) → fitter k radius ≡ decomposed k radius)
+  pub as-if-always : OfPuts Todays cs
       → (hs : List Float) (vs : List ℕ) → openRow width xs ks (length hs) (length vs) ≡ 0 → (ds : List Call)
       → answers width (leaving a) ds
       ≡ answers width (leaves width (leaving (openStep width hs vs r xs ks)) (map nowadays cs)) ds
@@ -227,13 +226,13 @@ pub record Carried
 -- a carry is refused with 4 exactly when the new runs are too short: what the old store's opening and calls left is
 -- neither short nor unsound
 pub record Carries
-    (fitter : Fitter) (r : Float) (xs : List Float) (ks : List ℕ) (fs : List Float) (ws : List ℕ) (cs : List Old)
+    (r : Float) (xs : List Float) (ks : List ℕ) (fs : List Float) (ws : List ℕ) (cs : List Old)
     (m : Machine) (gs : List Float) (us : List ℕ) : Type 0 where
   pub refused-as : 0 < shortRow width (m .mesh .verts) (m .mesh .faces) (length gs) (length us)
-      → carrying fitter r xs ks fs ws cs gs us
+      → carrying r xs ks fs ws cs gs us
       ≡ after (refusedBy (shortRow width (m .mesh .verts) (m .mesh .faces) (length gs) (length us))) gs us
   pub accepted : shortRow width (m .mesh .verts) (m .mesh .faces) (length gs) (length us) ≡ 0
-      → Carried fitter r xs ks fs ws cs m gs us (carrying fitter r xs ks fs ws cs gs us)
+      → Carried r xs ks fs ws cs m gs us (carrying r xs ks fs ws cs gs us)
 
 -- ---- 02, L10: a store that is read from lines, s are their bytes and fs and ws the runs lent, whatever was in them
 
@@ -279,8 +278,8 @@ pub record Loads (q : ℕ) (fs : List Float) (ws : List ℕ) (s : List ℕ) : Ty
 -- opening of the old form and any calls on it left, and of every text that a store is read from
 pub record Demand3 : Type 0 where
   pub opening : (r : Float) (xs : List Float) (ks : List ℕ) (fs : List Float) (ws : List ℕ) → Opens width r xs ks fs ws
-  pub carry : (fitter : Fitter) → Fitting fitter
-      → (r : Float) (xs : List Float) (ks : List ℕ) (fs : List Float) (ws : List ℕ)
-      → openRow oldWidth xs ks (length fs) (length ws) ≡ 0 → (cs : List Old) (gs : List Float) (us : List ℕ)
-      → Carries fitter r xs ks fs ws cs (oldAfter fitter carried (opened r xs ks) cs) gs us
+  pub carry : (r : Float) (xs : List Float) (ks : List ℕ) (fs : List Float) (ws : List ℕ)
+      → openRow oldWidth xs ks (length fs) (length ws) ≡ 0
+      → (cs : List Old) → OfPuts Fitting cs → (gs : List Float) (us : List ℕ)
+      → Carries r xs ks fs ws cs (oldAfter carried (opened r xs ks) cs) gs us
   pub reading : (fs : List Float) (ws : List ℕ) (s : List ℕ) → Loads width fs ws s
