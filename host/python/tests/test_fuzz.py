@@ -89,16 +89,17 @@ RIGHT = {
     "count": lambda pick: pick.choice((0, 4, 1048576, 1048577, 2**32, 2**64, -1)),
     "lines": lambda pick: pick.choice((b"", LINE, LINE * 3, LINE[:-1], ZERO_LINE)),
     "loader": lambda pick: pick.choice(list(Loader)),
+    "text": lambda pick: pick.choice((Store(1, [], []).to_lines(), Store(1, VERTICES, FACES).to_lines(), LINE, b"(open")),
     "bytes": lambda pick: pick.choice((Store(1, [], []).to_bytes(), b"CAUCHY02", b"x" * 40)),
 }
 
 METHODS = {
     "put": "place kernel layer", "clear": "place", "reweigh": "place number", "squeeze": "", "advance": "budget", "left": "",
     "work": "budget", "density": "convention point layers",
-    "track": "convention points layers", "report": "convention layers", "finished": "convention layers", "list": "convention layers", "page": "", "held": "place", "mesh": "", "to_bytes": "", "copy": "",
+    "track": "convention points layers", "report": "convention layers", "finished": "convention layers", "list": "convention layers", "page": "", "held": "place", "mesh": "", "to_bytes": "", "to_lines": "", "copy": "",
 }
 FUNCTIONS = {
-    "Store": "number vertices faces", "Store.from_bytes": "bytes", "Kernel": "point number number number",
+    "Store": "number vertices faces", "Store.from_bytes": "bytes", "Store.from_lines": "text", "Kernel": "point number number number",
     "Convention": "kind number number", "rho0": "number", "mass": "number number",
     "kernel_from_file": "point number number number number", "convert": "lines number loader",
     "decompose": "kernel number", "decompose_list": "kernels number", "bill": "kernels count count",
@@ -123,12 +124,12 @@ def arguments(pick, kinds):
 class Fuzz(unittest.TestCase):
     def test_the_tables_name_every_entry_point(self):
         methods = {name for name in vars(Store) if not name.startswith("_") and callable(getattr(Store, name))}
-        self.assertEqual(methods, {*METHODS, "from_bytes"})
+        self.assertEqual(methods, {*METHODS, "from_bytes", "from_lines"})
         functions = {name for name in cauchy.__all__ if callable(getattr(cauchy, name))}
         answers = {"Bill", "Held", "MassReport", "StoreReport", "Placed", "Fit", "Solution", "Steps", "Pieces", "Floats",
                    "Items", "KernelList", "Loader", "UnknownRefusal", "FloatStateError", "SnapshotError", "Refused"}
         refusals = {kind.__name__ for kind in cauchy.REFUSALS.values()}
-        self.assertEqual(functions - answers - refusals, set(FUNCTIONS) - {"Store.from_bytes"})
+        self.assertEqual(functions - answers - refusals, set(FUNCTIONS) - {"Store.from_bytes", "Store.from_lines"})
 
     def test_nothing_but_documented_errors(self):
         pick, told = random.Random(20), {"accepted": 0, "refused": 0}
@@ -139,7 +140,8 @@ class Fuzz(unittest.TestCase):
         self.assertGreater(min(told.values()), CALLS // 5, told)
 
     def one_call(self, store, name, given, told):
-        call = Store.from_bytes if name == "Store.from_bytes" else getattr(store if name in METHODS else cauchy, name)
+        owner = store if name in METHODS else Store if name.startswith("Store.") else cauchy
+        call = getattr(owner, name.rsplit(".")[-1])
         before = bytes(store.floats), bytes(store.words)
         try:
             answer = call(*given)
