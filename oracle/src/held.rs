@@ -2,7 +2,6 @@
 //! the store holds ("Readings use pieces and volumes as the store holds them"). Written from 01's text, sharing nothing with the proved
 //! code but the powers.
 use crate::conventions::{Convention, Reading, Report, write_list, write_track};
-use crate::lines::{self, Telling};
 use crate::machine::{ALL_LAYERS, CORNERS, RECORD, in_set, set_number, squeezed};
 use crate::page::{self, Row};
 use crate::pieces::Kernel;
@@ -256,17 +255,6 @@ impl Held {
     pub fn page(&self, out: &mut [u8]) -> Result<u64, u32> {
         self.sound()?;
         if self.left() > 0 { Err(8) } else { page::write(&self.page_rows(), out) }
-    }
-
-    /// 02's L10: the lines of the fields that the store holds, after rows 4 and 5.
-    pub fn lines(&self) -> Result<String, u32> {
-        self.sound()?;
-        let put = |i: usize| {
-            let k = &self.floats[1 + 7 * i..][..7];
-            (i, Kernel { c: [k[0], k[1], k[2]], sigma: k[3], w: k[4], alpha: k[5] }, self.words[2 + RECORD * i + 3])
-        };
-        let (xyz, faces) = self.mesh();
-        Ok(lines::text(&Telling { radius: self.floats[0], xyz, faces, puts: self.filled_places().map(put).collect() }))
     }
 
     pub fn filled_count(&self) -> usize {

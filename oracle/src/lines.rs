@@ -1,6 +1,7 @@
 //! 02's L10, a store as bracket lines, by its words: the writer from what a store holds, and a reader that goes line by line and gives the
 //! opening and the puts to 01's machine. Beside them the archive's calls.
-use crate::machine::{Machine, open_number};
+use crate::held::{Held, store_number};
+use crate::machine::{CORNERS, Machine, PLACES, RECORD, open_number};
 use crate::pieces::Kernel;
 use crate::program::{Rest, h, hs};
 use crate::text::ByTranscription;
@@ -63,6 +64,21 @@ pub fn text(store: &Telling) -> String {
         text += &put_line(*place as u64, k, Some((*layer).into()));
     }
     text
+}
+
+/// The text of the fields that two runs hold, after rows 4 and 5.
+pub fn of_runs(Held { floats, words }: &Held) -> Result<String, u32> {
+    match store_number(floats, words) {
+        0 => {}
+        no => return Err(no),
+    }
+    let put = |i: usize| {
+        let k = &floats[1 + 7 * i..][..7];
+        (i, Kernel { c: [k[0], k[1], k[2]], sigma: k[3], w: k[4], alpha: k[5] }, words[2 + RECORD * i + 3])
+    };
+    let puts = (0..PLACES).filter(|i| words[2 + RECORD * i] > 0).map(put).collect();
+    let (xyz, faces) = (&floats[1_761..][..3 * words[0] as usize], &words[CORNERS..][..3 * words[1] as usize]);
+    Ok(text(&Telling { radius: floats[0], xyz, faces, puts }))
 }
 
 /// A put's line, with a layer or without.

@@ -2,6 +2,7 @@
 use crate::judge::writes;
 use oracle::histories;
 use oracle::inputs::Rng;
+use oracle::lines::of_runs;
 use oracle::tally::Tally;
 
 /// Of small stores: 19 with every count of bytes below the text's, and nothing written; the text with as many, and with more.
@@ -15,7 +16,7 @@ pub fn each(count: u64, mut r: Rng) -> Tally {
         let mut runs = histories::unopened(&mut r, &body);
         // a few places
         (3..32).for_each(|i| runs.words[2 + 4 * i..][..4].fill(0));
-        let asked = runs.lines();
+        let asked = of_runs(&runs);
         let Ok(text) = &asked else { continue };
         for room in 0..text.len() + 3 {
             refused += u64::from(room < text.len());

@@ -5,7 +5,7 @@ use oracle::cases::one;
 use oracle::held::Held;
 use oracle::histories::{self, Body, Call, Model, Places};
 use oracle::inputs::Rng;
-use oracle::lines::store_write;
+use oracle::lines::{of_runs, store_write};
 use oracle::machine::{self, CORNERS, Machine, RECORD};
 use oracle::tally::Tally;
 use oracle::text::ByArchive;
@@ -151,7 +151,7 @@ pub fn unopened(count: u64, mut r: Rng) -> Tally {
             }
             _ => {}
         }
-        let asked = runs.lines();
+        let asked = of_runs(&runs);
         let full = asked.as_ref().map_or(100, String::len);
         let room = match r.below(6) {
             0 => full.saturating_sub(1),
