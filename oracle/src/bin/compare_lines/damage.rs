@@ -91,7 +91,18 @@ fn beside(r: &mut Rng, text: &mut Vec<u8>, what: &[u8], behind: bool) -> bool {
     true
 }
 
-pub const DAMAGES: [Damage; 27] = [
+/// Lines of the right form that are refused.
+pub const OUT_OF_RANGE: [Damage; 3] = [
+    ("a place of 32 or above", |r, text| renumber(r, text, |of| of == Of::Place, |r, _| above(r, 32).to_string())),
+    ("a layer of 16 or above", |r, text| renumber(r, text, |of| of == Of::Layer, |r, _| above(r, 16).to_string())),
+    ("a corner out of range", |r, text| {
+        let verts = numbers(text).into_iter().next().map(|(range, _)| String::from_utf8_lossy(&text[range]).parse().unwrap_or(0));
+        let verts: u64 = verts.unwrap_or(0).min(1 << 31);
+        renumber(r, text, |of| of == Of::Corner, |r, _| above(r, verts).to_string())
+    }),
+];
+
+pub const DAMAGES: [Damage; 24] = [
     ("a byte changed", |r, text| {
         if text.is_empty() {
             return false;
@@ -221,13 +232,6 @@ pub const DAMAGES: [Damage; 27] = [
         )
     }),
     ("a sign before a number", |r, text| renumber(r, text, |_| true, |r, n| format!("{}{n}", one(r, &["-", "+"])))),
-    ("a place of 32 or above", |r, text| renumber(r, text, |of| of == Of::Place, |r, _| above(r, 32).to_string())),
-    ("a layer of 16 or above", |r, text| renumber(r, text, |of| of == Of::Layer, |r, _| above(r, 16).to_string())),
-    ("a corner out of range", |r, text| {
-        let verts = numbers(text).into_iter().next().map(|(range, _)| String::from_utf8_lossy(&text[range]).parse().unwrap_or(0));
-        let verts: u64 = verts.unwrap_or(0).min(1 << 31);
-        renumber(r, text, |of| of == Of::Corner, |r, _| above(r, verts).to_string())
-    }),
     ("a layer taken out", |r, text| {
         let layers: Vec<Range<usize>> = numbers(text).into_iter().filter(|(_, of)| *of == Of::Layer).map(|(range, _)| range).collect();
         if layers.is_empty() {

@@ -1,5 +1,5 @@
 //! Damaged texts, and runs that are too short for them.
-use crate::damage::DAMAGES;
+use crate::damage::{DAMAGES, Damage, OUT_OF_RANGE};
 use crate::judge::reads;
 use crate::seen::Seen;
 use oracle::cases::{self, one};
@@ -49,7 +49,7 @@ fn lengths(r: &mut Rng, verts: usize, faces: usize) -> (usize, usize) {
 }
 
 /// What must be met beside each damage with what it mostly leads to.
-const OFTEN: [&str; 40] = [
+const OFTEN: [&str; 42] = [
     "as 0",
     "as 13",
     "as 3",
@@ -87,6 +87,8 @@ const OFTEN: [&str; 40] = [
     "as 13, a digit in lower case",
     "as 13, a line of the program",
     "as 3, a corner out of range",
+    "as 6, a place of 32 or above",
+    "as 16, a layer of 16 or above",
     "as 3, others besides",
     "as 4, others besides",
     "as 6, others besides",
@@ -97,8 +99,13 @@ pub fn texts(count: u64, mut r: Rng) -> Tally {
     for i in 0..count {
         let (mut text, verts, faces) = lines(&mut r);
         let mut done = Vec::new();
-        for _ in 0..one(&mut r, &[0, 1, 1, 1, 1, 1, 1, 2, 2, 3]) {
-            let (name, damage) = DAMAGES[r.below(DAMAGES.len() as u64) as usize];
+        // now and then several lines that are refused, each for its own reason
+        let (ways, times): (&[Damage], _) = match r.below(5) {
+            0 => (&OUT_OF_RANGE, one(&mut r, &[1, 1, 2, 3, 4])),
+            _ => (&DAMAGES, one(&mut r, &[0, 1, 1, 1, 1, 1, 1, 2, 2, 3])),
+        };
+        for _ in 0..times {
+            let (name, damage) = one(&mut r, ways);
             if damage(&mut r, &mut text) {
                 done.push(name);
             }
@@ -119,6 +126,6 @@ pub fn texts(count: u64, mut r: Rng) -> Tally {
     let names = REFUSALS.map(|no| format!("as {no}"));
     let shown: Vec<&str> = std::iter::once("as 0").chain(names.iter().map(String::as_str).filter(|name| *name != "as 2")).collect();
     tally.line("lines", "damaged texts", &seen.text(&shown));
-    tally.add(seen.all_met("damaged texts", &OFTEN, count / 4_000));
+    tally.add(seen.all_met("damaged texts", &OFTEN, count / 1_000));
     tally
 }
