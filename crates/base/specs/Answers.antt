@@ -11,6 +11,8 @@ use Rattle.base.specs.declared.refusal.Checked.{Checked}
 use Rattle.base.specs.declared.refusal.Checked.the-variants.{Passed, Failed}
 use Rattle.base.specs.declared.refusal.Measured.{Measured}
 use Rattle.base.specs.declared.refusal.Measured.the-variants.{Value, Refused}
+use Rattle.base.specs.declared.refusal.Printed.{Printed}
+use Rattle.base.specs.declared.refusal.Printed.the-variants.{Bytes, Refused as Unprinted}
 
 -- the number of the refusal, 0 where the call is not refused; the whole numbers and the floats that it answers
 pub record Answer : Type 0 where
@@ -36,6 +38,11 @@ abbrev pub measuredAs : Measured → Answer
 measuredAs (Value x) = accepted (x ∷ [])
 measuredAs (Refused r) = refused r
 
+-- and of one that is a count of bytes
+abbrev pub printedAs : Printed → Answer
+printedAs (Bytes n) = counted (n ∷ [])
+printedAs (Unprinted r) = refused r
+
 -- the answer of a call whose arguments are so checked
 abbrev pub granted : Checked → Answer → Answer
 granted Passed a = a
@@ -57,6 +64,19 @@ outcome r xs = record { reply = r; out = xs }
 abbrev pub guardedRun : Checked → List Float → Outcome → Outcome
 guardedRun Passed xs good = good
 guardedRun (Failed r) xs good = outcome (refused r) xs
+
+-- an answer, and the bytes of a lent run as they are then
+pub record Printout : Type 0 where
+  pub reply : Answer
+  pub bytes : List ℕ
+
+abbrev pub printout : Answer → List ℕ → Printout
+printout r bs = record { reply = r; bytes = bs }
+
+-- the same of bytes: what follows where a check passes; else its refusal, the bytes as they were
+abbrev pub guardedBytes : Checked → List ℕ → Printout → Printout
+guardedBytes Passed bs good = good
+guardedBytes (Failed r) bs good = printout (refused r) bs
 
 -- row 9: "run to be written under 6 floats per piece (or kernel) written"; both are counts of floats
 abbrev pub roomCheck : ℕ → ℕ → Checked

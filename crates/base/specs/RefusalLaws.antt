@@ -4,7 +4,7 @@ use mathlib.Core.Bool.{false}
 use lib.Dec.{eqb}
 use Rattle.base.specs.Refusals.{number}
 use Rattle.base.specs.declared.refusal.Refusal.{Refusal}
-use Rattle.base.specs.declared.refusal.Refusal.the-variants.{Ragged, Oversize, LooseCorner, ShortStore, Unsound, NoPlace, Vacant, Unfinished, ShortList, BadMatrix, FlatPivot, Exponent, BadLine, BadTrack, ManyKernels, NoLayer, NoFigure, ShortPage, BadKernelLine, LoadersDiffer, Unclosed}
+use Rattle.base.specs.declared.refusal.Refusal.the-variants.{Ragged, Oversize, LooseCorner, ShortStore, Unsound, NoPlace, Vacant, Unfinished, ShortList, BadMatrix, FlatPivot, Exponent, BadLine, BadTrack, ManyKernels, NoLayer, NoFigure, ShortPage, ShortText, BadKernelLine, LoadersDiffer, Unclosed}
 
 -- 0 is the number of no refusal
 pub never-zero : (r : Refusal) → eqb (number r) 0 ≡ false
@@ -26,6 +26,7 @@ never-zero ManyKernels = refl
 never-zero NoLayer = refl
 never-zero NoFigure = refl
 never-zero ShortPage = refl
+never-zero ShortText = refl
 never-zero BadKernelLine = refl
 never-zero LoadersDiffer = refl
 never-zero Unclosed = refl

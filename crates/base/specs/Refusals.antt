@@ -1,7 +1,7 @@
 -- The numbers of 01's table of refusals, "The store", and of 02's. Definitions only.
 use Prim.Native.Nat.{ℕ}
 use Rattle.base.specs.declared.refusal.Refusal.{Refusal}
-use Rattle.base.specs.declared.refusal.Refusal.the-variants.{Ragged, Oversize, LooseCorner, ShortStore, Unsound, NoPlace, Vacant, Unfinished, ShortList, BadMatrix, FlatPivot, Exponent, BadLine, BadTrack, ManyKernels, NoLayer, NoFigure, ShortPage, BadKernelLine, LoadersDiffer, Unclosed}
+use Rattle.base.specs.declared.refusal.Refusal.the-variants.{Ragged, Oversize, LooseCorner, ShortStore, Unsound, NoPlace, Vacant, Unfinished, ShortList, BadMatrix, FlatPivot, Exponent, BadLine, BadTrack, ManyKernels, NoLayer, NoFigure, ShortPage, ShortText, BadKernelLine, LoadersDiffer, Unclosed}
 
 abbrev pub number : Refusal → ℕ
 -- coordinate or index count not a multiple of 3
@@ -28,7 +28,7 @@ number BadMatrix = 10
 number FlatPivot = 11
 -- `normalize_kernels`: some abs(alpha - 1) > 1e-9 (NaN passes)
 number Exponent = 12
--- program only
+-- a line of the program that is none of its forms; "also for bytes that aren't one whole opening and then puts" (02, L10)
 number BadLine = 13
 -- a track of more than 4,096 points, of a coordinate count that isn't a multiple of 3, or with a run that is too short (02, L1)
 number BadTrack = 14
@@ -40,6 +40,8 @@ number NoLayer = 16
 number NoFigure = 17
 -- the lent page is too short (02, L8)
 number ShortPage = 18
+-- the writer's lent bytes are too few (02, L10)
+number ShortText = 19
 -- a line isn't of the form of a kernel line (02, L11)
 number BadKernelLine = 20
 -- the strict form finds differing kernels (02, L11)

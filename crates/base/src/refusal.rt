@@ -28,7 +28,7 @@ pub enum Refusal {
     FlatPivot,
     // 12: an exponent is farther than 1e-9 from 1, where only 1 is taken (NaN passes)
     Exponent,
-    // 13: a line that is none of the program's forms
+    // 13: a line that is none of the program's forms, or bytes that are not a whole opening and then puts
     BadLine,
     // 14: a track is too long or not of threes, or its run is too short
     BadTrack,
@@ -40,6 +40,8 @@ pub enum Refusal {
     NoFigure,
     // 18: the page's bytes are too few
     ShortPage,
+    // 19: the bytes are too few for a store's lines
+    ShortText,
     // 20: a line that is no kernel line
     BadKernelLine,
     // 21: the two loaders make different kernels of the lines
@@ -57,6 +59,12 @@ pub enum Checked {
 // What a call answers whose value is a float.
 pub enum Measured {
     Value(f64),
+    Refused(Refusal),
+}
+
+// What a call answers that prints into lent bytes: how many bytes.
+pub enum Printed {
+    Bytes(u64),
     Refused(Refusal),
 }
 
@@ -83,6 +91,7 @@ pub fn refusal_number(refusal: Refusal) -> u32
         Refusal::NoLayer => 16,
         Refusal::NoFigure => 17,
         Refusal::ShortPage => 18,
+        Refusal::ShortText => 19,
         Refusal::BadKernelLine => 20,
         Refusal::LoadersDiffer => 21,
         Refusal::Unclosed => 22,

@@ -5,12 +5,11 @@ use mathlib.Core.List.{List}
 use lib.Dec.{eqb}
 use lib.ListN.{getD}
 use lib.Ieee.{Float}
-use Rattle.base.specs.Answers.{Answer}
+use Rattle.base.specs.Answers.{Answer, Printout}
 use Rattle.base.specs.Floats.{+0}
 use Rattle.density.specs.declared.convention.Convention.{Convention}
 use Rattle.density.specs.declared.convention.Convention.the-variants.{Raw, Rho0, Mass}
 use Rattle.layout.specs.After.{After}
-use Rattle.page.specs.Page.{Paged}
 use Rattle.cauchy.specs.Crossing.{Lent, lent, fitFrom}
 use Rattle.cauchy.specs.Volumes.{massFrom}
 use Rattle.cauchy.specs.declared.stores.CauchyOpened.{CauchyOpened}
@@ -23,6 +22,7 @@ use Rattle.cauchy.specs.declared.stores.CauchyFinished.{CauchyFinished}
 use Rattle.cauchy.specs.declared.stores.CauchyListed.{CauchyListed}
 use Rattle.cauchy.specs.declared.stores.CauchyTrack.{CauchyTrack}
 use Rattle.cauchy.specs.declared.stores.CauchyBytes.{CauchyBytes}
+use Rattle.cauchy.specs.declared.scripts.CauchyLoaded.{CauchyLoaded}
 
 -- ---- what C gets, with the runs as they are then
 pub record Crossed (A : Type 0) : Type 0 where
@@ -86,13 +86,18 @@ listedFrom a = record { no = a .refusal; pieces = getD (a .counts) 0 0 }
 abbrev pub trackFrom : Answer → CauchyTrack
 trackFrom a = record { no = a .refusal; points = getD (a .counts) 0 0 }
 
--- page: "it answers its byte count"
+-- page, and writer: "it answers its byte count"
 abbrev pub bytesFrom : Answer → CauchyBytes
 bytesFrom a = record { no = a .refusal; bytes = getD (a .counts) 0 0 }
 
--- with the lent page as it is then
-abbrev pub pinnedFrom : Paged → Lent CauchyBytes ℕ
-pinnedFrom p = lent (bytesFrom (p .reply)) (p .page)
+-- with the lent bytes as they are then
+abbrev pub printedFrom : Printout → Lent CauchyBytes ℕ
+printedFrom p = lent (bytesFrom (p .reply)) (p .bytes)
+
+-- reader: vertices, faces, lines of puts
+abbrev pub loadedFrom : Answer → CauchyLoaded
+loadedFrom a =
+    record { no = a .refusal; verts = getD (a .counts) 0 0; faces = getD (a .counts) 1 0; puts = getD (a .counts) 2 0 }
 
 -- ---- "raw, rho0 with a bulk density, or mass with target and bulk", by a kind: 0, 1, any other
 abbrev pub conventionOf : CauchyConvention → Convention

@@ -4,6 +4,7 @@ pub mod files;
 pub mod kernels;
 pub mod meshes;
 pub mod numbers;
+pub mod scripts;
 pub mod sources;
 pub mod stores;
 pub mod volumes;

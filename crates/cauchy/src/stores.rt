@@ -24,11 +24,11 @@ ghost use Rattle.readings.specs.FinishedAnswer.{finishedRead};
 ghost use Rattle.readings.specs.ListAnswer.{listRead};
 ghost use Rattle.readings.specs.ReportAnswer.{reportRead};
 ghost use Rattle.readings.specs.TrackAnswer.{trackRead};
+ghost use Rattle.base.specs.Answers.{printedAs};
 ghost use Rattle.page.specs.Page.{pageStep};
-ghost use Rattle.page.specs.PageAnswer.{pageRead};
 ghost use Rattle.cauchy.specs.Volumes.{valueFrom};
 ghost use Rattle.cauchy.specs.Crossing.{lent, lentFrom, numberFrom};
-ghost use Rattle.cauchy.specs.StoreCrossing.{crossed, across, openedFrom, placedFrom, stepsFrom, squeezedFrom, conventionOf, reportFrom, finishedFrom, listedFrom, trackFrom, bytesFrom, pinnedFrom};
+ghost use Rattle.cauchy.specs.StoreCrossing.{crossed, across, openedFrom, placedFrom, stepsFrom, squeezedFrom, conventionOf, reportFrom, finishedFrom, listedFrom, trackFrom, bytesFrom, printedFrom};
 use crate::kernels::CauchyFit;
 use crate::kernels::fit_of;
 use crate::volumes::CauchyValue;
@@ -36,12 +36,12 @@ use crate::volumes::no_report;
 use crate::volumes::value_of;
 use advance::advance::Advanced;
 use advance::advance::advance;
+use base::refusal::Printed;
 use base::refusal::refusal_number;
 use density::convention::Convention;
 use density::report::MassReport;
 use kernel::kernel::Kernel;
 use mesh::vectors::V3;
-use page::call::PageRead;
 use page::call::page;
 use readings::at_point::density;
 use readings::finished::FinishedRead;
@@ -473,12 +473,12 @@ pub extern "C" fn cauchy_store_track(
     ))
 }
 
-fn bytes_of(d: PageRead) -> CauchyBytes
-    ensures { λ r. ⌜ r ≡ bytesFrom (pageRead d) ⌝ }
+pub fn bytes_of(d: Printed) -> CauchyBytes
+    ensures { λ r. ⌜ r ≡ bytesFrom (printedAs d) ⌝ }
 {
     match d {
-        PageRead::Bytes(bytes) => CauchyBytes { no: 0, bytes },
-        PageRead::Refused(r) => CauchyBytes {
+        Printed::Bytes(bytes) => CauchyBytes { no: 0, bytes },
+        Printed::Refused(r) => CauchyBytes {
             no: refusal_number(r),
             bytes: 0,
         },
@@ -488,7 +488,7 @@ fn bytes_of(d: PageRead) -> CauchyBytes
 // Writes the wall page of a store with no work left: 4, 5, 8, 17 or 18. Bytes of `out` past it stay.
 #[no_mangle]
 pub extern "C" fn cauchy_store_page(floats: &[f64], words: &[u32], out: &mut [u8]) -> CauchyBytes
-    ensures { λ r. ⌜ lent r (now (out .exit)) ≡ pinnedFrom (pageStep width (now (floats .entry)) (now (words .entry)) (now (out .entry))) ⌝ }
+    ensures { λ r. ⌜ lent r (now (out .exit)) ≡ printedFrom (pageStep width (now (floats .entry)) (now (words .entry)) (now (out .entry))) ⌝ }
 {
     bytes_of(page(floats, words, out))
 }

@@ -3,7 +3,7 @@ use Prim.Native.Nat.{ℕ}
 use mathlib.Core.List.{List, [], _∷_}
 use mathlib.Core.Logic.{_⊎_, inl, inr}
 use Rattle.text.specs.Text.{Text, lost, left}
-use Rattle.text.specs.Form.{Form, end, real, either, Vals, map, choose, read, print, say, u32, u64, three, _&_}
+use Rattle.text.specs.Form.{Form, end, real, either, Vals, map, choose, read, print, say, u32, u64, followed, three, _&_}
 use Rattle.density.specs.declared.convention.Convention.{Convention}
 use Rattle.density.specs.declared.convention.Convention.the-variants.{Raw, Rho0, Mass}
 use Rattle.forms.specs.declared.line.Line.{Line}
@@ -57,10 +57,17 @@ faceForm = say "(face " (u32 (say " " (u32 (say " " (u32 (say ")" end))))))
 abbrev pub toFace : Vals faceForm → Line
 toFace v = Face (v .0) (v .1 .0) (v .1 .1 .0)
 
+-- a put's line up to its exponent
+abbrev pub putStart : Form
+putStart =
+    say "(put " (u32 (say " (c " (three (say ") (sigma " (real (say ") (w " (real (say ") (alpha " (real end)))))))))
+
+-- and its end
+abbrev pub putEnd : Form
+putEnd = say "))" end
+
 abbrev pub putForm : Form
-putForm =
-    say "(put " (u32 (say " (c " (three
-    (say ") (sigma " (real (say ") (w " (real (say ") (alpha " (real (say "))" end))))))))))
+putForm = followed putStart putEnd
 
 abbrev pub toPut : Vals putForm → Line
 toPut v =

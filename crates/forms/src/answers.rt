@@ -4,32 +4,20 @@
 ghost use mathlib.Core.List.{_++_};
 ghost use Prim.Native.Nat.{_+_, _≤_};
 ghost use lib.ListN.{length};
-ghost use Rattle.text.specs.Print.{Wrote, decimalText, floatText};
+ghost use Rattle.text.specs.Print.{Wrote, decimalText};
 ghost use Rattle.text.specs.Form.{end, print, three, _&_};
 ghost use Rattle.forms.specs.Answers.{openAnswer, putAnswer, densityAnswer, advanceAnswer, clearAnswer, reweighAnswer, counts, reportAnswer, noAnswer};
 use density::report::MassReport;
 use text::write::write_bytes;
-use text::write::write_decimal;
-use text::write::write_float;
+use text::write::write_real;
 
-// The bytes `p`, and a decimal number.
+// The bytes `p`, and a decimal number, where there is room for any.
 fn write_number(out: &mut [u8], at: usize, p: &[u8], n: u64) -> usize
     requires { ⌜ at + length (now p) + 20 ≤ length (now out) ⌝ }
     ensures { λ r. ⌜ r ≤ at + length (now (p .entry)) + 20 ⌝ }
     ensures { λ r. ⌜ Wrote (now (out .entry)) at (now (p .entry) ++ decimalText n) r (now (out .exit)) ⌝ }
 {
-    let a = write_bytes(out, at, p);
-    write_decimal(out, a, n)
-}
-
-// The bytes `p`, and a float.
-fn write_real(out: &mut [u8], at: usize, p: &[u8], x: f64) -> usize
-    requires { ⌜ at + length (now p) + 16 ≤ length (now out) ⌝ }
-    ensures { λ r. ⌜ r ≤ at + length (now (p .entry)) + 16 ⌝ }
-    ensures { λ r. ⌜ Wrote (now (out .entry)) at (now (p .entry) ++ floatText x) r (now (out .exit)) ⌝ }
-{
-    let a = write_bytes(out, at, p);
-    write_float(out, a, x)
+    text::write::write_number(out, at, p, n)
 }
 
 // (open (verts V) (faces F))

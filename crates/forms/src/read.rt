@@ -2,7 +2,7 @@
 // word names. No function here has a `requires`.
 ghost use mathlib.Core.Path.{_≡_};
 ghost use Rattle.text.specs.Text.{rest, got};
-ghost use Rattle.text.specs.Form.{end, map, or, three, _&_};
+ghost use Rattle.text.specs.Form.{end, map, or};
 ghost use Rattle.text.specs.Form.{read as form};
 ghost use Rattle.text.specs.FormLaws.{begins};
 ghost use Rattle.forms.specs.Forms.{rawForm, rho0Form, massForm, convention, toRaw, toRho0, toMass, toConvention};
@@ -11,6 +11,11 @@ ghost use Rattle.forms.specs.Forms.{toOpen, toVert, toFace, toPut, toCle
 ghost use Rattle.forms.specs.Words.{byWord};
 use crate::line::Call;
 use crate::line::Line;
+use crate::parts::face;
+use crate::parts::opening;
+use crate::parts::put_start;
+use crate::parts::read_three;
+use crate::parts::vertex;
 use density::convention::Convention;
 use text::read::read_bytes;
 use text::read::read_float;
@@ -27,29 +32,6 @@ pub struct ReadLine {
 pub struct ReadConvention {
     pub rule: Convention,
     pub at: usize,
-}
-
-// Three floats that were read, and the position after them.
-pub struct ReadThree {
-    pub x: f64,
-    pub y: f64,
-    pub z: f64,
-    pub at: usize,
-}
-
-// h h h
-pub fn read_three(s: &[u8], at: usize) -> ReadThree
-    ensures { λ r. ⌜ got (now (s .entry)) (r .x & r .y & r .z & tt) (r .at) ≡ form (three end) (rest (now (s .entry)) at) ⌝ }
-{
-    let x = read_float(s, at);
-    let y = read_float(s, read_bytes(s, x.at, b" "));
-    let z = read_float(s, read_bytes(s, y.at, b" "));
-    ReadThree {
-        x: x.val,
-        y: y.val,
-        z: z.val,
-        at: z.at,
-    }
 }
 
 // (raw)
@@ -107,16 +89,14 @@ pub fn read_convention(s: &[u8], at: usize) -> ReadConvention
 pub fn read_open(s: &[u8], at: usize) -> ReadLine
     ensures { λ r. ⌜ got (now (s .entry)) (r .line) (r .at) ≡ map toOpen (form openForm (rest (now (s .entry)) at)) ⌝ }
 {
-    let r = read_float(s, read_bytes(s, at, b"(open (radius "));
-    let v = read_u32(s, read_bytes(s, r.at, b") (verts "));
-    let f = read_u32(s, read_bytes(s, v.at, b") (faces "));
+    let h = opening(s, at);
     ReadLine {
         line: Line::Open {
-            radius: r.val,
-            verts: v.val,
-            faces: f.val,
+            radius: h.radius,
+            verts: h.verts,
+            faces: h.faces,
         },
-        at: read_bytes(s, f.at, b"))"),
+        at: h.at,
     }
 }
 
@@ -124,10 +104,10 @@ pub fn read_open(s: &[u8], at: usize) -> ReadLine
 pub fn read_vert(s: &[u8], at: usize) -> ReadLine
     ensures { λ r. ⌜ got (now (s .entry)) (r .line) (r .at) ≡ map toVert (form vertForm (rest (now (s .entry)) at)) ⌝ }
 {
-    let p = read_three(s, read_bytes(s, at, b"(vert "));
+    let p = vertex(s, at);
     ReadLine {
         line: Line::Vert(p.x, p.y, p.z),
-        at: read_bytes(s, p.at, b")"),
+        at: p.at,
     }
 }
 
@@ -135,12 +115,10 @@ pub fn read_vert(s: &[u8], at: usize) -> ReadLine
 pub fn read_face(s: &[u8], at: usize) -> ReadLine
     ensures { λ r. ⌜ got (now (s .entry)) (r .line) (r .at) ≡ map toFace (form faceForm (rest (now (s .entry)) at)) ⌝ }
 {
-    let a = read_u32(s, read_bytes(s, at, b"(face "));
-    let b = read_u32(s, read_bytes(s, a.at, b" "));
-    let c = read_u32(s, read_bytes(s, b.at, b" "));
+    let p = face(s, at);
     ReadLine {
-        line: Line::Face(a.val, b.val, c.val),
-        at: read_bytes(s, c.at, b")"),
+        line: Line::Face(p.a, p.b, p.c),
+        at: p.at,
     }
 }
 
@@ -148,23 +126,19 @@ pub fn read_face(s: &[u8], at: usize) -> ReadLine
 pub fn read_put(s: &[u8], at: usize) -> ReadLine
     ensures { λ r. ⌜ got (now (s .entry)) (r .line) (r .at) ≡ map toPut (form putForm (rest (now (s .entry)) at)) ⌝ }
 {
-    let p = read_u32(s, read_bytes(s, at, b"(put "));
-    let c = read_three(s, read_bytes(s, p.at, b" (c "));
-    let g = read_float(s, read_bytes(s, c.at, b") (sigma "));
-    let w = read_float(s, read_bytes(s, g.at, b") (w "));
-    let a = read_float(s, read_bytes(s, w.at, b") (alpha "));
+    let p = put_start(s, at);
     let call = Call::Put {
-        place: p.val,
-        x: c.x,
-        y: c.y,
-        z: c.z,
-        sigma: g.val,
-        w: w.val,
-        alpha: a.val,
+        place: p.place,
+        x: p.x,
+        y: p.y,
+        z: p.z,
+        sigma: p.sigma,
+        w: p.w,
+        alpha: p.alpha,
     };
     ReadLine {
         line: Line::OnStore(call),
-        at: read_bytes(s, a.at, b"))"),
+        at: read_bytes(s, p.at, b"))"),
     }
 }
 

@@ -9,7 +9,7 @@ use lib.Dec.{ltb, leb, eqb}
 use lib.ListN.{length}
 use lib.Ieee.{Float}
 use borrow.Author.Tests.{lt-ltb, ltb-true, le-leb, lt-leb, leb-true, leb-false}
-use Rattle.base.specs.Answers.{Answer, refused, counted, Outcome, outcome, guardedRun, andThen}
+use Rattle.base.specs.Answers.{Answer, refused, counted, Outcome, outcome, guardedRun, Printout, printout, guardedBytes, andThen}
 use Rattle.base.specs.declared.refusal.Refusal.{Refusal}
 use Rattle.base.specs.declared.refusal.Refusal.the-variants.{Unfinished, NoLayer, ShortList, BadTrack, NoFigure, ShortPage}
 use Rattle.base.specs.declared.refusal.Checked.the-variants.{Passed, Failed}
@@ -21,7 +21,7 @@ use Rattle.layout.specs.After.{After, after}
 use Rattle.store.specs.Calls.{openCheck, openStep}
 use Rattle.readings.specs.Readings.{Reading, density, report, list, track, bare, applied, rescaled, densityAt, sixes, Seen, trackLimit, trackCheck, answerOf, refusing}
 use Rattle.readings.specs.Finished.{beside}
-use Rattle.page.specs.Page.{Row, Paged, paged, allPrintable, pageOf, guardedPage, pageAnswer}
+use Rattle.page.specs.Page.{Row, allPrintable, pageOf, pageAnswer}
 use Rattle.machine.specs.Machine.{Mesh, Place, leftSum, seenPlaces, completePlaces, passedPlaces, Machine, opened, openRow}
 use Rattle.machine.specs.Holding.{excessF, excessW}
 use Rattle.machine.specs.Fresh.{kernelsOf, freshRows, workedAfresh, finishedAfresh, pageAfresh}
@@ -120,7 +120,7 @@ unfolding pageAnswer
 paged-not rs bs e = go (allPrintable rs) (leb (length (pageOf rs)) (length bs)) (ap (λ (a : Answer). a .refusal) e)
   where
     go : (a b : Bool)
-        → guardedPage (andThen (cond a Passed (Failed NoFigure)) (cond b Passed (Failed ShortPage))) bs (paged (counted (length (pageOf rs) ∷ [])) (write bs 0 (pageOf rs))) .reply .refusal ≡ 8 → ⊥
+        → guardedBytes (andThen (cond a Passed (Failed NoFigure)) (cond b Passed (Failed ShortPage))) bs (printout (counted (length (pageOf rs) ∷ [])) (write bs 0 (pageOf rs))) .reply .refusal ≡ 8 → ⊥
     go true true z = omega arith
     go true false z = omega arith
     go false b z = omega arith
@@ -129,12 +129,12 @@ page-not : (m : Mesh) (ss : List Place) (bs : List ℕ) → pageAfresh m ss bs .
 unfolding pageAfresh
 page-not m ss bs = paged-not (freshRows m 0 ss) bs
 
-module _ (o : Paged) (bs : List ℕ) where
-  page-eight : (o .reply ≡ refused Unfinished → ⊥) → (b : Bool) → cond b (paged (refused Unfinished) bs) o .reply ≡ refused Unfinished → b ≡ true
+module _ (o : Printout) (bs : List ℕ) where
+  page-eight : (o .reply ≡ refused Unfinished → ⊥) → (b : Bool) → cond b (printout (refused Unfinished) bs) o .reply ≡ refused Unfinished → b ≡ true
   page-eight n true e = refl
   page-eight n false e = absurd (n e)
 
-  page-other : (b : Bool) → (cond b (paged (refused Unfinished) bs) o .reply ≡ refused Unfinished → ⊥) → cond b (paged (refused Unfinished) bs) o ≡ o
+  page-other : (b : Bool) → (cond b (printout (refused Unfinished) bs) o .reply ≡ refused Unfinished → ⊥) → cond b (printout (refused Unfinished) bs) o ≡ o
   page-other true n = absurd (n refl)
   page-other false n = refl
 
@@ -226,7 +226,7 @@ module _ (wd : ℕ) (fm : Width wd) (exF : List Float) (exW : List ℕ) where
         only-then = λ z. ltb-true 0 l (page-eight f bs (page-not (m .mesh) (m .places) bs) (ltb 0 l) (sym er ∙ z));
         afresh = λ z.
             let t = page-other f bs (ltb 0 l) (λ y. z (er ∙ y)) ∙ page-opened o (m .mesh) g (m .places) bs in
-            (er ∙ ap (λ (a : Paged). a .reply) t, ep ∙ ap (λ (a : Paged). a .page) t);
+            (er ∙ ap (λ (a : Printout). a .reply) t, ep ∙ ap (λ (a : Printout). a .bytes) t);
         kept = ap (λ (x : Result). x .runs) e;
       }
 

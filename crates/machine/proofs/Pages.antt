@@ -9,13 +9,13 @@ use lib.Seq.{take-suc, take-all, length-take-le}
 use lib.Dec.{ltb, eqb}
 use lib.Ieee.{Float}
 use borrow.Author.Tests.{ltb-false, ne-eqb}
-use Rattle.base.specs.Answers.{refused}
+use Rattle.base.specs.Answers.{refused, printout, guardedBytes}
 use Rattle.base.specs.declared.refusal.Refusal.the-variants.{Unfinished}
 use Rattle.base.specs.declared.refusal.Checked.the-variants.{Passed, Failed}
 use Rattle.pieces.specs.declared.pieces.Pieces.{Pieces}
 use Rattle.layout.specs.Layout.{facesOf}
 use Rattle.readings.specs.Readings.{rawMass, heldAt}
-use Rattle.page.specs.Page.{Row, row, paged, pageAnswer, rowAt, heldRows, guardedPage, doneCheck, pageStep}
+use Rattle.page.specs.Page.{Row, row, pageAnswer, rowAt, heldRows, doneCheck, pageStep}
 use Rattle.machine.specs.Machine.{Mesh, Place, empty, full, leftSum}
 use Rattle.machine.specs.Holding.{placeRow, wordsOf}
 use Rattle.machine.specs.Fresh.{massOf, piecesOf, freshRow, freshRows, pageAfresh}
@@ -73,10 +73,10 @@ module _ (wd : ℕ) (fm : Width wd) (m : Mesh) (ss : List Place) (v : Valid m ss
   unfolding wordsOf
   faces-held = refl
 
-  pub page-held : (bs : List ℕ) → pageStep wd FS WS bs ≡ cond (ltb 0 (leftSum m ss)) (paged (refused Unfinished) bs) (pageAfresh m ss bs)
+  pub page-held : (bs : List ℕ) → pageStep wd FS WS bs ≡ cond (ltb 0 (leftSum m ss)) (printout (refused Unfinished) bs) (pageAfresh m ss bs)
   unfolding pageStep doneCheck pageAfresh
   page-held bs = rw (no-fault wd fm m ss v xs ys, faces-held, left-held wd fm m ss v ys) (go (ltb 0 (leftSum m ss)) refl)
     where
-      go : (b : Bool) → ltb 0 (leftSum m ss) ≡ b → guardedPage (cond b (Failed Unfinished) Passed) bs (pageAnswer (heldRows wd FS WS 32) bs) ≡ cond b (paged (refused Unfinished) bs) (pageAnswer (freshRows m 0 ss) bs)
+      go : (b : Bool) → ltb 0 (leftSum m ss) ≡ b → guardedBytes (cond b (Failed Unfinished) Passed) bs (pageAnswer (heldRows wd FS WS 32) bs) ≡ cond b (printout (refused Unfinished) bs) (pageAnswer (freshRows m 0 ss) bs)
       go true e = refl
       go false e = ap (λ (rs : List Row). pageAnswer rs bs) (rows-held (let z = ltb-false 0 (leftSum m ss) e in omega arith))

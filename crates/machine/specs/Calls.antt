@@ -7,7 +7,7 @@ use lib.Dec.{ltb, leb}
 use lib.ListN.{getD, replicate}
 use lib.Ieee.{Float, lt}
 use Rattle.base.specs.Floats.{+0}
-use Rattle.base.specs.Answers.{Answer, refused, Outcome, outcome}
+use Rattle.base.specs.Answers.{Answer, refused, Outcome, outcome, Printout, printout}
 use Rattle.base.specs.declared.refusal.Refusal.the-variants.{NoPlace, Unfinished, NoLayer}
 use Rattle.kernel.specs.declared.kernel.Kernel.{Kernel}
 use Rattle.pieces.specs.Pieces.{decomposed}
@@ -21,7 +21,7 @@ use Rattle.density.specs.declared.convention.Convention.{Convention}
 use Rattle.density.specs.declared.convention.Convention.the-variants.{Raw, Rho0, Mass}
 use Rattle.readings.specs.Readings.{Reading, density, report, list, track, refusing, readStep}
 use Rattle.readings.specs.Finished.{finishedStep}
-use Rattle.page.specs.Page.{Paged, paged, pageStep}
+use Rattle.page.specs.Page.{pageStep}
 use Rattle.store.specs.Squeeze.{squeezeStep}
 use Rattle.machine.specs.Machine.{empty, Machine, leftSum, seenPlaces, workLeft, Turn, turn, putTurn, clearTurn, reweighTurn, advanceTurn, squeezeTurn}
 use Rattle.machine.specs.Holding.{floatsOf, wordsOf}
@@ -85,11 +85,11 @@ abbrev pub given : Machine → Outcome → Turn
 given m a = record { next = m; reply = a .reply; out = a .out; page = [] }
 
 -- 02, L8: "It is given only when nothing is left to do, else 8"; a page changes the machine no more than a reading
-abbrev pub pageTurn : Machine → List ℕ → Paged
-pageTurn m bs = cond (ltb 0 (workLeft m)) (paged (refused Unfinished) bs) (pageAfresh (m .mesh) (m .places) bs)
+abbrev pub pageTurn : Machine → List ℕ → Printout
+pageTurn m bs = cond (ltb 0 (workLeft m)) (printout (refused Unfinished) bs) (pageAfresh (m .mesh) (m .places) bs)
 
-abbrev pub posted : Machine → Paged → Turn
-posted m a = record { next = m; reply = a .reply; out = []; page = a .page }
+abbrev pub posted : Machine → Printout → Turn
+posted m a = record { next = m; reply = a .reply; out = []; page = a .bytes }
 
 unfoldable pub machine : Machine → Call → Turn
 machine m (put i k l) =
@@ -124,8 +124,8 @@ result a = record { runs = record { floats = a .floats; words = a .words }; repl
 abbrev pub seen : Store → Outcome → Result
 seen s a = record { runs = s; reply = a .reply; out = a .out; page = [] }
 
-abbrev pub pinned : Store → Paged → Result
-pinned s a = record { runs = s; reply = a .reply; out = []; page = a .page }
+abbrev pub pinned : Store → Printout → Result
+pinned s a = record { runs = s; reply = a .reply; out = []; page = a .bytes }
 
 -- each call is the function of its contract
 unfoldable pub store : ℕ → Store → Call → Result

@@ -102,7 +102,7 @@ pub record Post (q : ℕ) (mesh : Mesh) (m : Machine) (s : Store) (bs : List ℕ
   -- left out here
   pub afresh : (store q s (page bs) .reply ≡ refused Unfinished → ⊥)
       → (store q s (page bs) .reply ≡ pageAfresh mesh (m .places) bs .reply)
-      × (store q s (page bs) .page ≡ pageAfresh mesh (m .places) bs .page)
+      × (store q s (page bs) .page ≡ pageAfresh mesh (m .places) bs .bytes)
   -- a page alters no word of the store
   pub kept : store q s (page bs) .runs ≡ s
 

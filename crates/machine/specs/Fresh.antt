@@ -7,7 +7,7 @@ use Prim.Native.Nat.{ℕ, zero, suc, _*_, _/_}
 use lib.ListN.{length, getD}
 use lib.Ieee.{Float, nan}
 use Rattle.base.specs.Floats.{+0, greater}
-use Rattle.base.specs.Answers.{Answer, counted, Outcome, outcome, guardedRun, roomCheck}
+use Rattle.base.specs.Answers.{Answer, counted, Outcome, outcome, guardedRun, Printout, roomCheck}
 use Rattle.layout.specs.Runs.{write}
 use Rattle.kernel.specs.declared.kernel.Kernel.{Kernel}
 use Rattle.pieces.specs.declared.pieces.Pieces.{Pieces}
@@ -21,7 +21,7 @@ use Rattle.density.specs.Reports.{reportOf}
 use Rattle.readings.specs.Along.{along}
 use Rattle.readings.specs.Readings.{Reading, density, report, list, track, origin, rescaled, sixes, reported, trackCheck}
 use Rattle.readings.specs.Finished.{beside}
-use Rattle.page.specs.Page.{Row, row, Paged, pageAnswer}
+use Rattle.page.specs.Page.{Row, row, pageAnswer}
 use Rattle.machine.specs.Machine.{Mesh, Place, empty, full, completePlaces, passedPlaces}
 
 -- ---- "the machine's filled places in order": their kernels
@@ -105,5 +105,5 @@ freshRows m i [] = []
 freshRows m i (s ∷ ss) = freshRow m i s ++ freshRows m (suc i) ss
 
 -- the page of those rows into lent bytes, rows 17 and 18
-unfoldable pub pageAfresh : Mesh → List Place → List ℕ → Paged
+unfoldable pub pageAfresh : Mesh → List Place → List ℕ → Printout
 pageAfresh m ss bs = pageAnswer (freshRows m 0 ss) bs

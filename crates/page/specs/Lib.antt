@@ -1,5 +1,4 @@
 pub mod Page
-pub mod PageAnswer
 pub mod PageLaws
 pub mod ReadBack
 pub mod Posted

@@ -6,7 +6,7 @@ use lib.Dec.{ltb, leb, eqb}
 use lib.IntN.{ℤ, pos, negsuc, _+ℤ_}
 use lib.ListN.{length, replicate}
 use lib.Ieee.{Float}
-use Rattle.base.specs.Answers.{Answer, counted, refused, andThen}
+use Rattle.base.specs.Answers.{counted, andThen, Printout, printout, guardedBytes}
 use Rattle.base.specs.declared.refusal.Refusal.the-variants.{Unfinished, NoFigure, ShortPage}
 use Rattle.base.specs.declared.refusal.Checked.{Checked}
 use Rattle.base.specs.declared.refusal.Checked.the-variants.{Passed, Failed}
@@ -75,19 +75,6 @@ pageOf rs = linesOf rs ++ totalLine (totalOf rs)
 
 -- ---- the call
 
--- an answer, and the bytes of the lent page as they are then
-pub record Paged : Type 0 where
-  pub reply : Answer
-  pub page : List ℕ
-
-abbrev pub paged : Answer → List ℕ → Paged
-paged r bs = record { reply = r; page = bs }
-
--- "a refused call changes nothing": what follows where a check passes; else its refusal, the page as it was
-abbrev pub guardedPage : Checked → List ℕ → Paged → Paged
-guardedPage Passed bs good = good
-guardedPage (Failed r) bs good = paged (refused r) bs
-
 -- "17 when a place's field mass is NaN or, unrounded, exceeds 10^15 in magnitude"
 abbrev pub allPrintable : List Row → Bool
 allPrintable [] = true
@@ -101,10 +88,10 @@ abbrev pub pageCheck : ℕ → ℕ → Checked
 pageCheck need room = cond (leb need room) Passed (Failed ShortPage)
 
 -- "it answers its byte count, bytes past that untouched"
-unfoldable pub pageAnswer : List Row → List ℕ → Paged
+unfoldable pub pageAnswer : List Row → List ℕ → Printout
 pageAnswer rs bs =
-    guardedPage (andThen (figureCheck rs) (pageCheck (length (pageOf rs)) (length bs))) bs
-    (paged (counted (length (pageOf rs) ∷ [])) (write bs 0 (pageOf rs)))
+    guardedBytes (andThen (figureCheck rs) (pageCheck (length (pageOf rs)) (length bs))) bs
+    (printout (counted (length (pageOf rs) ∷ [])) (write bs 0 (pageOf rs)))
 
 -- ---- as a store's runs hold it: place i, empty where its status is 0. "The mass is the place's own field mass"
 abbrev pub rowAt : List Float → ℕ → ℕ → List Row
@@ -121,5 +108,5 @@ doneCheck q fs ws =
     andThen (storeCheck q fs ws) (cond (ltb 0 (leftOf q ws (facesOf ws) placeLimit)) (Failed Unfinished) Passed)
 
 -- the contract
-unfoldable pub pageStep : ℕ → List Float → List ℕ → List ℕ → Paged
-pageStep q fs ws bs = guardedPage (doneCheck q fs ws) bs (pageAnswer (heldRows q fs ws placeLimit) bs)
+unfoldable pub pageStep : ℕ → List Float → List ℕ → List ℕ → Printout
+pageStep q fs ws bs = guardedBytes (doneCheck q fs ws) bs (pageAnswer (heldRows q fs ws placeLimit) bs)

@@ -12,7 +12,7 @@ use borrow.Author.Tests.{lt-ltb, le-ltb, le-leb, lt-leb}
 use lib.IntN.{ℤ, pos, negsuc, negℤ, natAbs, _+ℤ_, _-ℤ_, +ℤ-assoc, +ℤ-comm, +ℤ-idl, negℤ-+ℤ, pos-+ℤ-pos}
 use lib.ListN.{length, length-append, length-replicate}
 use lib.Ieee.{Float}
-use Rattle.base.specs.Answers.{counted, refused}
+use Rattle.base.specs.Answers.{counted, refused, printout}
 use Rattle.base.specs.declared.refusal.Refusal.the-variants.{NoFigure, ShortPage}
 use Rattle.base.specs.declared.refusal.Checked.the-variants.{Passed}
 use Rattle.layout.specs.Runs.{write}
@@ -20,35 +20,13 @@ use Rattle.layout.specs.Layout.{statusOf}
 use Rattle.layout.specs.Soundness.{storeCheck}
 use Rattle.layout.specs.SoundLaws.{Worded, passed-both}
 use Rattle.readings.specs.Readings.{rawMass, heldAt, heldFilled}
-use Rattle.text.specs.Print.{lengthFrom, decimalLength, decimalText}
-use Rattle.text.specs.WriteLaws.{length-digits}
+use Rattle.text.specs.Print.{decimalLength, decimalText}
+use Rattle.text.specs.LengthLaws.{decimal-length, digits-under}
 use Rattle.whole.specs.Whole.{printable}
 use Rattle.whole.specs.WholeLaws.{rounded-most}
-use Rattle.page.specs.Page.{spaces, right, wholeText, ending, placeLine, totalLine, Row, row, figure, linesOf, totalOf, pageOf, paged, allPrintable, pageAnswer, rowAt, heldRows, doneCheck}
+use Rattle.page.specs.Page.{spaces, right, wholeText, ending, placeLine, totalLine, Row, row, figure, linesOf, totalOf, pageOf, allPrintable, pageAnswer, rowAt, heldRows, doneCheck}
 
 -- ---- lengths of texts
-pub decimal-length : (n : ℕ) → length (decimalText n) ≡ decimalLength n
-unfolding decimalText
-decimal-length n = length-digits 10 (decimalLength n) n
-
-length-under : (f k n : ℕ) → n < 10 ^ suc k → lengthFrom f n ≤ suc k
-unfolding lengthFrom
-length-under zero k n h = omega arith
-length-under (suc f) zero n h = let l : n < 10 = omega arith in rw (lt-ltb n 10 l) (omega arith)
-length-under (suc f) (suc k) n h = go (ltb n 10) (length-under f k (n / 10) less)
-  where
-    less : n / 10 < 10 ^ suc k
-    less = let u : n < 10 ^ suc k * 10 = rw (pow-suc 10 (suc k)) at h in omega arith
-
-    go : (b : Bool) → lengthFrom f (n / 10) ≤ suc k → cond b 1 (suc (lengthFrom f (n / 10))) ≤ suc (suc k)
-    go true g = omega arith
-    go false g = omega arith
-
--- a number below 10 ^ k takes at most k digits
-pub digits-under : (k n : ℕ) → n < 10 ^ suc k → decimalLength n ≤ suc k
-unfolding decimalLength
-digits-under k n h = length-under 19 k n h
-
 pub right-length : (n : ℕ) (t : List ℕ) → length t ≤ n → length (right n t) ≡ n
 right-length n t h = length-append (spaces (n - length t)) t ∙ (let e = length-replicate {A = ℕ} (n - length t) 32 in omega arith)
 
@@ -242,18 +220,18 @@ less-over p (suc l) h =
 
 -- ---- the answers
 module _ (rs : List Row) (bs : List ℕ) where
-  pub unprintable-is : allPrintable rs ≡ false → paged (refused NoFigure) bs ≡ pageAnswer rs bs
+  pub unprintable-is : allPrintable rs ≡ false → printout (refused NoFigure) bs ≡ pageAnswer rs bs
   unfolding pageAnswer
   unprintable-is e = rw e
 
   module _ (e : allPrintable rs ≡ true) (g : AllFair rs) (few : length rs ≤ 32) (n : ℕ) (h : n ≡ 65 * length rs + 65) where
-    pub short-is : length bs < n → paged (refused ShortPage) bs ≡ pageAnswer rs bs
+    pub short-is : length bs < n → printout (refused ShortPage) bs ≡ pageAnswer rs bs
     unfolding pageAnswer
     short-is l =
         let k = page-length rs g few in
         rw (e, lt-leb (length (pageOf rs)) (length bs) (omega arith))
 
-    pub written-is : (bs′ : List ℕ) → n ≤ length bs → bs′ ≡ write bs 0 (pageOf rs) → paged (counted (n ∷ [])) bs′ ≡ pageAnswer rs bs
+    pub written-is : (bs′ : List ℕ) → n ≤ length bs → bs′ ≡ write bs 0 (pageOf rs) → printout (counted (n ∷ [])) bs′ ≡ pageAnswer rs bs
     unfolding pageAnswer
     written-is bs′ l r =
         let k = page-length rs g few in

@@ -9,7 +9,7 @@ use lib.ListN.{length, take, drop}
 use lib.Seq.{take-append-seam, drop-append-seam}
 use lib.Ieee.{Float}
 use borrow.Author.Tests.{eq-eqb}
-use Rattle.base.specs.Answers.{counted, andThen}
+use Rattle.base.specs.Answers.{counted, andThen, Printout, printout, guardedBytes}
 use Rattle.base.specs.Refusals.{number}
 use Rattle.base.specs.RefusalLaws.{never-zero}
 use Rattle.base.specs.declared.refusal.Refusal.{Refusal}
@@ -20,7 +20,7 @@ use Rattle.layout.specs.Runs.{write}
 use Rattle.layout.specs.Layout.{placeLimit, facesOf}
 use Rattle.layout.specs.SoundLaws.{fine}
 use Rattle.readings.specs.Readings.{heldFilled}
-use Rattle.page.specs.Page.{doneCheck, Row, totalOf, pageOf, Paged, paged, guardedPage, allPrintable, pageAnswer, heldRows, pageStep}
+use Rattle.page.specs.Page.{doneCheck, Row, totalOf, pageOf, allPrintable, pageAnswer, heldRows, pageStep}
 use Rattle.page.specs.PageLaws.{AllFair, done-passed, page-length, rows-count, rows-fair, filled-most}
 use Rattle.page.specs.ReadBack.{Lines, exactly, readMass, readLines, shown, page-lines, page-back, total-back}
 
@@ -29,7 +29,7 @@ not-zero e h = absurd (let o : _≡_ {A = Bool} true false = sym (eq-eqb (number
 
 module _ (q : ℕ) (fs : List Float) (ws bs : List ℕ) where
   -- the call, the filled places, how many bytes their page has, and those bytes
-  abbrev pub got : Paged
+  abbrev pub got : Printout
   got = pageStep q fs ws bs
 
   abbrev pub rows : List Row
@@ -39,7 +39,7 @@ module _ (q : ℕ) (fs : List Float) (ws bs : List ℕ) where
   size = 65 * suc (heldFilled q ws placeLimit)
 
   abbrev pub wall : List ℕ
-  wall = take size (got .page)
+  wall = take size (got .bytes)
 
   pub record Posted : Type 0 where
     -- "it answers its byte count"
@@ -51,17 +51,17 @@ module _ (q : ℕ) (fs : List Float) (ws bs : List ℕ) where
     -- "the sum of the printed masses"
     pub total : readMass (drop (65 * heldFilled q ws placeLimit) wall) ≡ exactly (totalOf rows)
     -- "bytes past that untouched"
-    pub rest : drop size (got .page) ≡ drop size bs
+    pub rest : drop size (got .bytes) ≡ drop size bs
 
   -- what follows where the checks of the store, of the masses and of the room end so
-  abbrev so : Checked → Bool → Bool → Paged
-  so a b c = guardedPage a bs (guardedPage (andThen (cond b Passed (Failed NoFigure)) (cond c Passed (Failed ShortPage))) bs (paged (counted (length (pageOf rows) ∷ [])) (write bs 0 (pageOf rows))))
+  abbrev so : Checked → Bool → Bool → Printout
+  so a b c = guardedBytes a bs (guardedBytes (andThen (cond b Passed (Failed NoFigure)) (cond c Passed (Failed ShortPage))) bs (printout (counted (length (pageOf rows) ∷ [])) (write bs 0 (pageOf rows))))
 
   -- a page that is not refused passed all three
   record Good : Type 0 where
     sound : doneCheck q fs ws ≡ Passed
     figures : allPrintable rows ≡ true
-    is : got ≡ paged (counted (length (pageOf rows) ∷ [])) (write bs 0 (pageOf rows))
+    is : got ≡ printout (counted (length (pageOf rows) ∷ [])) (write bs 0 (pageOf rows))
 
   good : got .reply .refusal ≡ 0 → Good
   unfolding pageStep pageAnswer
@@ -82,21 +82,21 @@ module _ (q : ℕ) (fs : List Float) (ws bs : List ℕ) where
       let k = rows-count q fs ws placeLimit in
       let few : length rows ≤ 32 = rw k (filled-most q ws placeLimit) in
       let n : length (pageOf rows) ≡ size = page-length rows f few ∙ omega (arith, k) in
-      let w : wall ≡ pageOf rows = ap (λ (p : Paged). take size (p .page)) (g .is) ∙ rw (← n) (take-append-seam (pageOf rows) (drop (length (pageOf rows)) bs)) in
+      let w : wall ≡ pageOf rows = ap (λ (p : Printout). take size (p .bytes)) (g .is) ∙ rw (← n) (take-append-seam (pageOf rows) (drop (length (pageOf rows)) bs)) in
       record {
-        reply = ap (λ (p : Paged). p .reply) (g .is) ∙ rw n refl;
+        reply = ap (λ (p : Printout). p .reply) (g .is) ∙ rw n refl;
         lines = rw (w, ← k) (page-lines rows f few);
         places = rw (w, ← k) (page-back rows f);
         total = rw (w, ← k) (total-back rows f few);
-        rest = ap (λ (p : Paged). drop size (p .page)) (g .is) ∙ rw (← n) (drop-append-seam (pageOf rows) (drop (length (pageOf rows)) bs));
+        rest = ap (λ (p : Printout). drop size (p .bytes)) (g .is) ∙ rw (← n) (drop-append-seam (pageOf rows) (drop (length (pageOf rows)) bs));
       }
 
   -- "a refused call changes nothing"
-  pub unchanged : (got .reply .refusal ≡ 0 → ⊥) → got .page ≡ bs
+  pub unchanged : (got .reply .refusal ≡ 0 → ⊥) → got .bytes ≡ bs
   unfolding pageStep pageAnswer
   unchanged h = go (doneCheck q fs ws) (allPrintable rows) (leb (length (pageOf rows)) (length bs)) h
     where
-      go : (a : Checked) (b c : Bool) → (so a b c .reply .refusal ≡ 0 → ⊥) → so a b c .page ≡ bs
+      go : (a : Checked) (b c : Bool) → (so a b c .reply .refusal ≡ 0 → ⊥) → so a b c .bytes ≡ bs
       go (Failed e) b c n = refl
       go Passed false c n = refl
       go Passed true false n = refl

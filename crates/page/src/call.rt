@@ -3,17 +3,18 @@ ghost use mathlib.Core.Path.{_≡_};
 ghost use mathlib.Core.Bool.{true};
 ghost use Prim.Native.Nat.{_+_, _*_, _≤_};
 ghost use lib.ListN.{length};
+ghost use Rattle.base.specs.Answers.{printedAs, printout};
 ghost use Rattle.layout.specs.Runs.{write};
 ghost use Rattle.layout.specs.Layout.{width, placeLimit, coordsFrom};
 ghost use Rattle.layout.specs.SoundLaws.{Worded};
-ghost use Rattle.page.specs.Page.{doneCheck, paged, allPrintable, heldRows, pageOf, pageAnswer, pageStep};
-ghost use Rattle.page.specs.PageAnswer.{pageRead};
+ghost use Rattle.page.specs.Page.{doneCheck, allPrintable, heldRows, pageOf, pageAnswer, pageStep};
 use crate::lines::write_total;
 use crate::masses::Sums;
 use crate::masses::all_printable;
 use crate::masses::place_line;
 use crate::masses::total;
 use base::refusal::Checked;
+use base::refusal::Printed;
 use base::refusal::Refusal;
 use layout::check::check_store;
 use layout::left::left;
@@ -22,12 +23,6 @@ use layout::offsets::STATE;
 use layout::offsets::WIDTH;
 use layout::runs::word;
 use readings::counts::count_filled;
-
-// The answer of a page: how many bytes it has.
-pub enum PageRead {
-    Bytes(u64),
-    Refused(Refusal),
-}
 
 // Writes the page of a sound store whose masses can be printed.
 fn write_page(out: &mut [u8], floats: &[f64], words: &[u32], faces: usize)
@@ -48,19 +43,19 @@ fn write_page(out: &mut [u8], floats: &[f64], words: &[u32], faces: usize)
 }
 
 // Refusal 17 or 18, or the page.
-fn page_of(floats: &[f64], words: &[u32], faces: usize, out: &mut [u8]) -> PageRead
+fn page_of(floats: &[f64], words: &[u32], faces: usize, out: &mut [u8]) -> Printed
     requires { ⌜ coordsFrom ≤ length (now floats) ⌝ ∗ ⌜ Worded width (now words) faces ⌝ }
-    ensures { λ r. ⌜ paged (pageRead r) (now (out .exit)) ≡ pageAnswer (heldRows width (now (floats .entry)) (now (words .entry)) placeLimit) (now (out .entry)) ⌝ }
+    ensures { λ r. ⌜ printout (printedAs r) (now (out .exit)) ≡ pageAnswer (heldRows width (now (floats .entry)) (now (words .entry)) placeLimit) (now (out .entry)) ⌝ }
 {
     if !all_printable(floats, words, faces) {
-        return PageRead::Refused(Refusal::NoFigure);
+        return Printed::Refused(Refusal::NoFigure);
     }
     let need = 65 * count_filled(words, faces) + 65;
     if need > out.len() {
-        return PageRead::Refused(Refusal::ShortPage);
+        return Printed::Refused(Refusal::ShortPage);
     }
     write_page(out, floats, words, faces);
-    PageRead::Bytes(need as u64)
+    Printed::Bytes(need as u64)
 }
 
 // Refusal 4, 5 or 8: a page takes places of every layer, so that work left in any of them refuses it.
@@ -78,11 +73,11 @@ fn check_done(floats: &[f64], words: &[u32]) -> Checked
 }
 
 // Writes the page of a store whose work is done into lent bytes.
-pub fn page(floats: &[f64], words: &[u32], out: &mut [u8]) -> PageRead
-    ensures { λ r. ⌜ paged (pageRead r) (now (out .exit)) ≡ pageStep width (now (floats .entry)) (now (words .entry)) (now (out .entry)) ⌝ }
+pub fn page(floats: &[f64], words: &[u32], out: &mut [u8]) -> Printed
+    ensures { λ r. ⌜ printout (printedAs r) (now (out .exit)) ≡ pageStep width (now (floats .entry)) (now (words .entry)) (now (out .entry)) ⌝ }
 {
     match check_done(floats, words) {
-        Checked::Failed(r) => PageRead::Refused(r),
+        Checked::Failed(r) => Printed::Refused(r),
         Checked::Passed => page_of(floats, words, word(words, 1), out),
     }
 }

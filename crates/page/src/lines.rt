@@ -33,7 +33,7 @@ fn write_right(out: &mut [u8], at: usize, wide: usize, n: u64) -> usize
 {
     let k = decimal_length(n);
     let a = write_spaces(out, at, wide - k);
-    write_digits(out, a, 10, k, n)
+    write_digits(out, a, k, n)
 }
 
 // A number below zero by its magnitude, right-aligned in 20 columns.
@@ -44,7 +44,7 @@ fn write_minus(out: &mut [u8], at: usize, n: u64) -> usize
     let k = decimal_length(n);
     let a = write_spaces(out, at, 19 - k);
     let b = write_bytes(out, a, b"-");
-    write_digits(out, b, 10, k, n)
+    write_digits(out, b, k, n)
 }
 
 // A whole number, right-aligned in 20 columns.

@@ -4,6 +4,7 @@ pub mod EditAnswer
 pub mod OpenLaws
 pub mod Puts
 pub mod PutAnswer
+pub mod SoundStores
 pub mod Squeeze
 pub mod SqueezeAnswer
 pub mod Marks

@@ -6,6 +6,7 @@ ghost use lib.ListN.{length};
 ghost use Rattle.layout.specs.Runs.{write};
 ghost use Rattle.layout.specs.Layout.{width, placeLimit, pieceLimit, coordsFrom, cornersFrom, facesOf};
 ghost use Rattle.base.specs.Answers.{andThen};
+ghost use Rattle.base.specs.declared.refusal.Checked.the-variants.{Passed};
 ghost use Rattle.layout.specs.Soundness.{placeCheck, layerCheck};
 ghost use Rattle.layout.specs.After.{after};
 ghost use Rattle.store.specs.Puts.{seven, fresh, atFirst, putFloats, putWords, putStep};
@@ -102,6 +103,22 @@ fn check_put(floats: &[f64], words: &[u32], place: u32, layer: u32) -> Checked
     }
 }
 
+// A put that is not refused. Internal: what its check finds is asked of the caller, who puts many kernels into a store
+// that was looked through once.
+pub fn put_sound(floats: &mut [f64], words: &mut [u32], place: u32, k: Kernel, layer: u32) -> Placed
+    requires { ⌜ andThen (placeCheck width (now floats) (now words) place) (layerCheck layer) ≡ Passed ⌝ }
+    ensures { λ r. ⌜ after (placed r) (now (floats .exit)) (now (words .exit))
+        ≡ putStep width (now (floats .entry)) (now (words .entry)) place k layer ⌝ }
+{
+    let d = decompose(k, floats[0]);
+    let fit = d.fit;
+    let pieces = d.pieces;
+    let count = pieces.count as u32;
+    let need = count * words[1];
+    fill(floats, words, place as usize, k, pieces, layer);
+    Placed::Needs(count, need, fit)
+}
+
 // Puts a kernel into a place, whatever it held, in a layer: its pieces by the store's radius, none of their faces done.
 pub fn put(floats: &mut [f64], words: &mut [u32], place: u32, k: Kernel, layer: u32) -> Placed
     ensures { λ r. ⌜ after (placed r) (now (floats .exit)) (now (words .exit))
@@ -109,14 +126,6 @@ pub fn put(floats: &mut [f64], words: &mut [u32], place: u32, k: Kernel, layer: 
 {
     match check_put(floats, words, place, layer) {
         Checked::Failed(r) => Placed::Refused(r),
-        Checked::Passed => {
-            let d = decompose(k, floats[0]);
-            let fit = d.fit;
-            let pieces = d.pieces;
-            let count = pieces.count as u32;
-            let need = count * words[1];
-            fill(floats, words, place as usize, k, pieces, layer);
-            Placed::Needs(count, need, fit)
-        }
+        Checked::Passed => put_sound(floats, words, place, k, layer),
     }
 }

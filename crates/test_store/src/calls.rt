@@ -11,9 +11,9 @@ use crate::line::say_refused;
 use advance::advance::Advanced;
 use advance::advance::advance;
 use base::refusal::Measured;
+use base::refusal::Printed;
 use density::convention::Convention;
 use kernel::kernel::Kernel;
-use page::call::PageRead;
 use page::call::page;
 use pieces::fit::Fit;
 use readings::at_point::density;
@@ -236,10 +236,10 @@ pub fn run_track(
     }
 }
 
-fn say_paged(p: PageRead) {
+fn say_paged(p: Printed) {
     match p {
-        PageRead::Bytes(n) => say(b" bytes 0", [n, 0], NO_FLOATS),
-        PageRead::Refused(r) => say_refused(r),
+        Printed::Bytes(n) => say(b" bytes 0", [n, 0], NO_FLOATS),
+        Printed::Refused(r) => say_refused(r),
     }
 }
 

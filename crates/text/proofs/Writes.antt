@@ -1,16 +1,13 @@
 -- Stores in a row, and the digits of a number. Assumes nothing.
 use mathlib.Core.Path.{_≡_, refl, sym, ap, _∙_}
 use mathlib.Core.List.{List, [], _∷_}
-use mathlib.Core.Bool.{Bool, true, false}
-use Prim.Native.Nat.{ℕ, zero, suc, _+_, _-_, _*_, _/_, _%_, _^_, _<_, _≤_}
-use native.Mathlib.Nat.{pow-suc}
+use Prim.Native.Nat.{ℕ, zero, suc, _+_, _-_, _/_, _%_, _<_, _≤_}
 use native.Mathlib.Numerals.{add-one}
 use native.Mathlib.Omega.{arith}
 use lib.ListN.{length, set, drop, getD}
 use lib.Seq.{sets, set-comm, drop-cons}
-use lib.Dec.{ltb}
-use borrow.Author.Tests.{lt-ltb, le-ltb, ltb-true, ltb-false}
-use Rattle.text.specs.Print.{glyph, digits, lengthFrom}
+use borrow.Author.Tests.{lt-ltb}
+use Rattle.text.specs.Print.{glyph, digits}
 use Rattle.text.specs.WriteLaws.{sets-append, length-digits}
 
 pub set-sets : (u l : List ℕ) (i j g : ℕ) → i + length u ≤ j → sets (set l j g) i u ≡ set (sets l i u) j g
@@ -38,29 +35,9 @@ bytes-step o p at i h =
     let e : at + (i + 1) ≡ suc (at + i) = omega arith in
     rw (e, add-one i, drop-cons p i 0 h)
 
--- a division more
-pub length-step : (k m : ℕ) → k < 20 → 10 ≤ m → lengthFrom (20 - k) m ≡ suc (lengthFrom (20 - (k + 1)) (m / 10))
-unfolding lengthFrom
-length-step k m hk hm = let e : 20 - k ≡ suc (20 - (k + 1)) = omega arith in rw (e, le-ltb _ _ hm)
-
-pub length-done : (f m : ℕ) → m < 10 → lengthFrom f m ≡ 1
-unfolding lengthFrom
-length-done zero m h = refl
-length-done (suc f) m h = rw (lt-ltb _ _ h)
-
-pub length-below : (k m : ℕ) → k ≤ 20 → m < 10 ^ (21 - k) → 10 ≤ m → (k < 20) × (m / 10 < 10 ^ (21 - (k + 1)))
-length-below k m hk h t = (go (ltb k 20) refl, next)
-  where
-    go : (b : Bool) → ltb k 20 ≡ b → k < 20
-    go true e = ltb-true k 20 e
-    go false e = let l : 20 ≤ k = ltb-false k 20 e in let w : k ≡ 20 = omega arith in let u : m < 10 ^ 1 = rw w at h in absurd (omega arith)
-
-    next : m / 10 < 10 ^ (21 - (k + 1))
-    next =
-        let l = go (ltb k 20) refl in
-        let w : 21 - k ≡ suc (21 - (k + 1)) = omega arith in
-        let u : m < 10 ^ (21 - (k + 1)) * 10 = rw (w, pow-suc) at h in
-        omega arith
+-- a decimal digit's byte
+pub glyph-ten : (d : ℕ) → d < 10 → 48 + d ≡ glyph d
+glyph-ten d h = rw (lt-ltb d 10 h) refl
 
 pub no-digits : (o : List ℕ) (at b i m : ℕ) → i ≡ 0 → o ≡ sets o at (digits b i m)
 unfolding digits

@@ -157,6 +157,14 @@ u64 f = number (2 ^ 64 - 1) f
 abbrev pub u32 : Form → Form
 u32 f = number (2 ^ 32 - 1) f
 
+-- the one form, and then the other
+abbrev pub followed : Form → Form → Form
+followed end g = g
+followed (word p f) g = word p (followed f g)
+followed (number most f) g = number most (followed f g)
+followed (real f) g = real (followed f g)
+followed (either a b f) g = either a b (followed f g)
+
 -- h h h, and then
 abbrev pub three : Form → Form
 three f = real (say " " (real (say " " (real f))))

@@ -12,7 +12,7 @@ returns c =
     let c2 = c .before .before in
     let c7 = c2 .before .before .before .before .before in
     let c11 = c7 .before .before .before .before in
-    let l0 : c7 .write-real .result ≤ c11 .args .at + 9 + 16 = c7 .write-real .ensures .0 in
+    let l0 : c7 .write-real .result ≡ c11 .args .at + 9 + 16 = c7 .write-real .ensures .0 in
     let l1 : c2 .write-bytes .result ≡ c7 .write-real .result + 1 = c2 .write-bytes .ensures .next in
     (omega (arith, l0, l1), then (c7 .write-real .ensures .1) (c2 .write-bytes .ensures))
 

@@ -1,23 +1,17 @@
--- The bytes, and then the token. Assumes nothing.
+-- A number takes 20 digits at most. Assumes nothing.
 use native.Mathlib.Omega.{arith}
 use borrow.Author.Needs.{needs}
-use Rattle.text.specs.WriteLaws.{then}
+use Rattle.text.specs.LengthLaws.{decimal-most}
 use Rattle.forms.proofs.answers.write_number.Statement.{statement}
 use Rattle.forms.proofs.answers.write_number.Tie as tie
 
+write-number-requires : tie.Need-write-number-requires
+write-number-requires c κs = omega (arith, decimal-most (c .before .before .before .args .n))
+
 returns : tie.Need-returns
 returns c =
-    let c2 = c .before .before in
-    let c6 = c2 .before .before .before .before in
-    let b = c6 .write-bytes .ensures in
-    let e = c2 .write-decimal .ensures in
-    (omega (arith, b .next, e .0), then b (e .1))
+    let w = c .before .before .write-number in
+    (omega (arith, w .ensures .0, decimal-most (c .before .before .before .before .before .before .args .n)), w .ensures .1)
 
 pub write-number-spec : {M : Type 1} → statement M
-write-number-spec =
-    tie.close
-    (tie.spec
-    (λ c κs. search needs)
-    (λ c κs. search needs)
-    (λ c. search needs)
-    returns)
+write-number-spec = tie.close (tie.spec write-number-requires (λ c. search needs) returns)

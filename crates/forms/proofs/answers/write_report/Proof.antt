@@ -1,4 +1,5 @@
 -- The tokens, written one after the other. Assumes nothing.
+use mathlib.Core.Path.{_≡_}
 use Prim.Native.Nat.{_+_, _≤_}
 use native.Mathlib.Omega.{arith}
 use borrow.Author.Needs.{needs}
@@ -18,7 +19,7 @@ returns c =
     let m = c20 .args .m in
     let l0 : c16 .write-three .result ≤ c20 .args .at + 8 + 50 = c16 .write-three .ensures .0 in
     let l1 : c11 .write-three2 .result ≤ c16 .write-three .result + 1 + 50 = c11 .write-three2 .ensures .0 in
-    let l2 : c6 .write-real .result ≤ c11 .write-three2 .result + 1 + 16 = c6 .write-real .ensures .0 in
+    let l2 : c6 .write-real .result ≡ c11 .write-three2 .result + 1 + 16 = c6 .write-real .ensures .0 in
     let w2 = then (c6 .write-real .ensures .1) (c2 .write-counts .ensures .1) in
     let w1 = then-three (bytes " ") (m .«applied_scale») (m .«applied_mass») (m .«target_mass») (c11 .write-three2 .ensures .1) w2 in
     (omega (arith, l0, l1, l2, c2 .write-counts .ensures .0), then-three (bytes "(report ") (m .«raw_mass») (m .«rho0_scale») (m .«rho0_mass») (c16 .write-three .ensures .1) w1)

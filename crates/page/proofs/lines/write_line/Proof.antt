@@ -2,7 +2,7 @@
 use native.Mathlib.Omega.{arith}
 use Rattle.text.specs.WriteLaws.{then}
 use Rattle.page.specs.Page.{placeLine}
-use Rattle.page.specs.PageLaws.{digits-under}
+use Rattle.text.specs.LengthLaws.{digits-under}
 use borrow.Author.Needs.{needs}
 use Rattle.page.proofs.lines.write_line.Statement.{statement}
 use Rattle.page.proofs.lines.write_line.Tie as tie

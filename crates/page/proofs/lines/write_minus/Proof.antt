@@ -2,7 +2,7 @@
 use mathlib.Core.Path.{sym, _∙_}
 use native.Mathlib.Omega.{arith}
 use Rattle.text.specs.WriteLaws.{then}
-use Rattle.page.specs.PageLaws.{decimal-length}
+use Rattle.text.specs.LengthLaws.{decimal-length}
 use Rattle.page.proofs.Writes.{right-minus, decimal-written}
 use borrow.Author.Needs.{needs}
 use Rattle.page.proofs.lines.write_minus.Statement.{statement}

@@ -1,7 +1,7 @@
 -- `page::lines::write_right` meets its contract. Assumes nothing.
 use mathlib.Core.Path.{sym, _∙_}
 use native.Mathlib.Omega.{arith}
-use Rattle.page.specs.PageLaws.{decimal-length}
+use Rattle.text.specs.LengthLaws.{decimal-length}
 use Rattle.page.proofs.Writes.{right-written, decimal-written}
 use borrow.Author.Needs.{needs}
 use Rattle.page.proofs.lines.write_right.Statement.{statement}

@@ -1,6 +1,6 @@
 -- `page::lines::write_whole` meets its contract. Assumes nothing.
 use native.Mathlib.Omega.{arith}
-use Rattle.page.specs.PageLaws.{digits-under}
+use Rattle.text.specs.LengthLaws.{digits-under}
 use Rattle.page.proofs.Writes.{text-below, text-plain, retold}
 use borrow.Author.Needs.{needs}
 use Rattle.page.proofs.lines.write_whole.Statement.{statement}

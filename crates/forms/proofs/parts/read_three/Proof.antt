@@ -3,8 +3,8 @@ use mathlib.Core.Path.{_∙_}
 use borrow.Author.Needs.{needs}
 use Rattle.text.specs.Text.{bytes, literal, float}
 use Rattle.text.specs.Form.{_&_}
-use Rattle.forms.proofs.read.read_three.Statement.{statement}
-use Rattle.forms.proofs.read.read_three.Tie as tie
+use Rattle.forms.proofs.parts.read_three.Statement.{statement}
+use Rattle.forms.proofs.parts.read_three.Tie as tie
 
 returns : tie.Need-returns
 returns c =
