@@ -878,7 +878,8 @@ static void written_lines(void) {
     CHECK(n < CAUCHY_LINES_BYTES(V, F) && CAUCHY_LINES_BYTES(V, F) == 53 + 58 * V + 13 * F + 32 * 142 + 54 + 64);
     CHECK(CAUCHY_LINES_BYTES(0, 0) == 53 + 4662 && CAUCHY_LINES_BYTES(11, 10) == 55 + 58 * 11 + 16 * 10 + 4662);
     CHECK(CAUCHY_LINES_BYTES(10, 9) == 54 + 58 * 10 + 13 * 9 + 4662);
-    CHECK(CAUCHY_LINES_BYTES(CAUCHY_MAX_VERTICES, CAUCHY_MAX_FACES) == 65 + 58 * (size_t)1048576 + 31 * (size_t)2097152 + 4662);
+    const size_t most = 65 + (size_t)58 * CAUCHY_MAX_VERTICES + (size_t)31 * CAUCHY_MAX_FACES + 4662;
+    CHECK(CAUCHY_LINES_BYTES(CAUCHY_MAX_VERTICES, CAUCHY_MAX_FACES) == most);
 
     CauchyBytes b = cauchy_store_write(f, 1761 + N_XYZ - 1, w, N_WORDS, out, TEXT);
     CHECK(b.no == CAUCHY_SHORT_STORE && b.bytes == 0);

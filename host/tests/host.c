@@ -81,7 +81,8 @@ static void float_state(void) {
 static CauchyOpened look(const char *verts, const char *faces, size_t more) {
     static uint8_t text[512];
     char head[128];
-    const size_t count = (size_t)snprintf(head, sizeof head, "(open (radius 3FF0000000000000) (verts %s) (faces %s))\n", verts, faces);
+    const char *form = "(open (radius 3FF0000000000000) (verts %s) (faces %s))\n";
+    const size_t count = (size_t)sprintf(head, form, verts, faces);
     memcpy(text, head, count), memset(text + count, '#', sizeof text - count);
     return cauchy_lines_look(text, count + more);
 }

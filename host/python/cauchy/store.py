@@ -404,8 +404,9 @@ class Store:
         >>> store.put(4, Kernel((0, 0, 0), 1, 2, 1), layer=15).need
         1
         >>> text = store.to_lines()
-        >>> text.splitlines()[:2]
-        [b'(open (radius 407F400000000000) (verts 3) (faces 1))', b'(vert 0000000000000000 0000000000000000 0000000000000000)']
+        >>> print(*text.decode().splitlines()[:2], sep="\\n")
+        (open (radius 407F400000000000) (verts 3) (faces 1))
+        (vert 0000000000000000 0000000000000000 0000000000000000)
         >>> text[-58:]
         b'(w 4000000000000000) (alpha 3FF0000000000000) (layer 15))\n'
         """
@@ -420,8 +421,8 @@ class Store:
 
     @classmethod
     def from_lines(cls, text: Union[bytes, bytearray, memoryview]) -> "Store":
-        r"""The store of such lines, as `open(path, "rb").read()` gives them, with all work to do: what their opening and
-        then their puts, one by one, would leave. The puts may be in any order, and of two into one place the later one
+        r"""The store of such lines, as `open(path, "rb").read()` gives them, with all work to do: what their opening
+        and then their puts, one by one, would leave. The puts may be in any order, and of two into one place the later one
         stands. A put may lack ` (layer N)`, and is then in layer 0. Where one line is refused, all are.
 
         >>> store = Store(500, [0, 0, 0, 1, 0, 0, 0, 1, 0], [0, 1, 2])

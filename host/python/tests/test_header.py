@@ -142,9 +142,12 @@ class Numbers(unittest.TestCase):
 
     def most_lines(self, verts, faces):
         """CAUCHY_LINES_BYTES of the header, worked by Python."""
-        macro = re.search(r"#define CAUCHY_LINES_BYTES\(V, F\)((?:.*\\\n)*.*)\n", TEXT)[1].replace("\\\n", " ")
-        digits = re.search(r"#define CAUCHY_DIGITS\(N\)((?:.*\\\n)*.*)\n", TEXT)[1].replace("\\\n", " ").replace("(size_t)", "")
-        macro = macro.replace("(size_t)", "").replace("(V) > 0 ? (V)-1 : 0", "max(V - 1, 0)")
+        def body(name):
+            text = re.search(rf"#define {name}\((?:.*\\\n)*.*\n", TEXT)[0].partition(")")[2]
+            return text.replace("\\\n", " ").replace("(size_t)", "").strip()
+
+        digits, macro = body("CAUCHY_DIGITS"), body("CAUCHY_LINES_BYTES")
+        macro = macro.replace("(V) > 0 ? (V)-1 : 0", "max(V - 1, 0)")
         names = {"V": verts, "F": faces, "max": max, "CAUCHY_DIGITS": lambda N: eval(digits, {"N": N})}
         return eval(macro, names)
 

@@ -363,7 +363,8 @@ class Lines(unittest.TestCase):
             (b"(put 31", b"(put 32", cauchy.NoPlace), (b"(layer 15)", b"(layer 16)", cauchy.NoLayer),
             (b"(verts 6)", b"(verts 7)", cauchy.BadLine), (b"(verts 6)", b"(verts 4294967295)", cauchy.BadLine),
             (b"(verts 6)", b"(verts 99999999999)", cauchy.BadLine), (b"(faces 8)", b"(faces 2097153)", cauchy.BadLine),
-            (b"(put 0", b"(put 00", cauchy.BadLine), (b"\n", b"\r\n", cauchy.BadLine), (b"(open", b"open", cauchy.BadLine),
+            (b"(put 0", b"(put 00", cauchy.BadLine), (b"\n", b"\r\n", cauchy.BadLine),
+            (b"(open", b"open", cauchy.BadLine),
         ):
             with self.subTest(new=new), self.assertRaises(kind):
                 self.assertIn(old, text)
