@@ -404,7 +404,7 @@ class Store:
         >>> store.put(4, Kernel((0, 0, 0), 1, 2, 1), layer=15).need
         1
         >>> text = store.to_lines()
-        >>> print(*text.decode().splitlines()[:2], sep="\\n")
+        >>> print(*text.decode().splitlines()[:2], sep="\n")
         (open (radius 407F400000000000) (verts 3) (faces 1))
         (vert 0000000000000000 0000000000000000 0000000000000000)
         >>> text[-58:]
