@@ -21,11 +21,13 @@ const char *cauchy_refusal_text(uint32_t no) {
     case CAUCHY_BAD_MATRIX: return "bad matrix: more than 16 equations, or lengths that do not fit";
     case CAUCHY_FLAT_PIVOT: return "flat pivot: the equations have no usable pivot in some column";
     case CAUCHY_EXPONENT: return "exponent: some exponent is not 1";
+    case CAUCHY_BAD_LINE: return "bad line: the bytes are not one whole opening and then puts";
     case CAUCHY_BAD_TRACK: return "bad track: more than 4,096 points, or lengths that do not fit";
     case CAUCHY_MANY_KERNELS: return "many kernels: a bill takes at most 32";
     case CAUCHY_NO_LAYER: return "no layer: the layers are 0 to 15";
     case CAUCHY_NO_FIGURE: return "no figure: the mass of a place is NaN or exceeds 10^15 kg";
     case CAUCHY_SHORT_PAGE: return "short page: 65 bytes are needed for each filled place and for the total";
+    case CAUCHY_SHORT_TEXT: return "short text: the bytes are too few for the store's lines";
     case CAUCHY_BAD_KERNEL_LINE: return "bad kernel line: not (kernel (c h h h) (sigma h) (w h) (alpha h or none))";
     case CAUCHY_LOADERS_DIFFER: return "loaders differ: native and source make different kernels of some line";
     case CAUCHY_NOT_CLOSED: return "not closed: an edge does not occur once each way, or a face names a corner twice";
@@ -44,6 +46,58 @@ const char *cauchy_version(void) { return CAUCHY_VERSION; }
 int cauchy_float_state_default(void) {
     const unsigned control = 0xffc0, masks = 0x1f80;
     return (_mm_getcsr() & control) == masks;
+}
+
+/* ---- Lines ---------------------------------------------------------------------------------------- */
+
+/* Bytes that are read from the front, until one does not fit. */
+typedef struct Rest {
+    const uint8_t *at;
+    size_t count;
+    int good;
+} Rest;
+
+static void take_text(Rest *rest, const char *text) {
+    const size_t count = strlen(text);
+    rest->good = rest->good && rest->count >= count && !memcmp(rest->at, text, count);
+    if (rest->good) rest->at += count, rest->count -= count;
+}
+
+static void take_pattern(Rest *rest) {
+    size_t digits = 0;
+    while (rest->good && digits < 16 && digits < rest->count && rest->at[digits] != 0 &&
+           strchr("0123456789ABCDEF", rest->at[digits]))
+        digits++;
+    rest->good = rest->good && digits == 16;
+    if (rest->good) rest->at += 16, rest->count -= 16;
+}
+
+/* A number of at most 32 bits, in decimal and without leading zeros. */
+static uint32_t take_number(Rest *rest) {
+    uint64_t number = 0;
+    size_t digits = 0;
+    while (rest->good && digits < rest->count && rest->at[digits] >= '0' && rest->at[digits] <= '9' && digits < 11)
+        number = 10 * number + (uint64_t)(rest->at[digits++] - '0');
+    rest->good = rest->good && digits > 0 && (rest->at[0] != '0' || digits == 1) && number <= UINT32_MAX;
+    if (rest->good) rest->at += digits, rest->count -= digits;
+    return rest->good ? (uint32_t)number : 0;
+}
+
+CauchyOpened cauchy_lines_look(const uint8_t *bytes, size_t n_bytes) {
+    enum { VERT = 58, SHORTEST_FACE = 13 };
+    Rest rest = {bytes, n_bytes, 1};
+    CauchyOpened told = {CAUCHY_BAD_LINE, 0, 0};
+    take_text(&rest, "(open (radius "), take_pattern(&rest), take_text(&rest, ") (verts ");
+    const uint32_t verts = take_number(&rest);
+    take_text(&rest, ") (faces ");
+    const uint32_t faces = take_number(&rest);
+    take_text(&rest, "))\n");
+    /* neither product overflows: both numbers have 32 bits */
+    const uint64_t need = (uint64_t)VERT * verts + (uint64_t)SHORTEST_FACE * faces;
+    if (!rest.good || need > rest.count) return told;
+    told.no = verts > CAUCHY_MAX_VERTICES || faces > CAUCHY_MAX_FACES ? CAUCHY_OVERSIZE : CAUCHY_ACCEPTED;
+    if (told.no == CAUCHY_ACCEPTED) told.verts = verts, told.faces = faces;
+    return told;
 }
 
 /* ---- Snapshots ------------------------------------------------------------------------------------ */

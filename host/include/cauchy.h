@@ -9,6 +9,7 @@
  *   mesh         xyz: 3 doubles a vertex; faces: 3 vertex numbers a face, from 0
  *   kernel list  6 doubles a kernel: c (3), sigma, w, alpha
  *   lines        the bytes of a file of kernels
+ *   bytes        the bytes of a store's lines, without a byte 0 after them
  *   track        3 doubles a point
  *   page         bytes of text, without a byte 0 after them
  *   store        floats and words: the store itself, which has no memory elsewhere
@@ -79,11 +80,13 @@ enum {
     CAUCHY_BAD_MATRIX = 10,      /* n above 16, or lengths that do not go with n */
     CAUCHY_FLAT_PIVOT = 11,      /* the equations have no usable pivot in some column */
     CAUCHY_EXPONENT = 12,        /* an exponent is not 1, where only 1 can be integrated */
+    CAUCHY_BAD_LINE = 13,        /* the bytes are not one whole opening and then puts */
     CAUCHY_BAD_TRACK = 14,       /* a track of more than 4,096 points or not of threes, or its run is too short */
     CAUCHY_MANY_KERNELS = 15,    /* more kernels to be billed than a store has places */
     CAUCHY_NO_LAYER = 16,        /* a layer above 15, given to a put or in a set of layers */
     CAUCHY_NO_FIGURE = 17,       /* the mass of a place is NaN or exceeds 10^15 kg, and a page cannot show it */
     CAUCHY_SHORT_PAGE = 18,      /* the bytes to be written are too few for the page */
+    CAUCHY_SHORT_TEXT = 19,      /* the bytes to be written are too few for the store's lines */
     CAUCHY_BAD_KERNEL_LINE = 20, /* a line of a file is no kernel line */
     CAUCHY_LOADERS_DIFFER = 21,  /* the two loaders make different kernels of the lines */
     CAUCHY_NOT_CLOSED = 22       /* the mesh is not closed */
@@ -111,6 +114,15 @@ enum {
 
 /* The bytes of the page of P filled places: 64 characters and a newline for each of them, and for the total. */
 #define CAUCHY_PAGE_BYTES(P) ((size_t)65 * ((size_t)(P) + 1))
+
+/* The most bytes that the lines of a store of V vertices and F faces have, both within the limits: of an opening
+ * 51 and its two counts, of a vertex 58, of a face 10 and its three corners, of the 32 places 142 each with the
+ * digits of their numbers, 54 in all, and of their layers, at most 64. CAUCHY_DIGITS is how many a count has. */
+#define CAUCHY_DIGITS(N) \
+    ((size_t)1 + ((N) > 9) + ((N) > 99) + ((N) > 999) + ((N) > 9999) + ((N) > 99999) + ((N) > 999999))
+#define CAUCHY_LINES_BYTES(V, F) \
+    ((size_t)51 + CAUCHY_DIGITS(V) + CAUCHY_DIGITS(F) + (size_t)58 * (size_t)(V) + \
+     ((size_t)10 + 3 * CAUCHY_DIGITS((V) > 0 ? (V)-1 : 0)) * (size_t)(F) + (size_t)(142 * 32 + 54 + 64))
 
 /* The doubles that are enough for the kernels of any B bytes of lines: a kernel line has 123 bytes or more. */
 #define CAUCHY_CONVERT_FLOATS(B) ((size_t)6 * ((size_t)(B) / 123))
@@ -243,6 +255,11 @@ typedef struct CauchyBytes {
     uint64_t bytes; /* bytes written */
 } CauchyBytes;
 
+typedef struct CauchyLoaded {
+    uint32_t no, verts, faces; /* of the mesh */
+    uint64_t puts;             /* lines of puts, all taken */
+} CauchyLoaded;
+
 typedef struct CauchyKernels {
     uint32_t no;
     uint64_t kernels; /* kernels written */
@@ -358,6 +375,30 @@ CauchyTrack cauchy_store_track(const double *floats, size_t n_floats, const uint
 CAUCHY_MUST_USE
 CauchyBytes cauchy_store_page(const double *floats, size_t n_floats, const uint32_t *words, size_t n_words,
                               uint8_t *page, size_t n_page);
+
+/* Writes the store as lines, from which cauchy_store_read makes the same mesh, radius, kernels and layers; bytes past
+ * them stay. They are an opening, the vertices, the faces and a put for each filled place by rising place, with the
+ * weight as it is kept:
+ *   (open (radius H) (verts N) (faces N))
+ *   (vert H H H)
+ *   (face N N N)
+ *   (put N (c H H H) (sigma H) (w H) (alpha H) (layer N))
+ * each with a newline, with single spaces and nothing else. H is a double by the 16 upper-case hexadecimal digits of
+ * its bits, every NaN as 7FF8000000000000; N is a number in decimal, without leading zeros. The work that is done is
+ * not written. CAUCHY_LINES_BYTES tells how many bytes are always enough.                       4 5 19 */
+CAUCHY_MUST_USE
+CauchyBytes cauchy_store_write(const double *floats, size_t n_floats, const uint32_t *words, size_t n_words,
+                               uint8_t *bytes, size_t n_bytes);
+
+/* Makes two runs the store of such lines, with all steps to do; what they held does not matter. It is what the opening
+ * and then the puts, line by line, would leave: they may be in any order, and of two into one place the later one
+ * stands. A put line may lack ` (layer N)`, and is then in layer 0. A refusal is of all the lines: 13, ahead of all
+ * others, where the bytes are not one whole opening and then puts, each line with its newline, a number of more than
+ * 32 bits being none; then the first of the others that applies to any line. Counts above the limits, with so many
+ * lines, are 2. cauchy_lines_look of cauchy_host.h tells how long the runs must be.      13 2 3 4 6 16 */
+CAUCHY_MUST_USE
+CauchyLoaded cauchy_store_read(double *floats, size_t n_floats, uint32_t *words, size_t n_words,
+                               const uint8_t *bytes, size_t n_bytes);
 
 /* ---- Kernels -------------------------------------------------------------------------------------- */
 

@@ -30,6 +30,15 @@ const char *cauchy_version(void);
 CAUCHY_MUST_USE
 int cauchy_float_state_default(void);
 
+/* ---- Lines ---------------------------------------------------------------------------------------- */
+
+/* The counts in the opening line of a store's lines, by which the runs for cauchy_store_read are lent. 13 where the
+ * bytes do not begin with an opening line, or are too few for the lines that it counts; 2 where a count is above the
+ * limits. cauchy_store_read refuses these bytes too, with 13 or 2, whatever runs are lent; and it may refuse others.
+ *                                                                                                 13 2 */
+CAUCHY_MUST_USE
+CauchyOpened cauchy_lines_look(const uint8_t *bytes, size_t n_bytes);
+
 /* ---- Snapshots ------------------------------------------------------------------------------------ */
 
 /* A store as bytes, the same in C, Rust and Python. Numbers have their lowest byte first: the eight bytes

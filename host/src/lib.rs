@@ -42,6 +42,7 @@ mod fit;
 mod float_state;
 mod kernel;
 mod layers;
+mod lines;
 mod mesh;
 pub mod numbers;
 mod refusal;

@@ -13,8 +13,8 @@ pub const MAX_TRACK: usize = 4096;
 pub const MAX_PAGE: usize = 65 * (PLACES as usize + 1);
 
 // The layout of 01: what stands before the mesh in each run, and the fields of a place.
-const FLOATS_BEFORE_MESH: usize = 1761;
-const WORDS_BEFORE_MESH: usize = 130;
+pub(crate) const FLOATS_BEFORE_MESH: usize = 1761;
+pub(crate) const WORDS_BEFORE_MESH: usize = 130;
 const KERNELS_AT: usize = 1;
 const KERNEL_FLOATS: usize = 7;
 const STATES_AT: usize = 2;

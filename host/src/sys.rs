@@ -123,6 +123,14 @@ pub struct Bytes {
 }
 
 #[repr(C)]
+pub struct Loaded {
+    pub no: u32,
+    pub verts: u32,
+    pub faces: u32,
+    pub puts: u64,
+}
+
+#[repr(C)]
 pub struct Kernels {
     pub no: u32,
     pub kernels: u64,
@@ -275,6 +283,22 @@ unsafe extern "C" {
         page: *mut u8,
         n_page: usize,
     ) -> Bytes;
+    pub fn cauchy_store_write(
+        floats: *const f64,
+        n_floats: usize,
+        words: *const u32,
+        n_words: usize,
+        bytes: *mut u8,
+        n_bytes: usize,
+    ) -> Bytes;
+    pub fn cauchy_store_read(
+        floats: *mut f64,
+        n_floats: usize,
+        words: *mut u32,
+        n_words: usize,
+        bytes: *const u8,
+        n_bytes: usize,
+    ) -> Loaded;
 
     pub safe fn cauchy_kernel_from_file(kernel: FileKernel, default_alpha: f64) -> Kernel;
     pub fn cauchy_convert(

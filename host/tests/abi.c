@@ -856,6 +856,185 @@ static void refused_lines(void) {
     CHECK(no_line(bad, bytes + 1, 12) && no_line(bad + bytes, 1, 12));
 }
 
+/* ---- Lines of a store ------------------------------------------------------------------------------- */
+
+enum { TEXT = 8192 };
+
+/* The opening of so many vertices and faces, then those of the mesh; answers its bytes. */
+static size_t say_mesh(char *text, uint32_t verts, uint32_t corners) {
+    int n = sprintf(text, "(open (radius %016" PRIX64 ") (verts %u) (faces %u))\n", bits(radius), verts, corners);
+    for (int i = 0; i < N_XYZ; i += 3)
+        n += sprintf(text + n, "(vert %016" PRIX64 " %016" PRIX64 " %016" PRIX64 ")\n", bits(xyz[i]), bits(xyz[i + 1]),
+                     bits(xyz[i + 2]));
+    for (int i = 0; i < N_FACES; i += 3)
+        n += sprintf(text + n, "(face %u %u %u)\n", faces[i], faces[i + 1], faces[i + 2]);
+    return (size_t)n;
+}
+
+/* The line of a put, without a layer where that is below 0. */
+static size_t say_put(char *text, uint32_t place, CauchyKernel k, int layer) {
+    int n = sprintf(text,
+                    "(put %u (c %016" PRIX64 " %016" PRIX64 " %016" PRIX64 ") (sigma %016" PRIX64 ") (w %016" PRIX64
+                    ") (alpha %016" PRIX64 ")",
+                    place, bits(k.c[0]), bits(k.c[1]), bits(k.c[2]), bits(k.sigma), bits(k.w), bits(k.alpha));
+    if (layer >= 0) n += sprintf(text + n, " (layer %d)", layer);
+    n += sprintf(text + n, ")\n");
+    return (size_t)n;
+}
+
+/* The NaN that is written for any. */
+static double quiet_nan(void) {
+    const uint64_t pattern = 0x7ff8000000000000;
+    double x;
+    memcpy(&x, &pattern, sizeof x);
+    return x;
+}
+
+static void open_again(double *f, uint32_t *w) {
+    for (int i = 0; i < N_FLOATS; i++) f[i] = 300 + i;
+    for (int i = 0; i < N_WORDS; i++) w[i] = 400 + (uint32_t)i;
+    CHECK(cauchy_store_open(f, N_FLOATS, w, N_WORDS, radius, xyz, N_XYZ, faces, N_FACES).no == 0);
+}
+
+/* A store's lines are those of its mesh and of its puts by rising place, whatever work is done. */
+static void written_lines(void) {
+    double f[N_FLOATS];
+    uint32_t w[N_WORDS];
+    char want[TEXT];
+    uint8_t out[TEXT];
+    open_again(f, w);
+    CHECK(cauchy_store_put(f, N_FLOATS, w, N_WORDS, 31, kernel(1, -0.0, -NAN, INFINITY, -7, 2.5), 15).no == 0);
+    CHECK(cauchy_store_put(f, N_FLOATS, w, N_WORDS, 10, flat(), 9).no == 0);
+    CHECK(cauchy_store_reweigh(f, N_FLOATS, w, N_WORDS, 10, -40) == 0);
+    CHECK(cauchy_store_advance(f, N_FLOATS, w, N_WORDS, 3).done == 3);
+    CauchyKernel light = flat();
+    light.w = -40;
+    size_t n = say_mesh(want, V, F);
+    n += say_put(want + n, 10, light, 9);
+    n += say_put(want + n, 31, kernel(1, -0.0, quiet_nan(), INFINITY, -7, 2.5), 15);
+    for (size_t room = 0; room < n; room++) {
+        memset(out, 0xaa, sizeof out);
+        CauchyBytes b = cauchy_store_write(f, N_FLOATS, w, N_WORDS, out, room);
+        CHECK(b.no == CAUCHY_SHORT_TEXT && b.bytes == 0);
+        for (size_t i = 0; i < n; i++) CHECK(out[i] == 0xaa);
+    }
+    for (size_t room = n; room <= TEXT; room += TEXT - n) {
+        memset(out, 0xaa, sizeof out);
+        CauchyBytes b = cauchy_store_write(f, N_FLOATS, w, N_WORDS, out, room);
+        CHECK(b.no == 0 && b.bytes == n && !memcmp(out, want, n) && out[n] == 0xaa);
+    }
+    CHECK(n < CAUCHY_LINES_BYTES(V, F) && CAUCHY_LINES_BYTES(V, F) == 53 + 58 * V + 13 * F + 32 * 142 + 54 + 64);
+    CHECK(CAUCHY_LINES_BYTES(0, 0) == 53 + 4662 && CAUCHY_LINES_BYTES(11, 10) == 55 + 58 * 11 + 16 * 10 + 4662);
+    CHECK(CAUCHY_LINES_BYTES(10, 9) == 54 + 58 * 10 + 13 * 9 + 4662);
+    const size_t most = 65 + (size_t)58 * CAUCHY_MAX_VERTICES + (size_t)31 * CAUCHY_MAX_FACES + 4662;
+    CHECK(CAUCHY_LINES_BYTES(CAUCHY_MAX_VERTICES, CAUCHY_MAX_FACES) == most);
+
+    CauchyBytes b = cauchy_store_write(f, 1761 + N_XYZ - 1, w, N_WORDS, out, TEXT);
+    CHECK(b.no == CAUCHY_SHORT_STORE && b.bytes == 0);
+    w[130] = V;
+    b = cauchy_store_write(f, N_FLOATS, w, N_WORDS, NULL, 0);
+    CHECK(b.no == CAUCHY_UNSOUND && b.bytes == 0);
+}
+
+/* The longest lines that a store of 11 vertices and a face has. */
+static void longest_lines(void) {
+    static double f[1761 + 33], points[33];
+    static uint32_t w[133];
+    static const uint32_t last[3] = {10, 10, 10};
+    static uint8_t out[CAUCHY_LINES_BYTES(11, 1)];
+    CHECK(cauchy_store_open(f, 1761 + 33, w, 133, 1, points, 33, last, 3).no == 0);
+    for (uint32_t i = 0; i < CAUCHY_PLACES; i++) CHECK(cauchy_store_put(f, 1761 + 33, w, 133, i, flat(), 15).no == 0);
+    CauchyBytes b = cauchy_store_write(f, 1761 + 33, w, 133, out, sizeof out);
+    CHECK(b.no == 0 && b.bytes == sizeof out && b.bytes == CAUCHY_LINES_BYTES(11, 1));
+    CHECK(cauchy_store_write(f, 1761 + 33, w, 133, out, sizeof out - 1).no == CAUCHY_SHORT_TEXT);
+}
+
+static double lines_floats[N_FLOATS];
+static uint32_t lines_words[N_WORDS];
+
+static CauchyLoaded read_text(const char *text, size_t count, size_t n_floats, size_t n_words) {
+    for (int i = 0; i < N_FLOATS; i++) lines_floats[i] = 100 + i;
+    for (int i = 0; i < N_WORDS; i++) lines_words[i] = 200 + (uint32_t)i;
+    return cauchy_store_read(lines_floats, n_floats, lines_words, n_words, (const uint8_t *)text, count);
+}
+
+static int refused_text(const char *text, size_t count, uint32_t no) {
+    CauchyLoaded l = read_text(text, count, N_FLOATS, N_WORDS);
+    int kept = l.no == no && l.verts == 0 && l.faces == 0 && l.puts == 0;
+    for (int i = 0; i < N_FLOATS; i++) kept &= lines_floats[i] == 100 + i;
+    for (int i = 0; i < N_WORDS; i++) kept &= lines_words[i] == 200 + (uint32_t)i;
+    return kept;
+}
+
+/* What is read is the store of the opening and the puts, line by line, every word of it. */
+static void read_lines(void) {
+    double f[N_FLOATS];
+    uint32_t w[N_WORDS];
+    char text[TEXT];
+    size_t n = say_mesh(text, V, F);
+    n += say_put(text + n, 31, steep(), 15);
+    n += say_put(text + n, 10, steep(), 3);
+    n += say_put(text + n, 10, flat(), -1);
+    open_again(f, w);
+    CHECK(cauchy_store_put(f, N_FLOATS, w, N_WORDS, 31, steep(), 15).no == 0);
+    CHECK(cauchy_store_put(f, N_FLOATS, w, N_WORDS, 10, flat(), 0).no == 0);
+    CauchyLoaded l = read_text(text, n, N_FLOATS, N_WORDS);
+    CHECK(l.no == 0 && l.verts == V && l.faces == F && l.puts == 3);
+    CHECK(!memcmp(lines_floats, f, (1761 + N_XYZ) * sizeof *f) && !memcmp(lines_words, w, (130 + N_FACES) * sizeof *w));
+    for (int i = 1761 + N_XYZ; i < N_FLOATS; i++) CHECK(lines_floats[i] == 100 + i);
+    for (int i = 130 + N_FACES; i < N_WORDS; i++) CHECK(lines_words[i] == 200 + (uint32_t)i);
+    CHECK(cauchy_store_advance(lines_floats, N_FLOATS, lines_words, N_WORDS, 0).left == 14 * F);
+    CHECK(read_text(text, n, 1761 + N_XYZ, 130 + N_FACES).no == 0);
+    l = read_text(text, n, 1761 + N_XYZ - 1, N_WORDS);
+    CHECK(l.no == CAUCHY_SHORT_STORE && l.verts == 0 && l.faces == 0 && l.puts == 0 && lines_floats[0] == 100);
+    CHECK(read_text(text, n, N_FLOATS, 130 + N_FACES - 1).no == CAUCHY_SHORT_STORE && lines_words[0] == 200);
+    /* the opening alone, of nothing */
+    n = (size_t)sprintf(text, "(open (radius 0000000000000000) (verts 0) (faces 0))\n");
+    l = read_text(text, n, 1761, 130);
+    CHECK(l.no == 0 && l.verts == 0 && l.faces == 0 && l.puts == 0 && lines_words[0] == 0 && lines_words[131] == 331);
+}
+
+/* The whole is refused where one line is, by the first of 13, 2, 3, 4, 6 and 16 that applies to any. */
+static void refused_texts(void) {
+    char text[TEXT], bad[TEXT];
+    const size_t mesh = say_mesh(text, V, F), first = mesh + say_put(text + mesh, 31, steep(), 15);
+    const size_t n = first + say_put(text + first, 0, flat(), -1);
+    for (size_t cut = 0; cut < n; cut++)
+        CHECK(cut == mesh || cut == first ? read_text(text, cut, N_FLOATS, N_WORDS).no == 0
+                                          : refused_text(text, cut, CAUCHY_BAD_LINE));
+    const uint8_t strange[5] = {0, '\r', '\n', ' ', '('};
+    for (size_t at = 0; at <= n; at++)
+        for (int i = 0; i < 5; i++) {
+            memcpy(bad, text, at), bad[at] = (char)strange[i], memcpy(bad + at + 1, text + at, n - at);
+            CHECK(refused_text(bad, n + 1, CAUCHY_BAD_LINE));
+        }
+    memcpy(bad, text, n);
+    bad[mesh - 3] = '5';
+    CHECK(refused_text(bad, n, CAUCHY_LOOSE_CORNER));
+    size_t m = mesh + say_put(bad + mesh, 3, flat(), 16);
+    m += say_put(bad + m, 32, flat(), 2);
+    CHECK(refused_text(bad, m, CAUCHY_LOOSE_CORNER) && refused_text(bad, m - 1, CAUCHY_BAD_LINE));
+    bad[mesh - 3] = text[mesh - 3];
+    CHECK(refused_text(bad, m, CAUCHY_NO_PLACE));
+    CHECK(read_text(bad, m, N_FLOATS, 130 + N_FACES - 1).no == CAUCHY_SHORT_STORE);
+    CHECK(refused_text(bad, mesh + say_put(bad + mesh, 3, flat(), 16), CAUCHY_NO_LAYER));
+    CHECK(refused_text(bad, say_mesh(bad, V + 1, F), CAUCHY_BAD_LINE));
+    CHECK(refused_text(bad, say_mesh(bad, V, F - 1), CAUCHY_BAD_LINE));
+    CHECK(refused_text(NULL, 0, CAUCHY_BAD_LINE));
+}
+
+/* A face too many: 2, ahead of its loose corners; a line too few: 13. */
+static void many_lines(void) {
+    const size_t count = (size_t)CAUCHY_MAX_FACES + 1;
+    char *many = (char *)malloc(100 + 13 * count);
+    CHECK(many != NULL);
+    const size_t head = (size_t)sprintf(many, "(open (radius 0000000000000000) (verts 0) (faces %zu))\n", count);
+    for (size_t i = 0; i < count; i++) memcpy(many + head + 13 * i, "(face 0 0 0)\n", 13);
+    CHECK(refused_text(many, head + 13 * count, CAUCHY_OVERSIZE));
+    CHECK(refused_text(many, head + 13 * (count - 1), CAUCHY_BAD_LINE));
+    free(many);
+}
+
 static void closed(void) {
     static const uint32_t turned[N_FACES] = {0, 2, 1, 0, 1, 3, 0, 3, 2, 1, 3, 2}, twice[3] = {2, 2, 3};
     CHECK(cauchy_closed(xyz, N_XYZ, faces, N_FACES) == CAUCHY_ACCEPTED);
@@ -972,6 +1151,11 @@ int main(void) {
     conversions();
     strict_conversions();
     refused_lines();
+    written_lines();
+    longest_lines();
+    read_lines();
+    refused_texts();
+    many_lines();
     closed();
     meshes();
     refused_meshes();

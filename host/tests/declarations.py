@@ -130,12 +130,11 @@ def same_refusals(ours, of_host, rust, words_in_c):
 
 
 def same_numbers(ours, rattle):
-    """The refusals' numbers of cauchy.h and of the library. The program's own is none of the C functions'."""
+    """The refusals' numbers of cauchy.h and of the library."""
     names = {}
     for name, number in re.findall(r"Refusal::(\w+) => (\d+),", rattle):
         name = RATTLE_REFUSALS.get(name, name)
         names["CAUCHY_" + re.sub(r"(?<=[a-z])(?=[A-Z])", "_", name).upper()] = int(number)
-    del names["CAUCHY_BAD_LINE"]
     same_names("refusal", set(ours) - {"CAUCHY_ACCEPTED"}, "crates/base", names)
     for name, number in names.items():
         need(ours[name] == number, f"{name}: cauchy.h has {ours[name]}, crates/base {number}")
@@ -224,6 +223,10 @@ EDITS = [
     ("host/src/sys.rs", "lines: *const u8", "lines: *const f64", "cauchy_convert, argument 1"),
     ("host/src/sys.rs", "page: *mut u8", "page: *const u8", "cauchy_store_page, argument 5"),
     ("host/src/sys.rs", "pub bytes: u64", "pub bytes: u32", "CauchyBytes, field 2"),
+    ("host/src/sys.rs", "bytes: *mut u8", "bytes: *const u8", "cauchy_store_write, argument 5"),
+    ("host/src/sys.rs", "bytes: *const u8", "bytes: *mut u8", "cauchy_store_read, argument 5"),
+    ("host/src/sys.rs", "pub puts: u64", "pub puts: u32", "CauchyLoaded, field 4"),
+    ("host/include/cauchy.h", "CAUCHY_BAD_LINE = 13", "CAUCHY_BAD_LINE = 19", "CAUCHY_BAD_LINE"),
     ("host/include/cauchy.h", "CAUCHY_VACANT = 7", "CAUCHY_VACANT = 13", "CAUCHY_VACANT"),
     ("host/include/cauchy.h", "CAUCHY_MUST_USE\nCauchyTrack", "CauchyTrack", "cauchy_store_track: CAUCHY_MUST_USE"),
     ("host/c/cauchy_host.c", "vacant: the place", "vacant: a place", "CAUCHY_VACANT"),

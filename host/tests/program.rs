@@ -557,3 +557,111 @@ fn a_closed_output_is_no_fault() {
     assert!(output.stderr.is_empty(), "{output:?}");
     assert!(folder.read("l.csv").starts_with(b"place,"));
 }
+
+#[test]
+fn a_store_goes_out_as_lines_and_comes_back() {
+    let folder = Folder::new("export");
+    let reads = "--mass 1e11 --track t.txt --overwrite --csv c.csv --list l.csv --svg s.svg";
+    let files = || ["c.csv", "l.csv", "s.svg"].map(|name| folder.read(name));
+    folder.goes(&format!("run a.obj k.txt {reads}"));
+    let wanted = files();
+    folder.goes("run a.obj k.txt --mass 1e11 --snapshot s.snap --steps 0");
+    let lines = folder.goes("export s.snap");
+    assert!(lines.starts_with("(open (radius 408C200000000000) (verts 4) (faces 4))\n(vert "), "{lines}");
+    assert_eq!(lines.lines().count(), 1 + 4 + 4 + 2);
+    let said = folder.goes("export s.snap s.lines");
+    assert_eq!(said, format!("written   s.lines\n          11 lines, {} bytes\n", lines.len()));
+    assert_eq!(folder.read("s.lines"), lines.as_bytes());
+
+    // a run of the lines reads what a run of the files does, and its snapshot is that of an import
+    let said = folder.goes(&format!("run s.lines {reads}"));
+    assert!(said.starts_with("mesh      of the lines s.lines\n"), "{said}");
+    assert!(
+        said.contains("kernels   of the lines\n") && said.contains("bill      at most 56 steps"),
+        "{said}"
+    );
+    assert!(files() == wanted);
+    let said = folder.goes("import s.lines --snapshot again.snap");
+    assert!(said.contains("written   again.snap\nThe work: cauchy resume again.snap ..\n"), "{said}");
+    assert_eq!(folder.read("again.snap"), folder.read("s.snap"));
+    folder.goes(&format!("resume again.snap {reads}"));
+    assert!(files() == wanted);
+    assert_eq!(folder.goes("export again.snap"), lines);
+    let said = folder.goes("bill s.lines");
+    let head = "mesh      of the lines s.lines\n          4 vertices, 4 faces\nbill      at most 56 steps";
+    assert!(said.starts_with(head) && said.contains("\ntime      about "), "{said}");
+
+    // work that is done is not in the lines, which a note tells
+    folder.goes("resume s.snap --raw --steps 9 --snapshot half.snap");
+    let output = folder.run("export half.snap");
+    assert_eq!(output.stdout, lines.as_bytes());
+    let note = "cauchy: half.snap: note: 9 steps done, which lines do not tell\n";
+    assert_eq!(String::from_utf8(output.stderr).unwrap(), note);
+}
+
+#[test]
+fn lines_that_are_refused_are_named() {
+    let folder = Folder::new("bad-lines");
+    folder.goes("run a.obj k.txt --raw --snapshot s.snap");
+    let lines = String::from_utf8(folder.run("export s.snap").stdout).unwrap();
+    for (name, old, new, line, said) in [
+        (
+            "corner.lines",
+            "(face 0 1 3)",
+            "(face 0 1 4)",
+            7,
+            "loose corner: a face names a vertex that is not there (no 3)",
+        ),
+        ("place.lines", "(put 1 ", "(put 32 ", 11, "no place: the places are 0 to 31 (no 6)"),
+        ("layer.lines", "(layer 0))", "(layer 16))", 10, "no layer: the layers are 0 to 15 (no 16)"),
+        ("count.lines", "(verts 4)", "(verts 5)", 6, "vertex 5, (vert H H H), is due: bad line: "),
+        ("open.lines", "(open ", " (open ", 1, "not (open (radius H) (verts N) (faces N)): bad line: "),
+        (
+            "return.lines",
+            "(face 0 1 3)",
+            "(face 0 1 3)\r",
+            7,
+            "face 2, (face N N N), is due, and a carriage return stands at its end: bad line",
+        ),
+        (
+            "zero.lines",
+            "(put 1 ",
+            "(put 01 ",
+            11,
+            "not (put N (c H H H) (sigma H) (w H) (alpha H) (layer N)): bad",
+        ),
+    ] {
+        assert!(lines.contains(old), "{old}");
+        folder.write(name, lines.replacen(old, new, 1));
+        let wanted = format!("{name}, line {line}: {said}");
+        folder.fails(&format!("import {name} --snapshot never.snap"), 1, &wanted);
+        folder.fails(&format!("run {name} --raw --snapshot never.snap"), 1, &wanted);
+        folder.fails(&format!("bill {name}"), 1, &wanted);
+    }
+    folder.write("cut.lines", &lines[..lines.len() - 1]);
+    folder.fails(
+        "import cut.lines --snapshot never.snap",
+        1,
+        "line 11: not (put N (c H H H) (sigma H) (w H) (alpha H)",
+    );
+    folder.write("short.lines", lines.split_inclusive('\n').take(7).collect::<String>());
+    folder.fails(
+        "run short.lines --raw",
+        1,
+        "short.lines, line 8: the file ends, and face 3, (face N N N), is due",
+    );
+    folder.write("empty.lines", "");
+    folder.fails("bill empty.lines", 1, "empty.lines, line 1: not (open ");
+    folder.fails("bill a.obj", 1, "a.obj, line 1: not (open ");
+    folder.fails("import none.lines --snapshot s", 1, "none.lines: no such file");
+    folder.fails("import s.snap --snapshot s.snap", 2, "it is read, and not to be replaced");
+    folder.fails(
+        "import cut.lines --snapshot s.snap",
+        1,
+        "s.snap: is there already; --overwrite replaces it",
+    );
+    folder.fails("export s.snap s.snap", 2, "it is read, and not to be replaced");
+    folder.fails("export s.snap a.obj", 1, "a.obj: is there already; --overwrite replaces it");
+    folder.fails("export a.obj", 1, "a.obj: not a snapshot of a store");
+    folder.fails("export s.snap none/x.lines", 1, "none/x.lines: no such file or folder");
+}

@@ -13,6 +13,8 @@ pub mod held;
 pub mod histories;
 pub mod inputs;
 #[cfg(original)]
+pub mod lines;
+#[cfg(original)]
 pub mod machine;
 pub mod meshes;
 #[cfg(original)]

@@ -1,6 +1,7 @@
 //! 01's machine ("The store"), written from its sentences. It is fed the calls' arguments alone, never a store's runs; what a kernel's
 //! pieces and volumes are the original's own text says. [`Machine::fields`] writes out the two runs that 01 then asks for.
 use crate::conventions::{Convention, Reading, Report, write_list, write_track};
+use crate::lines::{self, Telling};
 use crate::page::{self, Row};
 use crate::pieces::Kernel;
 use crate::recorder::{Fit, watched};
@@ -318,6 +319,13 @@ impl<T: Text> Machine<T> {
     /// "It is given only when nothing is left to do, else 8".
     pub fn page(&self, out: &mut [u8]) -> Result<u64, u32> {
         if self.left() > 0 { Err(8) } else { page::write(&self.page_rows(), out) }
+    }
+
+    /// 02's L10: "a writer from a store to bracket lines".
+    pub fn lines(&self) -> String {
+        let put = |(place, at): (usize, &Option<Filled>)| at.as_ref().map(|at| (place, at.kernel, at.layer));
+        let puts = self.places.iter().enumerate().filter_map(put).collect();
+        lines::text(&Telling { radius: self.radius, xyz: &self.xyz, faces: &self.faces, puts })
     }
 
     /// How many places are filled.

@@ -63,7 +63,7 @@ impl Rest<'_> {
     }
 
     /// A number "up to 64 bits for advance and 32 elsewhere".
-    fn word(&mut self) -> Option<u32> {
+    pub(crate) fn word(&mut self) -> Option<u32> {
         self.decimal(u32::MAX.into()).map(|n| n as u32)
     }
 

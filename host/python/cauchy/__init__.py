@@ -33,9 +33,9 @@ from .library import ALL_LAYERS, LAYERS, MAX_FACES, MAX_PIECES, MAX_TRACK, MAX_V
 from .meshes import body_volume, closed, field_mass, homogeneous, kernel_volume, volume_centroid
 from .numbers import arc, exp, log, log10, power, radial_g, root, ten
 from .refusals import (
-    REFUSALS, BadKernelLine, BadMatrix, BadTrack, Exponent, FlatPivot, FloatStateError, LoadersDiffer, LooseCorner,
-    ManyKernels, NoFigure, NoLayer, NoPlace, NotClosed, Oversize, Ragged, Refused, ShortList, ShortPage, ShortStore,
-    Unfinished, UnknownRefusal, Unsound, Vacant, check_float_state,
+    REFUSALS, BadKernelLine, BadLine, BadMatrix, BadTrack, Exponent, FlatPivot, FloatStateError, LoadersDiffer,
+    LooseCorner, ManyKernels, NoFigure, NoLayer, NoPlace, NotClosed, Oversize, Ragged, Refused, ShortList, ShortPage,
+    ShortStore, ShortText, Unfinished, UnknownRefusal, Unsound, Vacant, check_float_state,
 )
 from .snapshot import SnapshotError
 from .source import (
@@ -51,10 +51,10 @@ __version__ = "0.1.0"
 
 __all__ = [
     "ALL_LAYERS", "LAYERS", "MAX_FACES", "MAX_PIECES", "MAX_TRACK", "MAX_VERTICES", "PLACES", "RAW", "REFUSALS",
-    "BadKernelLine", "BadMatrix", "BadTrack", "Bill", "Convention", "Exponent", "Fit", "FlatPivot", "FloatStateError",
+    "BadKernelLine", "BadLine", "BadMatrix", "BadTrack", "Bill", "Convention", "Exponent", "Fit", "FlatPivot", "FloatStateError",
     "Floats", "Held", "Items", "Kernel", "KernelList", "Loader", "LoadersDiffer", "LooseCorner", "ManyKernels",
     "MassReport", "NoFigure", "NoLayer", "NoPlace", "NotClosed", "Oversize", "Pieces", "Placed", "Ragged", "Refused",
-    "ShortList", "ShortPage", "ShortStore", "SnapshotError", "Solution", "Steps", "Store", "StoreReport", "Unfinished",
+    "ShortList", "ShortPage", "ShortStore", "ShortText", "SnapshotError", "Solution", "Steps", "Store", "StoreReport", "Unfinished",
     "UnknownRefusal",
     "Unsound", "Vacant", "arc", "bill", "body_volume", "check_float_state", "closed", "convert", "decompose",
     "decompose_list", "densitize", "exp", "field_mass", "homogeneous", "kernel_from_file", "kernel_volume", "log",

@@ -28,6 +28,9 @@ NATIVE_LOADER, SOURCE_LOADER, STRICT_LOADER = 0, 1, 2
 SHORTEST_LINE = 123
 PAGE_LINE = 65
 
+# The bytes of a store's lines, of an opening, a face and a put without their decimal numbers.
+OPEN_LINE, VERT_LINE, FACE_LINE, PUT_LINE = 51, 58, 10, 142
+
 
 class CauchyVector(Structure):
     _fields_ = [("x", c_double), ("y", c_double), ("z", c_double)]
@@ -110,6 +113,10 @@ class CauchyBytes(Structure):
     _fields_ = [("no", c_uint32), ("bytes", c_uint64)]
 
 
+class CauchyLoaded(Structure):
+    _fields_ = [("no", c_uint32), ("verts", c_uint32), ("faces", c_uint32), ("puts", c_uint64)]
+
+
 class CauchyKernels(Structure):
     _fields_ = [("no", c_uint32), ("kernels", c_uint64)]
 
@@ -150,6 +157,8 @@ PROTOTYPES: Dict[str, Tuple[Any, ...]] = {
     "store_list": (CauchyListed, *_STORE, CauchyConvention, c_uint32, *_FLOATS),
     "store_track": (CauchyTrack, *_STORE, CauchyConvention, c_uint32, *_FLOATS, *_FLOATS),
     "store_page": (CauchyBytes, *_STORE, *_BYTES),
+    "store_write": (CauchyBytes, *_STORE, *_BYTES),
+    "store_read": (CauchyLoaded, *_STORE, *_BYTES),
     "kernel_from_file": (CauchyKernel, CauchyFileKernel, c_double),
     "convert": (CauchyKernels, *_BYTES, c_double, c_uint32, *_FLOATS),
     "decompose": (CauchyPieces, CauchyKernel, c_double, *_FLOATS),

@@ -119,6 +119,14 @@ class Exponent(Refused):
     meaning = "exponent: some exponent is not 1"
 
 
+class BadLine(Refused):
+    """The bytes are not a store's lines, one whole opening and then puts: also a line without its newline, or with a
+    carriage return before it, or with a number of more than 32 bits."""
+
+    number = 13
+    meaning = "bad line: the bytes are not one whole opening and then puts"
+
+
 class BadTrack(Refused):
     """A track of more than 4,096 points, or whose coordinates are not of threes."""
 
@@ -154,6 +162,13 @@ class ShortPage(Refused):
     meaning = "short page: 65 bytes are needed for each filled place and for the total"
 
 
+class ShortText(Refused):
+    """The bytes to be written are too few for the store's lines. Those that this package lends never are."""
+
+    number = 19
+    meaning = "short text: the bytes are too few for the store's lines"
+
+
 class BadKernelLine(Refused):
     """A line of a file is no kernel line: also one without its newline, or with a carriage return before it."""
 
@@ -179,8 +194,8 @@ REFUSALS: Dict[int, Type[Refused]] = {
     kind.number: kind
     for kind in (
         Ragged, Oversize, LooseCorner, ShortStore, Unsound, NoPlace, Vacant, Unfinished, ShortList, BadMatrix,
-        FlatPivot, Exponent, BadTrack, ManyKernels, NoLayer, NoFigure, ShortPage, BadKernelLine, LoadersDiffer,
-        NotClosed,
+        FlatPivot, Exponent, BadLine, BadTrack, ManyKernels, NoLayer, NoFigure, ShortPage, ShortText, BadKernelLine,
+        LoadersDiffer, NotClosed,
     )
 }
 

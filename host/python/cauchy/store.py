@@ -2,7 +2,7 @@
 from array import array
 from typing import Any, Collection, Iterator, List, Optional, Tuple, Union, overload
 
-from . import arrays, snapshot
+from . import arrays, lines, snapshot
 from .library import (
     ALL_LAYERS, FLOATS_BEFORE_MESH, LAYERS, MAX_PIECES, MAX_TRACK, OLD_WORDS_BEFORE_MESH, PAGE_LINE, PLACES,
     WORDS_BEFORE_MESH, call,
@@ -24,7 +24,7 @@ Layers = Optional[Collection[int]]
 
 # The functions that only read a store, so that they may share it; the header's `const` says the same.
 READINGS = frozenset(
-    ("store_density", "store_report", "store_finished", "store_list", "store_track", "store_page"))
+    ("store_density", "store_report", "store_finished", "store_list", "store_track", "store_page", "store_write"))
 
 
 class Store:
@@ -452,6 +452,56 @@ class Store:
         store = cls._carry(arrays.floats(runs.floats, "floats", 1), arrays.words(runs.words, "words", 1))
         _check_excess(runs, OLD_WORDS_BEFORE_MESH)
         return store
+
+    def to_lines(self) -> bytes:
+        r"""The store as lines of text: its mesh, radius, kernels, weights and layers, bit for bit but with every NaN as
+        one, for tools that do not link the library. The work that is done is not in them.
+
+        `(open (radius H) (verts N) (faces N))`, the vertices `(vert H H H)`, the faces `(face N N N)`, and for each
+        filled place `(put N (c H H H) (sigma H) (w H) (alpha H) (layer N))`; each ends in a newline. H is a number by
+        the 16 upper-case hexadecimal digits of its bits, N is in decimal.
+
+        >>> store = Store(500, [0, 0, 0, 1, 0, 0, 0, 1, 0], [0, 1, 2])
+        >>> store.put(4, Kernel((0, 0, 0), 1, 2, 1), layer=15).need
+        1
+        >>> text = store.to_lines()
+        >>> print(*text.decode().splitlines()[:2], sep="\n")
+        (open (radius 407F400000000000) (verts 3) (faces 1))
+        (vert 0000000000000000 0000000000000000 0000000000000000)
+        >>> text[-58:]
+        b'(w 4000000000000000) (alpha 3FF0000000000000) (layer 15))\n'
+        """
+        def write() -> bytes:
+            verts, faces = self._runs.words[:2]
+            out = bytearray(lines.room(verts, faces))
+            answer = call("store_write", *self._runs.lent(), *arrays.written_octets(out).lent())
+            return bytes(memoryview(out)[:answer.bytes])
+
+        text: bytes = self._turns.run(False, write)
+        return text
+
+    @classmethod
+    def from_lines(cls, text: Union[bytes, bytearray, memoryview]) -> "Store":
+        r"""The store of such lines, as `open(path, "rb").read()` gives them, with all work to do: what their opening
+        and then their puts, one by one, would leave. The puts may be in any order, and of two into one place the later one
+        stands. A put may lack ` (layer N)`, and is then in layer 0. Where one line is refused, all are.
+
+        >>> store = Store(500, [0, 0, 0, 1, 0, 0, 0, 1, 0], [0, 1, 2])
+        >>> store.put(4, Kernel((0, 0, 0), 1, 2, 1), layer=15).need, store.advance(1).left
+        (1, 0)
+        >>> again = Store.from_lines(store.to_lines())
+        >>> again.held(4) == store.held(4), again.left(), again.to_lines() == store.to_lines()
+        (True, 1, True)
+        >>> Store.from_lines(store.to_lines()[:-1])
+        Traceback (most recent call last):
+        cauchy.BadLine: bad line: the bytes are not one whole opening and then puts (no 13)
+        """
+        check_float_state()
+        run = arrays.octets(text, "text")
+        verts, faces = lines.counts(run)
+        runs = Runs(FLOATS_BEFORE_MESH + 3 * verts, WORDS_BEFORE_MESH + 3 * faces)
+        call("store_read", *runs.lent(), *run.lent())
+        return cls._of(runs)
 
     def copy(self) -> "Store":
         """A store like this one, with memory of its own."""

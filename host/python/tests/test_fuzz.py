@@ -91,17 +91,19 @@ RIGHT = {
     "loader": lambda pick: pick.choice(list(Loader)),
     "floats": lambda pick: array("d", bytes(8 * pick.choice((0, 1760, 1761, 1800)))),
     "words": lambda pick: array("I", bytes(4 * pick.choice((0, 97, 98, 130)))),
+    "text": lambda pick: pick.choice(
+        (Store(1, [], []).to_lines(), Store(1, VERTICES, FACES).to_lines(), LINE, b"(open")),
     "bytes": lambda pick: pick.choice((Store(1, [], []).to_bytes(), b"CAUCHY02", b"x" * 40)),
 }
 
 METHODS = {
     "put": "place kernel layer", "clear": "place", "reweigh": "place number", "squeeze": "", "advance": "budget", "left": "",
     "work": "budget", "density": "convention point layers",
-    "track": "convention points layers", "report": "convention layers", "finished": "convention layers", "list": "convention layers", "page": "", "held": "place", "mesh": "", "to_bytes": "", "copy": "",
+    "track": "convention points layers", "report": "convention layers", "finished": "convention layers", "list": "convention layers", "page": "", "held": "place", "mesh": "", "to_bytes": "", "to_lines": "", "copy": "",
 }
 FUNCTIONS = {
     "Store": "number vertices faces", "Store.from_bytes": "bytes", "Store.carry_from_old": "floats words",
-    "Kernel": "point number number number",
+    "Store.from_lines": "text", "Kernel": "point number number number",
     "Convention": "kind number number", "rho0": "number", "mass": "number number",
     "kernel_from_file": "point number number number number", "convert": "lines number loader",
     "decompose": "kernel number", "decompose_list": "kernels number", "bill": "kernels count count",
@@ -115,7 +117,10 @@ FUNCTIONS = {
     "log10": "number", "radial_g": "number", "check_float_state": "",
 }
 
-MAKERS = {"Store.from_bytes": Store.from_bytes, "Store.carry_from_old": Store.carry_from_old}
+MAKERS = {
+    "Store.from_bytes": Store.from_bytes, "Store.carry_from_old": Store.carry_from_old,
+    "Store.from_lines": Store.from_lines,
+}
 
 
 def arguments(pick, kinds):
@@ -128,7 +133,7 @@ def arguments(pick, kinds):
 class Fuzz(unittest.TestCase):
     def test_the_tables_name_every_entry_point(self):
         methods = {name for name in vars(Store) if not name.startswith("_") and callable(getattr(Store, name))}
-        self.assertEqual(methods, {*METHODS, "from_bytes", "carry_from_old"})
+        self.assertEqual(methods, {*METHODS, "from_bytes", "carry_from_old", "from_lines"})
         functions = {name for name in cauchy.__all__ if callable(getattr(cauchy, name))}
         answers = {"Bill", "Held", "MassReport", "StoreReport", "Placed", "Fit", "Solution", "Steps", "Pieces", "Floats",
                    "Items", "KernelList", "Loader", "UnknownRefusal", "FloatStateError", "SnapshotError", "Refused"}

@@ -6,7 +6,7 @@ import unittest
 from pathlib import Path
 
 import cauchy
-from cauchy import library, store
+from cauchy import library, lines, store
 from header import header
 
 HOST = Path(__file__).resolve().parents[2]
@@ -73,6 +73,8 @@ class Declarations(unittest.TestCase):
             ("double default_alpha, uint32_t loader,", "uint32_t loader, double default_alpha,"),
             ("uint64_t bytes;", "uint32_t bytes;"),
             ("uint8_t *page, size_t n_page", "double *page, size_t n_page"),
+            ("uint64_t puts;", "uint32_t puts;"),
+            ("CauchyLoaded cauchy_store_read(", "CauchyOpened cauchy_store_read("),
         ]
         for old, new in changes:
             with self.subTest(old=old):
@@ -96,7 +98,7 @@ class Declarations(unittest.TestCase):
         functions, _, _, _ = header(TEXT)
         written = {name for arguments, _ in functions.values() for name, kind in arguments
                    if kind.endswith("*") and "const" not in kind}
-        self.assertEqual(written, {"floats", "words", "out", "answer", "page"})
+        self.assertEqual(written, {"floats", "words", "out", "answer", "page", "bytes"})
 
     def test_the_archive_has_no_other_function(self):
         try:
@@ -132,11 +134,25 @@ class Numbers(unittest.TestCase):
         self.assertEqual(library.PAGE_LINE, int(page[1]))
         enough = re.search(r"#define CAUCHY_CONVERT_FLOATS\(B\) \(\(size_t\)6 \* \(\(size_t\)\(B\) / (\d+)\)\)", TEXT)
         self.assertEqual(library.SHORTEST_LINE, int(enough[1]))
+        self.assertEqual(lines.room(0, 0), self.most_lines(0, 0))
+        for verts, faces in ((1, 0), (9, 9), (10, 10), (11, 100), (1000, 999), (1001, 7), (1048576, 2097152)):
+            self.assertEqual(lines.room(verts, faces), self.most_lines(verts, faces))
         for name in ("FLOATS", "WORDS"):
             told = re.search(rf"#define CAUCHY_STORE_{name}\(\w\) \(\(size_t\)(\d+) \+ \(size_t\)3 \*", TEXT)
             self.assertEqual(getattr(library, f"{name}_BEFORE_MESH"), int(told[1]))
         old = re.search(r"#define CAUCHY_OLD_STORE_WORDS\(\w\) \(\(size_t\)(\d+) \+ \(size_t\)3 \*", TEXT)
         self.assertEqual(library.OLD_WORDS_BEFORE_MESH, int(old[1]))
+
+    def most_lines(self, verts, faces):
+        """CAUCHY_LINES_BYTES of the header, worked by Python."""
+        def body(name):
+            text = re.search(rf"#define {name}\((?:.*\\\n)*.*\n", TEXT)[0].partition(")")[2]
+            return text.replace("\\\n", " ").replace("(size_t)", "").strip()
+
+        digits, macro = body("CAUCHY_DIGITS"), body("CAUCHY_LINES_BYTES")
+        macro = macro.replace("(V) > 0 ? (V)-1 : 0", "max(V - 1, 0)")
+        names = {"V": verts, "F": faces, "max": max, "CAUCHY_DIGITS": lambda N: eval(digits, {"N": N})}
+        return eval(macro, names)
 
     def test_refusals_say_the_words_of_the_crate(self):
         words = re.sub(r"\s+", " ", (HOST / "src/refusal.rs").read_text(encoding="utf-8"))

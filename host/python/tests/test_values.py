@@ -318,6 +318,80 @@ class Conversions(unittest.TestCase):
             self.assertIs(pickle.loads(pickle.dumps(loader)), loader)
 
 
+class Lines(unittest.TestCase):
+    def store(self):
+        store = Store(500, *sphere(0))
+        for place, alpha, layer in ((31, 2.5, 15), (0, 1, 0), (10, NAN, 9)):
+            store.put(place, Kernel((place, -place, -0.0), 0.01, 300 - place, alpha), layer)
+        return store
+
+    def test_a_store_is_written_and_read_again(self):
+        store = self.store()
+        store.reweigh(31, -7.25)
+        store.advance(5)
+        text = store.to_lines()
+        again = Store.from_lines(text)
+        self.assertEqual(again.to_lines(), text)
+        self.assertEqual([again.held(place) for place in range(32)], [store.held(place) for place in range(32)])
+        self.assertEqual([part.tolist() for part in again.mesh()], [part.tolist() for part in store.mesh()])
+        self.assertEqual((again.radius, again.left()), (store.radius, store.left() + 5))
+        fresh = Store(500, *sphere(0))
+        for place in (31, 10, 0):
+            held = store.held(place)
+            fresh.put(place, held.kernel, held.layer)
+        self.assertEqual(again.to_bytes(), fresh.to_bytes())
+
+    def test_the_lines_are_of_the_forms(self):
+        store = self.store()
+        vertices, faces = (part.tolist() for part in store.mesh())
+        rows = [list(zip(*[iter(part)] * 3)) if part and not isinstance(part[0], list) else part
+                for part in (vertices, faces)]
+        want = [f"(open (radius {digits(500.0)}) (verts {len(rows[0])}) (faces {len(rows[1])}))"]
+        want += [f"(vert {' '.join(map(digits, row))})" for row in rows[0]]
+        want += [f"(face {' '.join(map(str, row))})" for row in rows[1]]
+        for place in (0, 10, 31):
+            held = store.held(place)
+            k = held.kernel
+            c, (sigma, w, alpha) = " ".join(map(digits, k.c)), map(digits, (k.sigma, k.w, k.alpha))
+            want.append(f"(put {place} (c {c}) (sigma {sigma}) (w {w}) (alpha {alpha}) (layer {held.layer}))")
+        self.assertEqual(store.to_lines().decode().split("\n"), [*want, ""])
+
+    def test_lines_that_are_refused(self):
+        text = self.store().to_lines()
+        for old, new, kind in (
+            (b"(face 0", b"(face 99", cauchy.LooseCorner), (b"(face 0", b"(face 4294967296", cauchy.BadLine),
+            (b"(put 31", b"(put 32", cauchy.NoPlace), (b"(layer 15)", b"(layer 16)", cauchy.NoLayer),
+            (b"(verts 6)", b"(verts 7)", cauchy.BadLine), (b"(verts 6)", b"(verts 4294967295)", cauchy.BadLine),
+            (b"(verts 6)", b"(verts 99999999999)", cauchy.BadLine), (b"(faces 8)", b"(faces 2097153)", cauchy.BadLine),
+            (b"(put 0", b"(put 00", cauchy.BadLine), (b"\n", b"\r\n", cauchy.BadLine),
+            (b"(open", b"open", cauchy.BadLine),
+        ):
+            with self.subTest(new=new), self.assertRaises(kind):
+                self.assertIn(old, text)
+                Store.from_lines(text.replace(old, new))
+        for cut in (0, 1, 40, len(text) - 1):
+            with self.subTest(cut=cut), self.assertRaises(cauchy.BadLine):
+                Store.from_lines(text[:cut])
+        many = b"(open (radius 0000000000000000) (verts 0) (faces 2097153))\n" + b"(face 0 0 0)\n" * 2097153
+        with self.assertRaises(cauchy.Oversize):
+            Store.from_lines(many)
+
+    def test_all_buffers_of_bytes(self):
+        text = self.store().to_lines()
+        for lent in (bytearray(text), memoryview(text), array("B", text), memoryview(text[::-1])[::-1]):
+            self.assertEqual(Store.from_lines(lent).to_lines(), text)
+        for wrong in (None, 5, text.decode(), [text], array("d", [1.0]), released()):
+            with self.subTest(wrong=wrong), self.assertRaisesRegex(TypeError, "text: bytes"):
+                Store.from_lines(wrong)
+
+    def test_there_is_always_room(self):
+        for count in (1, 10, 11, 101):
+            store = Store(1, [0.5] * (3 * count), [count - 1] * 9)
+            for place in range(32):
+                store.put(place, Kernel((0, 0, 0), 1, 2, 1), 15)
+            self.assertEqual(len(store.to_lines()), cauchy.lines.room(count, 3))
+
+
 def bits(kernels):
     """The bits of kernels, those of every NaN alike."""
     return [[digits(NAN if x != x else x) for x in (*k.c, k.sigma, k.w, k.alpha)] for k in kernels]
@@ -358,6 +432,7 @@ class Refusals(unittest.TestCase):
             cauchy.ManyKernels: lambda: cauchy.bill(wide * 33, 6, 8),
             cauchy.NoLayer: lambda: store.report(RAW, layers=[16]),
             cauchy.NoFigure: lambda: heavy.page(),
+            cauchy.BadLine: lambda: Store.from_lines(store.to_lines()[:-1]),
             cauchy.BadKernelLine: lambda: cauchy.convert(LINE[1:], 1, Loader.NATIVE),
             cauchy.LoadersDiffer: lambda: cauchy.convert(line(1, 2, 3, 4, 5, -0.0), 0, Loader.STRICT),
             cauchy.NotClosed: lambda: cauchy.closed(vertices, faces[1:]),
@@ -365,7 +440,7 @@ class Refusals(unittest.TestCase):
         for kind, call in told.items():
             with self.subTest(kind=kind), self.assertRaises(kind):
                 call()
-        unseen = {cauchy.ShortStore, cauchy.Unsound, cauchy.ShortPage}
+        unseen = {cauchy.ShortStore, cauchy.Unsound, cauchy.ShortPage, cauchy.ShortText}
         self.assertEqual(set(cauchy.REFUSALS.values()) - set(told), unseen)
 
     def test_in_the_library_s_order(self):

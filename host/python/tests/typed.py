@@ -21,6 +21,8 @@ pieces: Tuple[cauchy.Kernel, ...] = cauchy.decompose(kernel, 500).pieces
 number: int = cauchy.NoPlace.number
 steps: int = cauchy.bill([kernel], 3, 1).steps
 page: str = store.page()
+text: bytes = store.to_lines()
+read: cauchy.Store = cauchy.Store.from_lines(text)
 converted: List[cauchy.Kernel] = cauchy.convert(b"", 1.5, cauchy.Loader.STRICT)
 
 cauchy.Kernel((0.0, 0.0), 1.0, 2.0, 1.0)  # type: ignore[arg-type]
@@ -34,6 +36,7 @@ store.report(0)  # type: ignore[arg-type]
 store.advance(0.5)  # type: ignore[arg-type]
 cauchy.mass()  # type: ignore[call-arg]
 cauchy.bill([kernel], [(0.0, 0.0, 0.0)], 1)  # type: ignore[arg-type]
+cauchy.Store.from_lines("")  # type: ignore[arg-type]
 cauchy.convert("", 1.5, cauchy.Loader.STRICT)  # type: ignore[arg-type]
 cauchy.convert(b"", 1.5, "strict")  # type: ignore[arg-type]
 text: str = store.density(cauchy.RAW, (0.0, 0.0, 0.0))  # type: ignore[assignment]

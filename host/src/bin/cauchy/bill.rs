@@ -3,8 +3,9 @@ use crate::failure::{Failure, Result};
 use crate::figures::rounded;
 use crate::options::Files;
 use crate::output::say;
-use crate::{input, kernels, opening, page, work};
-use cauchy::{Bill, Kernel, Mesh, OpenError, Refusal, Store};
+use crate::{input, kernels, lines, opening, page, work};
+use cauchy::{Bill, Kernel, Mesh, OpenError, PLACES, Refusal, Store};
+use std::path::Path;
 use std::time::{Duration, Instant};
 
 /// How long steps are tried for an estimate.
@@ -30,9 +31,32 @@ impl Due {
         Ok(Due { bill, kernels: kernels.len(), fitted })
     }
 
+    /// That of the kernels of a store, all their work to do.
+    pub fn of_store(store: &Store) -> std::result::Result<Due, Refusal> {
+        Due::of(&kernels_of(store), store.mesh())
+    }
+
     /// In words.
     pub fn lines(&self) -> Vec<String> {
         page::bill(self.bill, self.kernels, self.fitted)
+    }
+}
+
+/// The kernels of a store's places, in order.
+fn kernels_of(store: &Store) -> Vec<Kernel> {
+    (0..PLACES).filter_map(|place| store.held(place)).map(|held| held.kernel).collect()
+}
+
+/// Prints the bill of a store's lines, and an estimate of the time. Nothing is kept.
+pub fn print_lines(path: &Path) -> Result<()> {
+    let store = lines::read(path)?;
+    let due = Due::of_store(&store).map_err(|refusal| Failure::of_file(path, refusal))?;
+    let size = page::size(store.vertices().into(), store.faces().into());
+    let head = page::entry("mesh", &[format!("of the lines {}", path.display()), size]);
+    say(&(head + &page::entry("bill", &due.lines())))?;
+    match kernels_of(&store).first() {
+        Some(kernel) if due.bill.steps > 0 => print_time(path, store.mesh(), *kernel, due.bill.steps),
+        _ => Ok(()),
     }
 }
 
@@ -49,8 +73,13 @@ pub fn print(files: &Files) -> Result<()> {
         ("bill", due.lines()),
     ];
     say(&entries.map(|(label, lines)| page::entry(label, &lines)).concat())?;
-    let step = step_time(mesh, list.kernels[0]).map_err(|fault| Failure::of_file(&files.mesh, fault))?;
-    say(&page::entry("time", &[estimate(step, due.bill.steps)]))
+    print_time(&files.mesh, mesh, list.kernels[0], due.bill.steps)
+}
+
+/// Prints the time of so many steps, as steps of one kernel take it.
+fn print_time(path: &Path, mesh: Mesh<'_>, kernel: Kernel, steps: u64) -> Result<()> {
+    let step = step_time(mesh, kernel).map_err(|fault| Failure::of_file(path, fault))?;
+    say(&page::entry("time", &[estimate(step, steps)]))
 }
 
 /// The seconds that a step takes: the work on a kernel is done over and over for a fifth of a second, and once at

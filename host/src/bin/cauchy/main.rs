@@ -6,6 +6,7 @@ mod holes;
 mod input;
 mod interrupt;
 mod kernels;
+mod lines;
 mod opening;
 mod options;
 mod output;
@@ -32,6 +33,11 @@ fn main() -> ExitCode {
         Command::Help => say(include_str!("help.txt")),
         Command::Version => say(concat!("cauchy ", env!("CARGO_PKG_VERSION"), "\n")),
         Command::Bill(files) => bill::print(&files),
+        Command::BillLines(lines) => bill::print_lines(&lines),
+        Command::Export { snapshot, lines, overwrite } => {
+            lines::export(&snapshot, lines.as_deref(), overwrite)
+        }
+        Command::Import { lines, snapshot, overwrite } => lines::import(&lines, &snapshot, overwrite),
         Command::Page(snapshot) => wall::print(&snapshot),
         Command::Work(options) => run(&options),
     });

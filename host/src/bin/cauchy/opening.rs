@@ -1,10 +1,10 @@
-//! The store, from a mesh and a kernel list or from a snapshot.
+//! The store, from a mesh and a kernel list, from its lines or from a snapshot.
 use crate::bill::Due;
 use crate::failure::{Failure, Result};
 use crate::figures::counted;
 use crate::holes::Holes;
 use crate::options::{Files, Origin};
-use crate::{input, kernels, page};
+use crate::{input, kernels, lines, page};
 use cauchy::{Mesh, Refusal, Store};
 use std::path::Path;
 
@@ -29,6 +29,7 @@ struct Opened {
 pub fn open(origin: &Origin, squeeze: bool) -> Result<Opening> {
     let mut opened = match origin {
         Origin::Files(files, radius) => open_files(files, *radius)?,
+        Origin::Lines(path) => open_lines(path)?,
         Origin::Snapshot(path) => open_snapshot(path)?,
     };
     let (closed, closed_lines) = closed(opened.store.mesh())?;
@@ -54,6 +55,14 @@ fn open_snapshot(path: &Path) -> Result<Opened> {
         mesh.push(page::CARRIED.to_string());
     }
     Ok(Opened { store, mesh, kernels: vec!["of the snapshot".to_string()], bill: vec![] })
+}
+
+/// The store of a file of lines, as it is: metres, its own radius, its faces not turned.
+fn open_lines(path: &Path) -> Result<Opened> {
+    let store = lines::read(path)?;
+    let due = Due::of_store(&store).map_err(|refusal| Failure::of_file(path, refusal))?;
+    let mesh = vec![format!("of the lines {}", path.display())];
+    Ok(Opened { store, mesh, kernels: vec!["of the lines".to_string()], bill: due.lines() })
 }
 
 /// Whether the mesh is closed, and what is said of it: where it is not, the first places to look at.

@@ -13,8 +13,22 @@ pub enum Command {
     Version,
     /// The bill of a mesh and a kernel list.
     Bill(Files),
+    /// The bill of a store's lines.
+    BillLines(PathBuf),
     /// The wall page of a snapshot.
     Page(PathBuf),
+    /// The lines of a snapshot's store, to a file or to standard output.
+    Export {
+        snapshot: PathBuf,
+        lines: Option<PathBuf>,
+        overwrite: bool,
+    },
+    /// The snapshot of a store's lines.
+    Import {
+        lines: PathBuf,
+        snapshot: PathBuf,
+        overwrite: bool,
+    },
     Work(Box<Options>),
 }
 
@@ -32,6 +46,8 @@ pub struct Files {
 pub enum Origin {
     /// Files, and the radius in metres where it is given.
     Files(Files, Option<f64>),
+    /// A store's lines.
+    Lines(PathBuf),
     Snapshot(PathBuf),
 }
 
@@ -103,8 +119,11 @@ pub fn parse(words: impl IntoIterator<Item = OsString>) -> Result<Command> {
         Some("bill") => given.bill(),
         Some("resume") => given.resume(),
         Some("page") => given.page(),
+        Some("export") => given.export(),
+        Some("import") => given.import(),
         _ => {
-            Failure::usage(format!("{}: the commands are run, resume, bill, page and help", first.display()))
+            let commands = "run, resume, bill, page, export, import and help";
+            Failure::usage(format!("{}: the commands are {commands}", first.display()))
         }
     }
 }
@@ -156,17 +175,64 @@ impl Given {
     }
 
     fn run(mut self) -> Result<Command> {
+        if let Some(lines) = self.lines_file()? {
+            return self.work(Origin::Lines(lines));
+        }
         let files = self.mesh_and_kernels("run")?;
         let radius = self.radius;
         self.work(Origin::Files(files, radius))
     }
 
     fn bill(mut self) -> Result<Command> {
+        if let Some(lines) = self.lines_file()? {
+            return self.nothing_else("bill takes no option with a store's lines", Command::BillLines(lines));
+        }
         let files = self.mesh_and_kernels("bill")?;
         if self != Given::default() {
             return Failure::usage("bill takes no option but --mesh-unit, --loader and --alpha");
         }
         Ok(Command::Bill(files))
+    }
+
+    /// The one file that a command takes in place of two: a store's lines.
+    fn lines_file(&mut self) -> Result<Option<PathBuf>> {
+        if self.files.len() != 1 {
+            return Ok(None);
+        }
+        if self.radius.is_some() || self.unit.is_some() || self.loader.is_some() || self.alpha.is_some() {
+            return Failure::usage(
+                "--radius, --mesh-unit, --loader and --alpha go with two files, MESH.obj KERNELS.txt: a store's lines \
+                 have their radius, metres and kernels",
+            );
+        }
+        Ok(self.files.pop())
+    }
+
+    /// A command, where no option is left that it does not take.
+    fn nothing_else(self, otherwise: &str, command: Command) -> Result<Command> {
+        if self == Given::default() { Ok(command) } else { Failure::usage(otherwise) }
+    }
+
+    fn export(mut self) -> Result<Command> {
+        let overwrite = self.overwrite.take().is_some();
+        let mut files = std::mem::take(&mut self.files).into_iter();
+        let (Some(snapshot), lines, None) = (files.next(), files.next(), files.next()) else {
+            return Failure::usage("export takes one or two files: SNAPSHOT [FILE]");
+        };
+        let command = Command::Export { snapshot, lines, overwrite };
+        self.nothing_else("export takes no option but --overwrite", command)
+    }
+
+    fn import(mut self) -> Result<Command> {
+        let overwrite = self.overwrite.take().is_some();
+        let Ok([lines]) = <[PathBuf; 1]>::try_from(std::mem::take(&mut self.files)) else {
+            return Failure::usage("import takes one file: LINES");
+        };
+        let Some(snapshot) = self.snapshot.take() else {
+            return Failure::usage("import makes a snapshot: give --snapshot FILE too");
+        };
+        let command = Command::Import { lines, snapshot, overwrite };
+        self.nothing_else("import takes no option but --snapshot and --overwrite", command)
     }
 
     /// The two files that a command takes, and what is said of how they are read.
@@ -175,7 +241,10 @@ impl Given {
         let loading = Loading { loader: self.loader.take(), alpha: self.alpha.take() };
         match <[PathBuf; 2]>::try_from(std::mem::take(&mut self.files)) {
             Ok([mesh, kernels]) => Ok(Files { mesh, unit, kernels, loading }),
-            Err(_) => Failure::usage(format!("{command} takes two files: MESH.obj KERNELS.txt")),
+            Err(_) => {
+                let files = "MESH.obj KERNELS.txt, or one, a store's lines";
+                Failure::usage(format!("{command} takes two files: {files}"))
+            }
         }
     }
 
@@ -357,10 +426,34 @@ mod tests {
     }
 
     #[test]
+    fn lines_stand_for_a_mesh_and_kernels() {
+        let Ok(Command::Work(options)) = asked("run s.lines --raw") else { panic!() };
+        assert_eq!(options.origin, Origin::Lines("s.lines".into()));
+        assert_eq!(asked("bill s.lines"), Ok(Command::BillLines("s.lines".into())));
+        let export = |lines, overwrite| Ok(Command::Export { snapshot: "s".into(), lines, overwrite });
+        assert_eq!(asked("export s"), export(None, false));
+        assert_eq!(asked("export --overwrite s l"), export(Some("l".into()), true));
+        let import = |overwrite| Command::Import { lines: "l".into(), snapshot: "s".into(), overwrite };
+        assert_eq!(asked("import l --snapshot s"), Ok(import(false)));
+        assert_eq!(asked("import --snapshot s l --overwrite"), Ok(import(true)));
+    }
+
+    #[test]
     fn what_is_not_understood_is_said() {
         for (line, said) in [
             ("", "nothing asked"),
-            ("walk", "walk: the commands are run, resume, bill, page and help"),
+            ("walk", "walk: the commands are run, resume, bill, page, export, import and help"),
+            ("export", "export takes one or two files: SNAPSHOT [FILE]"),
+            ("export a b c", "export takes one or two files"),
+            ("export s --raw", "export takes no option but --overwrite"),
+            ("import l", "import makes a snapshot: give --snapshot FILE too"),
+            ("import --snapshot s", "import takes one file: LINES"),
+            ("import a b --snapshot s", "import takes one file"),
+            ("import l --snapshot s --steps 5", "import takes no option but --snapshot and --overwrite"),
+            ("run s.lines --raw --radius 1", "go with two files"),
+            ("bill s.lines --alpha 1", "go with two files"),
+            ("bill s.lines --raw", "bill takes no option with a store's lines"),
+            ("run --raw", "run takes two files: MESH.obj KERNELS.txt, or one, a store's lines"),
             ("page", "page takes one file: SNAPSHOT"),
             ("page a.obj k.txt", "page takes one file: SNAPSHOT"),
             ("page s --raw", "page takes no option"),
@@ -368,10 +461,9 @@ mod tests {
             ("run a b --raw --layers 1,", "--layers: `` is not a layer: they are 0 to 15"),
             ("page s --page p", "page takes no option"),
             ("run a b --raw --page p --page p", "--page is given twice"),
-            ("run a.obj --raw", "run takes two files"),
             ("run a b c --raw", "run takes two files"),
             ("resume --raw", "resume takes one file"),
-            ("bill a.obj", "bill takes two files"),
+            ("bill a b c", "bill takes two files"),
             ("bill a b --raw", "bill takes no option but --mesh-unit, --loader and --alpha"),
             ("bill a b --mesh-unit m --radius 1", "bill takes no option but --mesh-unit"),
             ("bill a b --loader Native", "--loader: Native is none of native, source and strict"),

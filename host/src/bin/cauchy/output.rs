@@ -89,10 +89,15 @@ fn place(path: &Path) -> PathBuf {
     })
 }
 
-/// Writes to standard output. Where no one reads any more, that is no fault.
+/// Writes text to standard output.
 pub fn say(text: &str) -> Result<()> {
+    give(text.as_bytes())
+}
+
+/// Writes bytes to standard output. Where no one reads any more, that is no fault.
+pub fn give(bytes: &[u8]) -> Result<()> {
     let mut out = std::io::stdout().lock();
-    match out.write_all(text.as_bytes()).and_then(|()| out.flush()) {
+    match out.write_all(bytes).and_then(|()| out.flush()) {
         Err(fault) if fault.kind() != ErrorKind::BrokenPipe => {
             Failure::work(format!("standard output: {fault}"))
         }

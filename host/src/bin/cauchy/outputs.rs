@@ -26,6 +26,7 @@ impl Outputs {
         let mut inputs: Vec<&Path> = options.track.iter().map(PathBuf::as_path).collect();
         match &options.origin {
             Origin::Files(files, _) => inputs.extend([files.mesh.as_path(), files.kernels.as_path()]),
+            Origin::Lines(path) => inputs.push(path),
             Origin::Snapshot(path) if !in_place => inputs.push(path),
             Origin::Snapshot(_) => {}
         }

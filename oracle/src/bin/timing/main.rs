@@ -15,6 +15,8 @@ mod largest;
 #[cfg(original)]
 mod lent;
 #[cfg(original)]
+mod lines;
+#[cfg(original)]
 mod powers;
 #[cfg(original)]
 mod program;
@@ -45,6 +47,7 @@ fn work() {
     squeezes::rows(&mut timings);
     closed::rows(&mut timings);
     convert::rows(&mut timings);
+    lines::rows(&mut timings);
     readings::rows(&mut timings);
     tracks::rows(&mut timings);
     if let Some(path) = std::env::args().nth(1) {
