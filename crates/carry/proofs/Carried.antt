@@ -27,20 +27,20 @@ pub record Carries (fs : List Float) (ws : List ℕ) (gs : List Float) (us : Lis
 
 pub carry-passes : (fs : List Float) (ws : List ℕ) (gs : List Float) (us : List ℕ) → carryCheck fs ws gs us ≡ Passed → Carries fs ws gs us
 unfolding carryCheck storeCheck
-carry-passes fs ws gs us h = go (longEnough oldWidth fs ws) (roomFor ws gs us) (sound oldWidth ws) refl refl refl h
+carry-passes fs ws gs us h = go (longEnough oldWidth fs ws) (roomFor ws gs us) (sound oldWidth ws) refl refl refl
   where
-    go : (a b d : Bool) → longEnough oldWidth fs ws ≡ a → roomFor ws gs us ≡ b → sound oldWidth ws ≡ d
-        → cond (a && b) (cond d Passed (Failed Unsound)) (Failed ShortStore) ≡ Passed → Carries fs ws gs us
-    go true true true x y z e =
+    go : (a b d : Bool) → longEnough oldWidth fs ws ≡ a → roomFor ws gs us ≡ b → sound oldWidth ws ≡ d → Carries fs ws gs us
+    go true true true x y z =
         let r = both (leb (cornersFrom width + 3 * facesOf ws) (length us)) (leb (coordsFrom + 3 * vertsOf ws) (length gs)) y in
         record {
           old = fine oldWidth fs ws (rw (x, z) refl);
           words = leb-true (cornersFrom width + 3 * facesOf ws) (length us) (r .0);
           floats = leb-true (coordsFrom + 3 * vertsOf ws) (length gs) (r .1);
         }
-    go false b d x y z e = absurd (let o : _≡_ {A = ℕ} 0 1 = cc in omega arith)
-    go true false d x y z e = absurd (let o : _≡_ {A = ℕ} 0 1 = cc in omega arith)
-    go true true false x y z e = absurd (let o : _≡_ {A = ℕ} 0 1 = cc in omega arith)
+    go false b d x y z = absurd (let e = simp (x, y, z) at h in let o : _≡_ {A = ℕ} 0 1 = cc in omega arith)
+    go true false true x y z = absurd (let e = simp (x, y, z) at h in let o : _≡_ {A = ℕ} 0 1 = cc in omega arith)
+    go true false false x y z = absurd (let e = simp (x, y, z) at h in let o : _≡_ {A = ℕ} 0 1 = cc in omega arith)
+    go true true false x y z = absurd (let e = simp (x, y, z) at h in let o : _≡_ {A = ℕ} 0 1 = cc in omega arith)
 
 -- ---- the records of the places below k stand in u, which was l
 pub rows-length : (ws : List ℕ) (k : ℕ) → length (carriedRows ws k) ≡ 4 * k
