@@ -21,7 +21,6 @@ pub mod Refused
 pub mod Listed
 pub mod Follow
 pub mod Loading
-pub mod Rewriting
 pub mod OldCalls
 pub mod Fitters
 pub mod Carrying

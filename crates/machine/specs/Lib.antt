@@ -6,7 +6,6 @@ pub mod Lines
 pub mod Calls
 pub mod OldStore
 pub mod Demands
-pub mod Rewriting
 pub mod Bills
 pub mod Renumbering
 pub mod Signs
