@@ -13,8 +13,6 @@ ghost use Rattle.advance.specs.Steps.{work, oneFace, whole, placeWork, s
 use layout::left::pieces;
 use layout::offsets::COORDS;
 use layout::offsets::CORNERS;
-use layout::offsets::DONE;
-use layout::offsets::FINISHED;
 use layout::offsets::KERNEL;
 use layout::offsets::KERNEL_SIZE;
 use layout::offsets::PIECE;
@@ -141,8 +139,8 @@ fn spend(
 {
     let at = WIDTH * i;
     let count = pieces(words[STATE + at]);
-    let finished = word(words, FINISHED + at);
-    let done = word(words, DONE + at);
+    let finished = word(words, STATE + 1 + at);
+    let done = word(words, STATE + 2 + at);
     let r = run_place(
         floats,
         words,
@@ -156,8 +154,8 @@ fn spend(
             budget,
         },
     );
-    words[FINISHED + at] = r.finished as u32;
-    words[DONE + at] = r.done as u32;
+    words[STATE + 1 + at] = r.finished as u32;
+    words[STATE + 2 + at] = r.done as u32;
     r.budget
 }
 

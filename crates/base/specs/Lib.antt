@@ -1,6 +1,5 @@
 pub mod Loops
 pub mod LoopLaws
-pub mod TableLaws
 pub mod FillLaws
 pub mod Floats
 pub mod FloatLaws

@@ -37,17 +37,11 @@ weightAt i = 5 + 7 * i
 abbrev pub weightOf : List Float → ℕ → Float
 weightOf fs i = getD fs (weightAt i) nan
 
-abbrev pub alphaAt : ℕ → ℕ
-alphaAt i = 6 + 7 * i
-
 abbrev pub alphaOf : List Float → ℕ → Float
-alphaOf fs i = getD fs (alphaAt i) nan
-
-abbrev pub errorAt : ℕ → ℕ
-errorAt i = 7 + 7 * i
+alphaOf fs i = getD fs (6 + 7 * i) nan
 
 abbrev pub errorOf : List Float → ℕ → Float
-errorOf fs i = getD fs (errorAt i) nan
+errorOf fs i = getD fs (7 + 7 * i) nan
 
 -- "from 225+48i its 16 pieces (sigma, coefficient, volume so far ..)"
 abbrev pub piecesFrom : ℕ → ℕ
@@ -55,22 +49,6 @@ piecesFrom i = 225 + 48 * i
 
 abbrev pub pieceFrom : ℕ → ℕ → ℕ
 pieceFrom i j = 225 + 48 * i + 3 * j
-
--- the sigma of a piece stands first
-abbrev pub sigmaOf : List Float → ℕ → ℕ → Float
-sigmaOf fs i j = getD fs (pieceFrom i j) nan
-
-abbrev pub coefficientAt : ℕ → ℕ → ℕ
-coefficientAt i j = 226 + 48 * i + 3 * j
-
-abbrev pub coefficientOf : List Float → ℕ → ℕ → Float
-coefficientOf fs i j = getD fs (coefficientAt i j) nan
-
-abbrev pub volumeAt : ℕ → ℕ → ℕ
-volumeAt i j = 227 + 48 * i + 3 * j
-
-abbrev pub volumeOf : List Float → ℕ → ℕ → Float
-volumeOf fs i j = getD fs (volumeAt i j) nan
 
 -- "from 1,761 coordinates"
 abbrev pub coordsFrom : ℕ

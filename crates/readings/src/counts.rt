@@ -12,7 +12,7 @@ ghost use Rattle.readings.specs.Readings.{heldFilled, heldWorst};
 ghost use Rattle.readings.specs.Counts.{pieceCount};
 use base::floats::greater_of;
 use layout::left::pieces;
-use layout::offsets::ERROR;
+use layout::offsets::KERNEL;
 use layout::offsets::KERNEL_SIZE;
 use layout::offsets::PLACES;
 use layout::offsets::STATE;
@@ -74,7 +74,7 @@ pub fn worst_error(floats: &[f64], words: &[u32], faces: usize) -> f64
         e = worse(
             words[STATE + WIDTH * i],
             e,
-            floats[ERROR + KERNEL_SIZE * i],
+            floats[KERNEL + 6 + KERNEL_SIZE * i],
         );
         i += 1;
     }

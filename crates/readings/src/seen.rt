@@ -17,8 +17,6 @@ use base::refusal::Refusal;
 use layout::left::left;
 use layout::left::pieces;
 use layout::offsets::CORNERS;
-use layout::offsets::FINISHED;
-use layout::offsets::LAYER;
 use layout::offsets::PLACES;
 use layout::offsets::STATE;
 use layout::offsets::WIDTH;
@@ -51,7 +49,7 @@ fn complete(words: &[u32], i: usize) -> bool
     ensures { λ r. ⌜ r ≡ completeAt width (now (words .entry)) i ⌝ }
 {
     let row = WIDTH * i;
-    word(words, FINISHED + row) == pieces(words[STATE + row])
+    word(words, STATE + 1 + row) == pieces(words[STATE + row])
 }
 
 // Whether a reading sees place i: its layer is in the set and, where only complete places are wanted, it has no step left.
@@ -60,7 +58,7 @@ fn shows(words: &[u32], layers: u32, only: bool, i: usize) -> bool
         ∗ ⌜ (i < placeLimit) × (layerOf width (now words) i < layerLimit) ⌝ }
     ensures { λ r. ⌜ r ≡ shown width layers only (now (words .entry)) i ⌝ }
 {
-    let inside = in_set(layers, words[LAYER + WIDTH * i]);
+    let inside = in_set(layers, words[STATE + 3 + WIDTH * i]);
     if !only {
         return inside;
     }
