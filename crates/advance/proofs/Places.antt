@@ -16,7 +16,7 @@ use Rattle.mesh.specs.declared.triangles.Triangle.{Triangle}
 use Rattle.layout.specs.Layout.{width, coordsFrom, cornersFrom, statusOf, finishedOf, doneOf}
 use Rattle.layout.specs.SoundLaws.{Meshed, Ready, Worded}
 use Rattle.layout.specs.Left.{held}
-use Rattle.advance.specs.Steps.{Work, work, oneFace, Whole, whole, placeWork, stored, placesRun}
+use Rattle.advance.specs.Steps.{Work, work, oneFace, Standing, standing, placeWork, stored, placesRun}
 
 -- ---- steps at place i do not reach the mesh
 one-mesh : (t : ℕ → Triangle) (c : V3) (m i p : ℕ) → i < 32 → p ≤ 16 → (r : Work) → drop coordsFrom (oneFace t c m (225 + 48 * i) p r .floats) ≡ drop coordsFrom (r .floats)
@@ -34,8 +34,8 @@ work-mesh t c m i p hi hp (suc k) r = one-mesh t c m i p hi hp (iterate (oneFace
 
 -- ---- the loop
 module _ (f₀ : List Float) (w₀ : List ℕ) (vs m b₀ : ℕ) where
-  abbrev runTo : ℕ → Whole
-  runTo i = placesRun width (held width f₀ w₀ vs m) m i (whole f₀ w₀ b₀)
+  abbrev runTo : ℕ → Standing
+  runTo i = placesRun width (held width f₀ w₀ vs m) m i (standing f₀ w₀ b₀)
 
   -- where it stands
   pub record Sweep (f : List Float) (w : List ℕ) (b i : ℕ) : Type 0 where
@@ -45,7 +45,7 @@ module _ (f₀ : List Float) (w₀ : List ℕ) (vs m b₀ : ℕ) where
     pub mesh-f : drop coordsFrom f ≡ drop coordsFrom f₀
     pub mesh-w : drop (cornersFrom width) w ≡ drop (cornersFrom width) w₀
     pub ahead : (j : ℕ) → i ≤ j → j < 32 → Ready m j (statusOf width w j - 1) (finishedOf width w j) (doneOf width w j)
-    pub state : whole f w b ≡ runTo i
+    pub state : standing f w b ≡ runTo i
 
   pub start : Worded width w₀ m → Sweep f₀ w₀ b₀ 0
   unfolding placesRun
@@ -58,14 +58,14 @@ module _ (f₀ : List Float) (w₀ : List ℕ) (vs m b₀ : ℕ) where
       same j l = subst (λ (x : ℕ). x < vs) (sym (sym (getD-drop (cornersFrom width) w j 0) ∙ (ap (λ (t : List ℕ). getD t j 0) (g .mesh-w) ∙ getD-drop (cornersFrom width) w₀ j 0))) l
 
   pub sweep : (f f′ : List Float) (w w′ : List ℕ) (b b′ i : ℕ) → Sweep f w b i → i < 32 → length f′ ≡ length f
-      → whole f′ w′ b′ ≡ stored width w i (placeWork width (held width f w vs m) m i (whole f w b))
+      → standing f′ w′ b′ ≡ stored width w i (placeWork width (held width f w vs m) m i (standing f w b))
       → Sweep f′ w′ b′ (i + 1)
   unfolding placesRun placeWork
   sweep f f′ w w′ b b′ i g hi lf e =
       let r = g .ahead i (omega arith) hi in
-      let t = placeWork width (held width f w vs m) m i (whole f w b) in
-      let ef : f′ ≡ t .floats = ap (λ (s : Whole). s .floats) e in
-      let ew : w′ ≡ set (set w (3 + width * i) (t .finished)) (4 + width * i) (t .done) = ap (λ (s : Whole). s .words) e in
+      let t = placeWork width (held width f w vs m) m i (standing f w b) in
+      let ef : f′ ≡ t .floats = ap (λ (s : Standing). s .floats) e in
+      let ew : w′ ≡ set (set w (3 + width * i) (t .finished)) (4 + width * i) (t .done) = ap (λ (s : Standing). s .words) e in
       let same : (q : ℕ) → 4 + width * i < q → getD w′ q 0 ≡ getD w q 0 = λ q h. ap (λ (l : List ℕ). getD l q 0) ew ∙ (getD-set-other (set w (3 + width * i) (t .finished)) (4 + width * i) q (t .done) 0 (omega arith) ∙ getD-set-other w (3 + width * i) q (t .finished) 0 (omega arith)) in
       record {
         top = omega arith;
@@ -74,5 +74,5 @@ module _ (f₀ : List Float) (w₀ : List ℕ) (vs m b₀ : ℕ) where
         mesh-f = ap (drop coordsFrom) ef ∙ (work-mesh _ _ _ i _ hi (r .pieces) b _ ∙ g .mesh-f);
         mesh-w = ap (drop (cornersFrom width)) ew ∙ (drop-set-lt (cornersFrom width) (set w (3 + width * i) (t .finished)) (4 + width * i) (t .done) (omega arith) ∙ (drop-set-lt (cornersFrom width) w (3 + width * i) (t .finished) (omega arith) ∙ g .mesh-w));
         ahead = λ j h l. rw (same (2 + width * j) (omega arith), same (3 + width * j) (omega arith), same (4 + width * j) (omega arith)) (g .ahead j (omega arith) l);
-        state = rw add-one ((rw (g .mesh-f, g .mesh-w) at e) ∙ ap (λ (s : Whole). stored width (s .words) i (placeWork width (held width f₀ w₀ vs m) m i s)) (g .state));
+        state = rw add-one ((rw (g .mesh-f, g .mesh-w) at e) ∙ ap (λ (s : Standing). stored width (s .words) i (placeWork width (held width f₀ w₀ vs m) m i s)) (g .state));
       }

@@ -43,32 +43,32 @@ oneFace t c m base count r =
 -- ---- "lowest unfinished place first"
 
 -- the store between two places, and the steps still to spend
-pub record Whole : Type 0 where
+pub record Standing : Type 0 where
   pub floats : List Float
   pub words : List ℕ
   pub budget : ℕ
 
-abbrev pub whole : List Float → List ℕ → ℕ → Whole
-whole fs ws b = record { floats = fs; words = ws; budget = b }
+abbrev pub standing : List Float → List ℕ → ℕ → Standing
+standing fs ws b = record { floats = fs; words = ws; budget = b }
 
 -- the steps that place i takes of them
-unfoldable pub placeWork : ℕ → (ℕ → Triangle) → ℕ → ℕ → Whole → Work
+unfoldable pub placeWork : ℕ → (ℕ → Triangle) → ℕ → ℕ → Standing → Work
 placeWork q t m i s =
     iterate (oneFace t (centreAt (s .floats) i) m (piecesFrom i) (statusOf q (s .words) i - 1)) (s .budget)
     (work (s .floats) (finishedOf q (s .words) i) (doneOf q (s .words) i) (s .budget))
 
 -- with its words written back
-abbrev pub stored : ℕ → List ℕ → ℕ → Work → Whole
-stored q ws i r = whole (r .floats) (set (set ws (finishedAt q i) (r .finished)) (doneAt q i) (r .done)) (r .budget)
+abbrev pub stored : ℕ → List ℕ → ℕ → Work → Standing
+stored q ws i r = standing (r .floats) (set (set ws (finishedAt q i) (r .finished)) (doneAt q i) (r .done)) (r .budget)
 
 -- the places below k, one after the other
-unfoldable pub placesRun : ℕ → (ℕ → Triangle) → ℕ → ℕ → Whole → Whole
+unfoldable pub placesRun : ℕ → (ℕ → Triangle) → ℕ → ℕ → Standing → Standing
 placesRun q t m zero s = s
 placesRun q t m (suc i) s = stored q (placesRun q t m i s .words) i (placeWork q t m i (placesRun q t m i s))
 
 -- ---- the call: "the step count in its result is done, beside left"
-abbrev pub spentAll : ℕ → List Float → List ℕ → ℕ → Whole
-spentAll q fs ws n = placesRun q (held q fs ws (vertsOf ws) (facesOf ws)) (facesOf ws) placeLimit (whole fs ws n)
+abbrev pub spentAll : ℕ → List Float → List ℕ → ℕ → Standing
+spentAll q fs ws n = placesRun q (held q fs ws (vertsOf ws) (facesOf ws)) (facesOf ws) placeLimit (standing fs ws n)
 
 unfoldable pub advanceStep : ℕ → List Float → List ℕ → ℕ → After
 advanceStep q fs ws n =

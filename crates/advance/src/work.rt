@@ -9,16 +9,19 @@ ghost use Rattle.volume.specs.Volume.{volumeFrom};
 ghost use Rattle.layout.specs.Layout.{centreAt, width, placeLimit, piecesFrom, coordsFrom, statusOf, finishedOf, doneOf};
 ghost use Rattle.layout.specs.SoundLaws.{Ready, Meshed, Worded};
 ghost use Rattle.layout.specs.Left.{held};
-ghost use Rattle.advance.specs.Steps.{work, oneFace, whole, placeWork, stored, placesRun};
+ghost use Rattle.advance.specs.Steps.{work, oneFace, standing, placeWork, stored, placesRun};
 use layout::left::pieces;
 use layout::offsets::COORDS;
 use layout::offsets::CORNERS;
+use layout::offsets::DONE;
+use layout::offsets::FINISHED;
 use layout::offsets::KERNEL;
 use layout::offsets::KERNEL_SIZE;
 use layout::offsets::PIECE;
 use layout::offsets::PIECES_SIZE;
 use layout::offsets::PLACES;
 use layout::offsets::STATE;
+use layout::offsets::VOLUME;
 use layout::offsets::WIDTH;
 use layout::runs::lesser;
 use layout::runs::word;
@@ -47,7 +50,7 @@ fn chunk(
     ensures { λ _. ⌜ now (floats .exit) ≡ set (now (floats .entry)) (at + 2) (volumeFrom (held width (now (floats .entry)) (now (words .entry)) verts faces) c (getD (now (floats .entry)) at nan) done (done + k) (getD (now (floats .entry)) (at + 2) nan)) ⌝ }
 {
     let sigma = floats[at];
-    let sum = floats[at + 2];
+    let sum = floats[at + VOLUME];
     let coords_end = COORDS + 3 * verts;
     let corners_end = CORNERS + 3 * faces;
     let volume = volume_from(
@@ -59,7 +62,7 @@ fn chunk(
         done,
         done + k,
     );
-    floats[at + 2] = volume;
+    floats[at + VOLUME] = volume;
 }
 
 // Spends up to `budget` steps at place i, no further than the end of the current piece; c is the place's centre.
@@ -135,12 +138,12 @@ fn spend(
     budget: usize,
 ) -> usize
     requires { ⌜ Meshed width (now floats) (now words) verts faces ⌝ ∗ ⌜ Ready faces i (statusOf width (now words) i - 1) (finishedOf width (now words) i) (doneOf width (now words) i) ⌝ }
-    ensures { λ r. ⌜ whole (now (floats .exit)) (now (words .exit)) r ≡ stored width (now (words .entry)) i (placeWork width (held width (now (floats .entry)) (now (words .entry)) verts faces) faces i (whole (now (floats .entry)) (now (words .entry)) budget)) ⌝ }
+    ensures { λ r. ⌜ standing (now (floats .exit)) (now (words .exit)) r ≡ stored width (now (words .entry)) i (placeWork width (held width (now (floats .entry)) (now (words .entry)) verts faces) faces i (standing (now (floats .entry)) (now (words .entry)) budget)) ⌝ }
 {
     let at = WIDTH * i;
     let count = pieces(words[STATE + at]);
-    let finished = word(words, STATE + 1 + at);
-    let done = word(words, STATE + 2 + at);
+    let finished = word(words, FINISHED + at);
+    let done = word(words, DONE + at);
     let r = run_place(
         floats,
         words,
@@ -154,8 +157,8 @@ fn spend(
             budget,
         },
     );
-    words[STATE + 1 + at] = r.finished as u32;
-    words[STATE + 2 + at] = r.done as u32;
+    words[FINISHED + at] = r.finished as u32;
+    words[DONE + at] = r.done as u32;
     r.budget
 }
 
@@ -168,7 +171,7 @@ pub fn run_places(
     budget: usize,
 ) -> usize
     requires { ⌜ Meshed width (now floats) (now words) verts faces ⌝ ∗ ⌜ Worded width (now words) faces ⌝ }
-    ensures { λ r. ⌜ whole (now (floats .exit)) (now (words .exit)) r ≡ placesRun width (held width (now (floats .entry)) (now (words .entry)) verts faces) faces placeLimit (whole (now (floats .entry)) (now (words .entry)) budget) ⌝ }
+    ensures { λ r. ⌜ standing (now (floats .exit)) (now (words .exit)) r ≡ placesRun width (held width (now (floats .entry)) (now (words .entry)) verts faces) faces placeLimit (standing (now (floats .entry)) (now (words .entry)) budget) ⌝ }
 {
     let mut rest = budget;
     let mut i: usize = 0;

@@ -14,7 +14,7 @@ use Rattle.readings.specs.Readings.{readStep, density, report}
 use Rattle.forms.specs.declared.line.Call.{Call}
 use Rattle.forms.specs.declared.line.Call.the-variants.{Put, Clear, Reweigh, Advance, Density, Report}
 use Rattle.calls.specs.Texts.{putText, densityText, advanceText, clearText, reweighText, reportText}
-use Rattle.calls.specs.Calls.{Called, called, looked, kernelOf, callOf}
+use Rattle.calls.specs.Calls.{Called, called, looked, asKernel, callOf}
 
 -- the runs and what was written, where another call is made that is the same
 pub calling : {x y : Called} {fs : List Float} {ws o o′ : List ℕ} {r : ℕ} → x ≡ y →
@@ -29,7 +29,7 @@ looking e (b, w) = calling e (b, (refl, (refl, w)))
 
 -- ---- each call
 pub put-call : (fs : List Float) (ws : List ℕ) {c : Call} {place : ℕ} {x y z sigma w alpha : Float} → c ≡ Put place x y z sigma w alpha →
-    callOf fs ws c ≡ called (putText place) (putStep width fs ws place (kernelOf x y z sigma w alpha) 0)
+    callOf fs ws c ≡ called (putText place) (putStep width fs ws place (asKernel x y z sigma w alpha) 0)
 unfolding callOf
 put-call fs ws e = rw (e) refl
 

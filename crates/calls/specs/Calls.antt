@@ -33,13 +33,13 @@ looked fs ws text = record { floats = fs; words = ws; text = text }
 abbrev pub badText : List ℕ
 badText = noText (number BadLine)
 
-abbrev pub kernelOf : Float → Float → Float → Float → Float → Float → Kernel
-kernelOf x y z sigma w alpha = record { c = x ∷ y ∷ z ∷ []; sigma = sigma; w = w; alpha = alpha }
+abbrev pub asKernel : Float → Float → Float → Float → Float → Float → Kernel
+asKernel x y z sigma w alpha = record { c = x ∷ y ∷ z ∷ []; sigma = sigma; w = w; alpha = alpha }
 
 -- 02, L5: "The bench puts in layer 0 and reads with all sixteen."
 unfoldable pub callOf : List Float → List ℕ → Call → Called
 callOf fs ws (Put place x y z sigma w alpha) =
-    called (putText place) (putStep width fs ws place (kernelOf x y z sigma w alpha) 0)
+    called (putText place) (putStep width fs ws place (asKernel x y z sigma w alpha) 0)
 callOf fs ws (Clear place) = called (clearText place) (clearStep width fs ws place)
 callOf fs ws (Reweigh place w) = called (reweighText place) (reweighStep width fs ws place w)
 callOf fs ws (Advance n) = called advanceText (advanceStep width fs ws n)

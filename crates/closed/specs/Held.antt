@@ -7,7 +7,7 @@ use mathlib.Core.List.{List, [], _∷_}
 use lib.Dec.{leb, ltb}
 use lib.ListN.{length, getD, set, drop}
 use Rattle.closed.specs.declared.ranges.Batch.{Batch}
-use Rattle.closed.specs.Order.{is, held, All, Within}
+use Rattle.closed.specs.Order.{is, copies, All, Within}
 
 -- the number of a directed edge: 2k where it goes to the greater corner, 2k + 1 where to the lesser, k of both corners
 unfoldable pub code : ℕ → ℕ → ℕ
@@ -38,7 +38,7 @@ pub record Put (low end x : ℕ) (xs : List ℕ) (m : ℕ) (ys : List ℕ) (n : 
 pub record Faced (low end x y z : ℕ) (xs : List ℕ) (m : ℕ) (ys : List ℕ) (n : ℕ) : Type 0 where
   pub more : n ≤ m + 3
   pub long : length ys ≡ length xs
-  pub same : (c : ℕ) → low ≤ c → c < end → held c ys n ≡ held c xs m + (is (code x y) c + is (code y z) c + is (code z x) c)
+  pub same : (c : ℕ) → low ≤ c → c < end → copies c ys n ≡ copies c xs m + (is (code x y) c + is (code y z) c + is (code z x) c)
   pub within : Within low end xs m → Within low end ys n
 
 -- none of the corners from .. to - 1 is one of first .. last
@@ -83,7 +83,7 @@ pub record Sound (low : ℕ) (b : Batch) (xs : List ℕ) : Type 0 where
 -- where no such k is left, so many numbers had k = low that the range could not be cut down to fewer
 pub record Gathered (ks : List ℕ) (low : ℕ) (b : Batch) (xs : List ℕ) (i : ℕ) : Type 0 where
   pub sound : Sound low b xs
-  pub same : (c : ℕ) → 2 * low ≤ c → c < 2 * b .end → held c xs (b .count) + tally c (drop i ks) ≡ tally c ks
+  pub same : (c : ℕ) → 2 * low ≤ c → c < 2 * b .end → copies c xs (b .count) + tally c (drop i ks) ≡ tally c ks
   pub stuck : b .end ≤ low → 3 ≤ tally (2 * low) ks + tally (2 * low + 1) ks
 
 -- at most half the words of a batch: all that are below a lesser end
@@ -91,17 +91,17 @@ pub record Halved (low : ℕ) (b : Batch) (xs : List ℕ) (h : Batch) (ys : List
   pub sound : Sound low h ys
   pub half : h .count ≤ b .count / 2
   pub less : h .end < b .end
-  pub same : (c : ℕ) → c < 2 * h .end → held c ys (h .count) ≡ held c xs (b .count)
-  pub stuck : h .end ≤ low → 3 ≤ held (2 * low) xs (b .count) + held (2 * low + 1) xs (b .count)
+  pub same : (c : ℕ) → c < 2 * h .end → copies c ys (h .count) ≡ copies c xs (b .count)
+  pub stuck : h .end ≤ low → 3 ≤ copies (2 * low) xs (b .count) + copies (2 * low + 1) xs (b .count)
 
 -- the first n words are whole pairs 2k, 2k + 1, each once
 pub record Paired (xs : List ℕ) (n : ℕ) : Type 0 where
-  pub both : (k : ℕ) → held (2 * k) xs n ≡ held (2 * k + 1) xs n
-  pub single : (k : ℕ) → held (2 * k) xs n ≤ 1
+  pub both : (k : ℕ) → copies (2 * k) xs n ≡ copies (2 * k + 1) xs n
+  pub single : (k : ℕ) → copies (2 * k) xs n ≤ 1
 
 -- of an edge and its reverse, one of which has the number x, not both numbers are among the first n words once
 abbrev pub Unpaired : List ℕ → ℕ → ℕ → Type 0
-Unpaired xs n x = held (2 * (x / 2)) xs n ≡ 1 → held (2 * (x / 2) + 1) xs n ≡ 1 → ⊥
+Unpaired xs n x = copies (2 * (x / 2)) xs n ≡ 1 → copies (2 * (x / 2) + 1) xs n ≡ 1 → ⊥
 
 -- each edge whose k is below n occurs at most once, and its reverse as often
 pub record Matched (ks : List ℕ) (n : ℕ) : Type 0 where

@@ -11,25 +11,25 @@ use lib.ListN.{length, getD, set, drop, length-set, length-drop}
 use lib.Seq.{getD-set-same, getD-set-other, drop-cons}
 use borrow.Author.Tests.{le-leb, lt-ltb, leb-true, leb-false, ltb-true, ltb-false, eqb-true, eqb-false}
 use Rattle.closed.specs.declared.ranges.Batch.{Batch}
-use Rattle.closed.specs.Order.{is, held, All, Within, Rising, Ordered}
-use Rattle.closed.specs.OrderLaws.{is-yes, is-no, is-pair, held-next, held-le, held-past, held-none, held-two, held-above, all-moved, all-none}
+use Rattle.closed.specs.Order.{is, copies, All, Within, Rising, Ordered}
+use Rattle.closed.specs.OrderLaws.{is-yes, is-no, is-pair, copies-next, copies-le, copies-past, copies-none, copies-two, copies-above, all-moved, all-none}
 use Rattle.closed.specs.Held.{code, tally, inside, taken, Put, Faced, NoneWithin, behind, Listed, Below, Cut, Sound, Gathered, Halved, Paired, Unpaired, Matched, Unmatched}
 
 -- ---- a word that is put
-pub put-one : (c low end x n : ℕ) (xs : List ℕ) → n < length xs → low ≤ c → c < end → held c (set xs n x) (n + taken low end x) ≡ held c xs n + is x c
-unfolding held
+pub put-one : (c low end x n : ℕ) (xs : List ℕ) → n < length xs → low ≤ c → c < end → copies c (set xs n x) (n + taken low end x) ≡ copies c xs n + is x c
+unfolding copies
 put-one c low end x n xs h a b = go (leb low x && ltb x end) refl
   where
     differs : (leb low x && ltb x end) ≡ false → x ≡ c → ⊥
     differs e d = true≢false (sym (rw (d, le-leb low c a, lt-ltb c end b) refl) ∙ e)
 
-    go : (t : Bool) → (leb low x && ltb x end) ≡ t → held c (set xs n x) (n + cond t 1 0) ≡ held c xs n + is x c
+    go : (t : Bool) → (leb low x && ltb x end) ≡ t → copies c (set xs n x) (n + cond t 1 0) ≡ copies c xs n + is x c
     go true e =
         let p = getD-set-same xs n x 0 h in
-        let q = held-above c xs n x n (omega arith) in
+        let q = copies-above c xs n x n (omega arith) in
         rw (add-one n) (omega (arith, ap (λ (z : ℕ). is z c) p, q))
     go false e =
-        let q = held-above c xs n x n (omega arith) in
+        let q = copies-above c xs n x n (omega arith) in
         let z = is-no x c (differs e) in
         rw (add-zero n) (omega arith)
 
@@ -75,8 +75,8 @@ taken-one low end x = go (leb low x && ltb x end)
     go false = omega arith
 
 module _ {low end x m n : ℕ} {xs ys : List ℕ} (p : Put low end x xs m ys n) where
-  pub put-held : (c : ℕ) → m < length xs → low ≤ c → c < end → held c ys n ≡ held c xs m + is x c
-  put-held c h a b = rw (p .count, p .words) (put-one c low end x m xs h a b)
+  pub put-copies : (c : ℕ) → m < length xs → low ≤ c → c < end → copies c ys n ≡ copies c xs m + is x c
+  put-copies c h a b = rw (p .count, p .words) (put-one c low end x m xs h a b)
 
   pub put-long : length ys ≡ length xs
   put-long = rw (p .words) (length-set xs m x)
@@ -111,9 +111,9 @@ module _ {low end x y z m m₁ m₂ m₃ a b d : ℕ} {xs xs₁ xs₂ xs₃ : Li
         more = omega arith;
         long = omega arith;
         same = λ c k j.
-            let hp = put-held p c (omega arith) k j in
-            let hq = put-held q c (omega arith) k j in
-            let hr = put-held r c (omega arith) k j in
+            let hp = put-copies p c (omega arith) k j in
+            let hq = put-copies q c (omega arith) k j in
+            let hr = put-copies r c (omega arith) k j in
             omega (arith, hp, hq, hr, ap (λ (w : ℕ). is w c) ea, ap (λ (w : ℕ). is w c) eb, ap (λ (w : ℕ). is w c) ed);
         within = λ w. put-within r (omega arith) (put-within q (omega arith) (put-within p (omega arith) w));
       }
@@ -124,11 +124,11 @@ abbrev pub counted : Batch → ℕ → Batch
 counted b n = record { count = n; end = b .end; depth = b .depth }
 
 pub gathered-none : {ks xs : List ℕ} {low : ℕ} {b : Batch} → b .count ≡ 0 → b .depth ≤ 384 → length xs ≡ 61440 → b .end ≤ 1099511627776 → low < b .end → Gathered ks low b xs 0
-unfolding held
+unfolding copies
 gathered-none {ks} {xs} {low} {b} z d l e h =
     record {
       sound = record { long = l; room = omega arith; listed = d; first = omega arith; last = e; within = all-none (omega arith) };
-      same = λ c f g. ap (λ (n : ℕ). held c xs n + tally c ks) z ∙ zero-add (tally c ks);
+      same = λ c f g. ap (λ (n : ℕ). copies c xs n + tally c ks) z ∙ zero-add (tally c ks);
       stuck = λ g. absurd (omega arith);
     }
 
@@ -149,7 +149,7 @@ face-put {ks} {low} {i} g h r f =
 
 -- the faces from i to j have no number of the range
 further : {ks : List ℕ} {low i j : ℕ} {b : Batch} {xs : List ℕ} → Gathered ks low b xs i → ((c : ℕ) → 2 * low ≤ c → c < 2 * b .end → tally c (drop j ks) ≡ tally c (drop i ks)) → Gathered ks low b xs j
-further {b = b} {xs = xs} g f = record { sound = g .sound; same = λ c h l. ap (λ (z : ℕ). held c xs (b .count) + z) (f c h l) ∙ g .same c h l; stuck = g .stuck }
+further {b = b} {xs = xs} g f = record { sound = g .sound; same = λ c h l. ap (λ (z : ℕ). copies c xs (b .count) + z) (f c h l) ∙ g .same c h l; stuck = g .stuck }
 
 pub gathered-at : {ks : List ℕ} {low i j : ℕ} {b : Batch} {xs : List ℕ} → Gathered ks low b xs i → i ≡ j → Gathered ks low b xs j
 gathered-at {ks} {low} {i} {j} {b} {xs} g e = rw (← e) g
@@ -191,11 +191,11 @@ module _ {low m : ℕ} {b : Batch} {xs ys : List ℕ} (t : Sound low b xs) (four
         sound = record { long = o .moved .long ∙ t .long; room = omega arith; listed = l; first = t .first; last = omega arith; within = record { at = λ i a h. (inner i (omega arith) .0, earlier i h) } };
         half = f;
         less = omega arith;
-        same = λ c h. sym (held-past c ys m n (omega arith) (λ i a g. later c h i a g (ltb i (n / 2)) refl)) ∙ o .moved .same c n (omega arith);
+        same = λ c h. sym (copies-past c ys m n (omega arith) (λ i a g. later c h i a g (ltb i (n / 2)) refl)) ∙ o .moved .same c n (omega arith);
         stuck = λ h.
-            let two = held-two low ys (n / 2 + 1) (λ i g. let u = inner i (omega arith) .0 in let w = o .rising .order i (n / 2) (omega arith) (omega arith) (omega arith) in (u, omega arith)) in
-            let p = held-le (2 * low) ys (n / 2 + 1) n (omega arith) in
-            let q = held-le (2 * low + 1) ys (n / 2 + 1) n (omega arith) in
+            let two = copies-two low ys (n / 2 + 1) (λ i g. let u = inner i (omega arith) .0 in let w = o .rising .order i (n / 2) (omega arith) (omega arith) (omega arith) in (u, omega arith)) in
+            let p = copies-le (2 * low) ys (n / 2 + 1) n (omega arith) in
+            let q = copies-le (2 * low + 1) ys (n / 2 + 1) n (omega arith) in
             let r = o .moved .same (2 * low) n (omega arith) in
             let s = o .moved .same (2 * low + 1) n (omega arith) in
             omega arith;
@@ -219,22 +219,22 @@ gathered-halved {ks} {low} g p h =
 -- ---- words in pairs
 -- of words in order, the first i are whole pairs
 pub record Pairs (xs : List ℕ) (i : ℕ) : Type 0 where
-  pub both : (k : ℕ) → held (2 * k) xs i ≡ held (2 * k + 1) xs i
-  pub single : (k : ℕ) → held (2 * k) xs i ≤ 1
+  pub both : (k : ℕ) → copies (2 * k) xs i ≡ copies (2 * k + 1) xs i
+  pub single : (k : ℕ) → copies (2 * k) xs i ≤ 1
   pub last : (j : ℕ) → j + 1 ≡ i → getD xs j 0 % 2 ≡ 1
 
 pub pairs-none : (xs : List ℕ) → Pairs xs 0
-unfolding held
+unfolding copies
 pairs-none xs = record { both = λ k. refl; single = λ k. omega arith; last = λ j h. absurd (omega arith) }
 
-two-more : (c i : ℕ) (xs : List ℕ) → held c xs (i + 2) ≡ is (getD xs (i + 1) 0) c + (is (getD xs i 0) c + held c xs i)
-unfolding held
+two-more : (c i : ℕ) (xs : List ℕ) → copies c xs (i + 2) ≡ is (getD xs (i + 1) 0) c + (is (getD xs i 0) c + copies c xs i)
+unfolding copies
 two-more c i xs = rw (← two i, add-one i) refl
 
 module _ {xs : List ℕ} {n i : ℕ} (r : Rising xs 0 n) (p : Pairs xs i) where
   -- an even word is greater than all before it
-  fresh : i < n → getD xs i 0 % 2 ≡ 0 → held (getD xs i 0) xs i ≡ 0
-  fresh h v = held-none (getD xs i 0) xs i (λ j b e.
+  fresh : i < n → getD xs i 0 % 2 ≡ 0 → copies (getD xs i 0) xs i ≡ 0
+  fresh h v = copies-none (getD xs i 0) xs i (λ j b e.
       let a = r .order j (i - 1) (omega arith) (omega arith) (omega arith) in
       let d = r .order (i - 1) i (omega arith) (omega arith) h in
       let l = p .last (i - 1) (omega arith) in
@@ -248,7 +248,7 @@ module _ {xs : List ℕ} {n i : ℕ} (r : Rising xs 0 n) (p : Pairs xs i) where
         last = λ j g. let w : j ≡ i + 1 = omega arith in rw w (omega arith);
       }
     where
-      at : (k : ℕ) (t : Bool) → eqb (getD xs i 0) (2 * k) ≡ t → (held (2 * k) xs (i + 2) ≡ held (2 * k + 1) xs (i + 2)) × (held (2 * k) xs (i + 2) ≤ 1)
+      at : (k : ℕ) (t : Bool) → eqb (getD xs i 0) (2 * k) ≡ t → (copies (2 * k) xs (i + 2) ≡ copies (2 * k + 1) xs (i + 2)) × (copies (2 * k) xs (i + 2) ≤ 1)
       at k true w =
           let d = eqb-true (getD xs i 0) (2 * k) w in
           let a = is-yes (getD xs i 0) (2 * k) d in
@@ -258,7 +258,7 @@ module _ {xs : List ℕ} {n i : ℕ} (r : Rising xs 0 n) (p : Pairs xs i) where
           let m = two-more (2 * k) i xs in
           let l = two-more (2 * k + 1) i xs in
           let o = p .both k in
-          let q : held (2 * k) xs i ≡ 0 = rw (← d) (fresh (omega arith) v) in
+          let q : copies (2 * k) xs i ≡ 0 = rw (← d) (fresh (omega arith) v) in
           (omega arith, omega arith)
       at k false w =
           let d = eqb-false (getD xs i 0) (2 * k) w in
@@ -276,22 +276,22 @@ module _ {xs : List ℕ} {n i : ℕ} (r : Rising xs 0 n) (p : Pairs xs i) where
   pub unpaired-late : i < n → getD xs i 0 % 2 ≡ 1 → Unpaired xs n (getD xs i 0)
   unpaired-late h v a b =
       let k = getD xs i 0 / 2 in
-      let w = held-past (2 * k) xs i n (omega arith) (λ j c d e. let u = r .order i j (omega arith) c d in omega arith) in
+      let w = copies-past (2 * k) xs i n (omega arith) (λ j c d e. let u = r .order i j (omega arith) c d in omega arith) in
       let o = p .both k in
-      let m = held-next (2 * k + 1) xs i in
+      let m = copies-next (2 * k + 1) xs i in
       let y = is-yes (getD xs i 0) (2 * k + 1) (omega arith) in
-      let l = held-le (2 * k + 1) xs (i + 1) n (omega arith) in
+      let l = copies-le (2 * k + 1) xs (i + 1) n (omega arith) in
       omega arith
 
   -- a word whose partner does not come after it
   unpaired-lone : i < n → getD xs i 0 % 2 ≡ 0 → ((j : ℕ) → i < j → j < n → getD xs j 0 ≡ getD xs i 0 + 1 → ⊥) → Unpaired xs n (getD xs i 0)
   unpaired-lone h v f a b =
       let k = getD xs i 0 / 2 in
-      let w = held-past (2 * k + 1) xs i n (omega arith) (λ j c d e. other k refl j c d e (ltb i j) refl) in
+      let w = copies-past (2 * k + 1) xs i n (omega arith) (λ j c d e. other k refl j c d e (ltb i j) refl) in
       let o = p .both k in
-      let m = held-next (2 * k) xs i in
+      let m = copies-next (2 * k) xs i in
       let y = is-yes (getD xs i 0) (2 * k) (omega arith) in
-      let l = held-le (2 * k) xs (i + 1) n (omega arith) in
+      let l = copies-le (2 * k) xs (i + 1) n (omega arith) in
       omega arith
     where
       other : (k : ℕ) → k ≡ getD xs i 0 / 2 → (j : ℕ) → i ≤ j → j < n → getD xs j 0 ≡ 2 * k + 1 → (t : Bool) → ltb i j ≡ t → ⊥
@@ -308,7 +308,7 @@ module _ {xs : List ℕ} {n i : ℕ} (r : Rising xs 0 n) (p : Pairs xs i) where
           let m = two-more (2 * k) i xs in
           let y = is-yes (getD xs i 0) (2 * k) (omega arith) in
           let z = is-yes (getD xs (i + 1) 0) (2 * k) (omega arith) in
-          let l = held-le (2 * k) xs (i + 2) n (omega arith) in
+          let l = copies-le (2 * k) xs (i + 2) n (omega arith) in
           omega arith
       go false e = unpaired-lone (omega arith) v (λ j c g w.
           let d = eqb-false (getD xs (i + 1) 0) (getD xs i 0) e in
@@ -515,7 +515,7 @@ matched-none = record { both = λ k h. absurd (omega arith); single = λ k h. ab
 
 -- a range whose words are all there, put in order
 module _ {ks : List ℕ} {low : ℕ} {batch : Batch} {xs ys : List ℕ} (g : Gathered ks low batch xs (length ks)) (s : Ordered 0 (batch .count) xs ys) where
-  full : (c : ℕ) → 2 * low ≤ c → c < 2 * batch .end → held c ys (batch .count) ≡ tally c ks
+  full : (c : ℕ) → 2 * low ≤ c → c < 2 * batch .end → copies c ys (batch .count) ≡ tally c ks
   full c a b =
       let e = s .moved .same c (batch .count) (omega arith) in
       let f = g .same c a b in
@@ -548,10 +548,10 @@ module _ {ks : List ℕ} {low : ℕ} {batch : Batch} {xs ys : List ℕ} (g : Gat
       let a = full (2 * k) (omega arith) (omega arith) in
       let b = full (2 * k + 1) (omega arith) (omega arith) in
       let i = is-pair k (getD ys r 0) (omega arith) (omega arith) in
-      let p = held-le (2 * k) ys (r + 1) (batch .count) (omega arith) in
-      let q = held-le (2 * k + 1) ys (r + 1) (batch .count) (omega arith) in
-      let u = held-next (2 * k) ys r in
-      let v = held-next (2 * k + 1) ys r in
+      let p = copies-le (2 * k) ys (r + 1) (batch .count) (omega arith) in
+      let q = copies-le (2 * k + 1) ys (r + 1) (batch .count) (omega arith) in
+      let u = copies-next (2 * k) ys r in
+      let v = copies-next (2 * k + 1) ys r in
       record { k = k; some = omega arith; odd = λ x y. o (a ∙ x) (b ∙ y) }
 
 pub unmatched-stuck : {ks : List ℕ} {low i : ℕ} {b : Batch} {xs : List ℕ} → Gathered ks low b xs i → b .end ≤ low → Unmatched ks

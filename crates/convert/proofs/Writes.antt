@@ -19,7 +19,7 @@ use Rattle.kernel.specs.KernelLaws.{kernel-set-length}
 use Rattle.text.specs.Text.{left, rest, got}
 use Rattle.text.specs.TextLaws.{rest-all}
 use Rattle.convert.specs.Loaders.{loaded, allAlike}
-use Rattle.convert.specs.Lines.{fileLine, filed, linesIn, whole}
+use Rattle.convert.specs.Lines.{fileLine, filed, linesIn, allLines}
 use Rattle.convert.specs.Convert.{laidFrom, strictCheck, conversion}
 use Rattle.convert.specs.declared.file.FileKernel.{FileKernel}
 use Rattle.convert.specs.declared.file.Loader.{Loader}
@@ -62,7 +62,7 @@ module _ (s : List ℕ) (n : ℕ) (load : FileKernel → Kernel) (xs : List Floa
 
 -- ---- what `convert` answers, with the scan and the strict check as they came out
 module _ (s : List ℕ) (d : Float) (loader : Loader) (xs : List Float) {n : ℕ} {same good : Bool}
-    (lines : n ≡ length (filed s)) (agree : same ≡ allAlike d (filed s)) (text : good ≡ whole s) where
+    (lines : n ≡ length (filed s)) (agree : same ≡ allAlike d (filed s)) (text : good ≡ allLines s) where
   pub bad-line : not good ≡ true → outcome (refused BadKernelLine) xs ≡ conversion s d loader xs
   unfolding conversion
   bad-line h = rw (← text, not-true good h) refl

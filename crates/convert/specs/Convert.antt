@@ -11,7 +11,7 @@ use Rattle.base.specs.declared.refusal.Checked.the-variants.{Passed, Failed}
 use Rattle.kernel.specs.declared.kernel.Kernel.{Kernel}
 use Rattle.kernel.specs.Kernels.{kernelSet}
 use Rattle.convert.specs.Loaders.{loaded, allAlike}
-use Rattle.convert.specs.Lines.{filed, whole}
+use Rattle.convert.specs.Lines.{filed, allLines}
 use Rattle.convert.specs.declared.file.Loader.{Loader}
 use Rattle.convert.specs.declared.file.Loader.the-variants.{Native, Source, Strict}
 
@@ -33,7 +33,7 @@ laidFrom (k ∷ ks) i xs = laidFrom ks (suc i) (kernelSet xs i k)
 -- 20, 9, 21, of the lines s and a run of so much room
 abbrev pub conversionCheck : List ℕ → Float → Loader → ℕ → Checked
 conversionCheck s default loader room =
-    andThen (lineCheck (whole s))
+    andThen (lineCheck (allLines s))
     (andThen (roomCheck (6 * length (filed s)) room) (strictCheck loader (allAlike default (filed s))))
 
 -- "writes six floats per line, in order, and answers the kernel count"

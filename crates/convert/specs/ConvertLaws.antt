@@ -21,7 +21,7 @@ use Rattle.kernel.specs.File.{exponentOr, fromFile}
 use Rattle.text.specs.Text.{Text, lost, left, bytes, literal, float, pattern}
 use Rattle.text.specs.Form.{read, map as mapped, orAt}
 use Rattle.convert.specs.Loaders.{nativeOf, sourceOf, givenOr, loaded, sameFloat, sameKernel, alike, allAlike}
-use Rattle.convert.specs.Lines.{givenForm, missingForm, toExponent, fileLine, fileLines, filed, whole}
+use Rattle.convert.specs.Lines.{givenForm, missingForm, toExponent, fileLine, fileLines, filed, allLines}
 use Rattle.convert.specs.Convert.{laidFrom, conversionCheck, conversion}
 use Rattle.convert.specs.declared.file.FileKernel.{FileKernel}
 use Rattle.convert.specs.declared.file.Loader.the-variants.{Native, Source, Strict}
@@ -183,7 +183,7 @@ module _ (s : List ℕ) (d : Float) (xs : List Float) where
 
     refused-21 : (Equal s d → ⊥) → conversionCheck s d Native (length xs) ≡ Passed → conversion s d Strict xs ≡ outcome (refused LoadersDiffer) xs
     unfolding conversion
-    refused-21 n p = rw (not-alike n) (go (whole s) (leb (6 * length (filed s)) (length xs)) (outcome (counted (length (filed s) ∷ [])) (laidFrom (map (loaded Strict d) (filed s)) 0 xs)) p)
+    refused-21 n p = rw (not-alike n) (go (allLines s) (leb (6 * length (filed s)) (length xs)) (outcome (counted (length (filed s) ∷ [])) (laidFrom (map (loaded Strict d) (filed s)) 0 xs)) p)
       where
         go : (a b : Bool) (o : Outcome) → andThen (cond a Passed (Failed BadKernelLine)) (andThen (cond b Passed (Failed ShortList)) Passed) ≡ Passed
             → guardedRun (andThen (cond a Passed (Failed BadKernelLine)) (andThen (cond b Passed (Failed ShortList)) (Failed LoadersDiffer))) xs o ≡ outcome (refused LoadersDiffer) xs
@@ -193,7 +193,7 @@ module _ (s : List ℕ) (d : Float) (xs : List Float) where
 
     equal-only : conversion s d Strict xs .reply .refusal ≡ 0 → Equal s d
     unfolding conversion
-    equal-only h = all-equal d (filed s) g (all-formed (length s) (left s)) (go (whole s) (leb (6 * length (filed s)) (length xs)) (allAlike d (filed s)) (length (filed s)) (laidFrom (map (loaded Strict d) (filed s)) 0 xs) h)
+    equal-only h = all-equal d (filed s) g (all-formed (length s) (left s)) (go (allLines s) (leb (6 * length (filed s)) (length xs)) (allAlike d (filed s)) (length (filed s)) (laidFrom (map (loaded Strict d) (filed s)) 0 xs) h)
       where
         go : (a b c : Bool) (n : ℕ) (ys : List Float) → guardedRun (andThen (cond a Passed (Failed BadKernelLine)) (andThen (cond b Passed (Failed ShortList)) (cond c Passed (Failed LoadersDiffer)))) xs (outcome (counted (n ∷ [])) ys) .reply .refusal ≡ 0 → c ≡ true
         go true true true n ys h = refl

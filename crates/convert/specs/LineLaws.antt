@@ -13,7 +13,7 @@ use Rattle.text.specs.Text.{Text, lost, left}
 use Rattle.text.specs.Form.{Form, end, real, either, Vals, read, print, Spells, Fit, map, say, three, _&_}
 use Rattle.text.specs.FormLaws.{printed, reads, spells}
 use Rattle.text.specs.LengthLaws.{at-least}
-use Rattle.convert.specs.Lines.{givenForm, missingForm, toExponent, kernelForm, toFile, fileLine, fileLines, filed, ended, whole}
+use Rattle.convert.specs.Lines.{givenForm, missingForm, toExponent, kernelForm, toFile, fileLine, fileLines, filed, ended, allLines}
 use Rattle.convert.specs.declared.file.FileKernel.{FileKernel}
 
 -- ---- a line's values, and back
@@ -114,5 +114,5 @@ lines-spell zero (b ∷ l) e = absurd (false≢true e)
 lines-spell (suc most) [] e = refl
 lines-spell (suc most) (b ∷ l) e = one-spells most (b ∷ l) (read kernelForm (left (b ∷ l)) .text) refl e (lines-spell most)
 
-pub file-spells : (s : List ℕ) → whole s ≡ true → SpellsAll (filed s) s
+pub file-spells : (s : List ℕ) → allLines s ≡ true → SpellsAll (filed s) s
 file-spells s e = lines-spell (length s) s e

@@ -75,5 +75,5 @@ ended (left []) = true
 ended (left (b ∷ l)) = false
 
 -- all bytes are lines
-abbrev pub whole : List ℕ → Bool
-whole s = ended (fileLines (length s) (left s) .text)
+abbrev pub allLines : List ℕ → Bool
+allLines s = ended (fileLines (length s) (left s) .text)

@@ -14,7 +14,7 @@ use Rattle.base.specs.declared.refusal.Refusal.the-variants.{BadKernelLine, Sho
 use Rattle.kernel.specs.declared.file.Exponent.the-variants.{Given}
 use Rattle.kernel.specs.File.{exponentOr}
 use Rattle.convert.specs.Loaders.{nativeOf, sourceOf, givenOr, loaded, alike}
-use Rattle.convert.specs.Lines.{fileLines, filed, whole}
+use Rattle.convert.specs.Lines.{fileLines, filed, allLines}
 use Rattle.convert.specs.Convert.{laidFrom, conversion}
 use Rattle.convert.specs.ConvertLaws.{alike-by-exponent}
 use Rattle.convert.specs.declared.file.FileKernel.{FileKernel}
@@ -25,13 +25,13 @@ use Rattle.convert.specs.declared.file.Loader.the-variants.{Native, Sour
 
 pub record Refusals (s : List ℕ) (d : Float) (xs : List Float) : Type 0 where
   -- "20 when a line isn't of this form, ahead of 9"
-  pub twenty : (loader : Loader) → whole s ≡ false → conversion s d loader xs ≡ outcome (refused BadKernelLine) xs
+  pub twenty : (loader : Loader) → allLines s ≡ false → conversion s d loader xs ≡ outcome (refused BadKernelLine) xs
   -- 9, of six floats a line
-  pub nine : (loader : Loader) → whole s ≡ true → length xs < 6 * length (filed s) → conversion s d loader xs ≡ outcome (refused ShortList) xs
+  pub nine : (loader : Loader) → allLines s ≡ true → length xs < 6 * length (filed s) → conversion s d loader xs ≡ outcome (refused ShortList) xs
   -- no other of a named loader
-  pub by-native : whole s ≡ true → 6 * length (filed s) ≤ length xs
+  pub by-native : allLines s ≡ true → 6 * length (filed s) ≤ length xs
       → conversion s d Native xs ≡ outcome (counted (length (filed s) ∷ [])) (laidFrom (map (nativeOf d) (filed s)) 0 xs)
-  pub by-source : whole s ≡ true → 6 * length (filed s) ≤ length xs
+  pub by-source : allLines s ≡ true → 6 * length (filed s) ≤ length xs
       → conversion s d Source xs ≡ outcome (counted (length (filed s) ∷ [])) (laidFrom (map (sourceOf d) (filed s)) 0 xs)
 
 pub refusals : (s : List ℕ) (d : Float) (xs : List Float) → Refusals s d xs

@@ -5,7 +5,7 @@ ghost use Rattle.text.specs.Text.{rest, got};
 ghost use Rattle.text.specs.Form.{map, or};
 ghost use Rattle.text.specs.Form.{read as form};
 ghost use Rattle.convert.specs.Loaders.{allAlike};
-ghost use Rattle.convert.specs.Lines.{givenForm, missingForm, exponentForm, toGiven, toMissing, toExponent, fileLine, filed, whole};
+ghost use Rattle.convert.specs.Lines.{givenForm, missingForm, exponentForm, toGiven, toMissing, toExponent, fileLine, filed, allLines};
 use crate::file::FileKernel;
 use crate::file::is_alike;
 use kernel::file::Exponent;
@@ -96,7 +96,7 @@ pub fn read_kernel(s: &[u8], at: usize) -> ReadKernel
 pub fn scan_lines(s: &[u8], default: f64) -> Scan
     ensures { λ r. ⌜ r .lines ≡ length (filed (now (s .entry))) ⌝ }
     ensures { λ r. ⌜ r .same ≡ allAlike default (filed (now (s .entry))) ⌝ }
-    ensures { λ r. ⌜ r .whole ≡ whole (now (s .entry)) ⌝ }
+    ensures { λ r. ⌜ r .whole ≡ allLines (now (s .entry)) ⌝ }
 {
     let mut lines: usize = 0;
     let mut same = true;

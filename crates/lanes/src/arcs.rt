@@ -1,6 +1,7 @@
 // The radial factors of 28 radii of at least 0.1, by the arc tangent. The steps take runs of 28
 // floats, as each `requires` says. Where no radius is above 1 the halvings start from the radii as they
 // are, and no arc is turned: that path saves a division and two choices a point.
+// Internal: a function with a `requires` is called by proved code alone.
 ghost use mathlib.Core.Path.{_≡_};
 ghost use lib.ListN.{length};
 ghost use Rattle.powers.specs.Arc.{halved};

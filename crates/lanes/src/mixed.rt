@@ -1,6 +1,7 @@
 // The radial factors of a block whose radii lie on both sides of 0.1: those by the series are there, the
 // others are made by the arc tangent of all radii, the small ones raised. The steps take runs of 28 floats,
 // as each `requires` says.
+// Internal: a function with a `requires` is called by proved code alone.
 ghost use mathlib.Core.Path.{_≡_};
 ghost use mathlib.Core.Bool.{cond};
 ghost use lib.ListN.{length};

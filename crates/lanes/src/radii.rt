@@ -1,5 +1,6 @@
 // The radii of 28 points, from the squares of their distances: sigma times the root. The steps take
 // runs of 28 floats, as each `requires` says.
+// Internal: a function with a `requires` is called by proved code alone.
 ghost use mathlib.Core.Path.{_≡_};
 ghost use lib.ListN.{length};
 ghost use Rattle.lanes.specs.Stages.{Large, Low, Radii};
@@ -26,9 +27,10 @@ fn guess(x: &[f64], f: &mut [f64], y: &mut [f64])
     }
 }
 
-// Better guesses; `less` is as `sharpen` takes it.
+// Better guesses, of which nothing is promised but that there are 28; `less` is as `sharpen` takes it.
 pub fn sharpen_all(f: &[f64], y: &mut [f64], less: f64)
     requires { ⌜ (length (now f) ≡ 28) × (length (now y) ≡ 28) ⌝ }
+    ensures { λ _. ⌜ length (now (y .exit)) ≡ 28 ⌝ }
 {
     for i in 0..28usize {
         y[i] = sharpen(f[i], y[i], less);

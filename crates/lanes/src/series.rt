@@ -1,5 +1,6 @@
 // The radial factors of 28 radii, by the series. `all_series` takes runs of 28 floats, as its `requires`
 // says.
+// Internal: a function with a `requires` is called by proved code alone.
 ghost use mathlib.Core.Path.{_≡_};
 ghost use lib.ListN.{length};
 ghost use Rattle.lanes.specs.Stages.{Small, AllSmall, SmallFactors};

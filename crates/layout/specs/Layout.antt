@@ -24,8 +24,8 @@ radiusOf fs = getD fs 0 nan
 abbrev pub kernelFrom : ℕ → ℕ
 kernelFrom i = 1 + 7 * i
 
-abbrev pub centreOf : List Float → ℕ → List Float
-centreOf fs i = getD fs (1 + 7 * i) nan ∷ getD fs (2 + 7 * i) nan ∷ getD fs (3 + 7 * i) nan ∷ []
+abbrev pub centreFloats : List Float → ℕ → List Float
+centreFloats fs i = getD fs (1 + 7 * i) nan ∷ getD fs (2 + 7 * i) nan ∷ getD fs (3 + 7 * i) nan ∷ []
 
 -- the same as a point
 abbrev pub centreAt : List Float → ℕ → V3
@@ -49,6 +49,15 @@ piecesFrom i = 225 + 48 * i
 
 abbrev pub pieceFrom : ℕ → ℕ → ℕ
 pieceFrom i j = 225 + 48 * i + 3 * j
+
+abbrev pub sigmaOf : List Float → ℕ → ℕ → Float
+sigmaOf fs i j = getD fs (pieceFrom i j) nan
+
+abbrev pub coefficientOf : List Float → ℕ → ℕ → Float
+coefficientOf fs i j = getD fs (pieceFrom i j + 1) nan
+
+abbrev pub volumeOf : List Float → ℕ → ℕ → Float
+volumeOf fs i j = getD fs (pieceFrom i j + 2) nan
 
 -- "from 1,761 coordinates"
 abbrev pub coordsFrom : ℕ

@@ -5,6 +5,8 @@ ghost use Prim.Native.Nat.{_-_, _*_, _≤_, _<_};
 ghost use Rattle.layout.specs.Layout.{width, placeLimit};
 ghost use Rattle.layout.specs.SoundLaws.{Worded};
 ghost use Rattle.layout.specs.Left.{leftAt, leftOf};
+use crate::offsets::DONE;
+use crate::offsets::FINISHED;
 use crate::offsets::PLACES;
 use crate::offsets::STATE;
 use crate::offsets::WIDTH;
@@ -28,8 +30,8 @@ fn left_at(words: &[u32], i: usize, faces: usize) -> usize
 {
     let at = WIDTH * i;
     let count = pieces(words[STATE + at]);
-    let finished = word(words, STATE + 1 + at);
-    let done = word(words, STATE + 2 + at);
+    let finished = word(words, FINISHED + at);
+    let done = word(words, DONE + at);
     if finished < count {
         (count - finished) * faces - done
     } else {

@@ -16,7 +16,7 @@ use Rattle.kernel.specs.Field.{centreOf}
 use Rattle.kernel.specs.declared.kernel.Kernel.{Kernel}
 use Rattle.pieces.specs.declared.pieces.Pieces.{Pieces}
 use Rattle.layout.specs.Layout.{centreAt}
-use Rattle.advance.specs.Steps.{work, Whole, whole, placeWork, stored, placesRun}
+use Rattle.advance.specs.Steps.{work, Standing, standing, placeWork, stored, placesRun}
 use Rattle.layout.specs.Left.{leftOf}
 use Rattle.advance.proofs.Steps.{idle}
 use Rattle.machine.specs.Machine.{Mesh, Provenance, Place, empty, full, need, leftPlace, leftSum, adv, bump}
@@ -42,11 +42,11 @@ module _ (wd : ℕ) (fm : Width wd) where
         let b : 3 + 7 * i ≡ 1 + (7 * i + 2) = omega arith in
         rw (a, b, z, get7 wd fm m ss hs xs i h 0 (omega arith), get7 wd fm m ss hs xs i h 1 (omega arith), get7 wd fm m ss hs xs i h 2 (omega arith), e) refl
 
-    abbrev spent : ℕ → Whole
-    spent n = stored wd (wordsOf wd m ss ys) i (placeWork wd (triangles m) (m .faces) i (whole (laidOut m ss xs) (wordsOf wd m ss ys) n))
+    abbrev spent : ℕ → Standing
+    spent n = stored wd (wordsOf wd m ss ys) i (placeWork wd (triangles m) (m .faces) i (standing (laidOut m ss xs) (wordsOf wd m ss ys) n))
 
-    abbrev moved : ℕ → Place → Whole
-    moved n s = whole (laidOut m (set ss i (adv (min n (leftPlace m s)) s)) xs) (wordsOf wd m (set ss i (adv (min n (leftPlace m s)) s)) ys) (n - leftPlace m s)
+    abbrev moved : ℕ → Place → Standing
+    moved n s = standing (laidOut m (set ss i (adv (min n (leftPlace m s)) s)) xs) (wordsOf wd m (set ss i (adv (min n (leftPlace m s)) s)) ys) (n - leftPlace m s)
 
     place : (n : ℕ) (s : Place) → getD ss i empty ≡ s → Within m s → spent n ≡ moved n s
     unfolding placeWork
@@ -102,8 +102,8 @@ module _ (wd : ℕ) (fm : Width wd) where
       abbrev prefix : ℕ → List Place
       prefix k = spread m n (take k ss) ++ drop k ss
 
-      abbrev swept : ℕ → Whole
-      swept k = whole (laidOut m (prefix k) xs) (wordsOf wd m (prefix k) ys) (n - leftSum m (take k ss))
+      abbrev swept : ℕ → Standing
+      swept k = standing (laidOut m (prefix k) xs) (wordsOf wd m (prefix k) ys) (n - leftSum m (take k ss))
 
       prefix-split : (k : ℕ) → k < 32 → prefix k ≡ spread m n (take k ss) ++ (getD ss k empty ∷ drop (suc k) ss)
       prefix-split k h = ap (λ (t : List Place). spread m n (take k ss) ++ t) (drop-cons ss k empty (rw (v .places) h))
@@ -123,7 +123,7 @@ module _ (wd : ℕ) (fm : Width wd) where
           let a = adv (min (n - leftSum m (take k ss)) (leftPlace m s)) s in
           rw (prefix-split k h, set-at (spread m n (take k ss)) s (drop (suc k) ss) a k (head-length k (omega arith)), take-suc ss k empty (rw (v .places) h), spread-snoc n (take k ss) s, append-assoc) refl
 
-      pub run-held : (k : ℕ) → k ≤ 32 → placesRun wd (triangles m) (m .faces) k (whole (laidOut m ss xs) (wordsOf wd m ss ys) n) ≡ swept k
+      pub run-held : (k : ℕ) → k ≤ 32 → placesRun wd (triangles m) (m .faces) k (standing (laidOut m ss xs) (wordsOf wd m ss ys) n) ≡ swept k
       unfolding placesRun
       run-held zero h = let e : n - 0 ≡ n = omega arith in rw e refl
       run-held (suc k) h =
@@ -133,7 +133,7 @@ module _ (wd : ℕ) (fm : Width wd) where
           rw (run-held k (omega arith))
           (place-held m (prefix k) (prefix-length k h) xs ys k h (n - leftSum m (take k ss)) (rw g (v .within k)) ∙ rw (g, prefix-next k h, q) refl)
 
-      pub all-held : placesRun wd (triangles m) (m .faces) 32 (whole (laidOut m ss xs) (wordsOf wd m ss ys) n) ≡ whole (laidOut m (spread m n ss) xs) (wordsOf wd m (spread m n ss) ys) (n - leftSum m ss)
+      pub all-held : placesRun wd (triangles m) (m .faces) 32 (standing (laidOut m ss xs) (wordsOf wd m ss ys) n) ≡ standing (laidOut m (spread m n ss) xs) (wordsOf wd m (spread m n ss) ys) (n - leftSum m ss)
       all-held =
           let t : take 32 ss ≡ ss = take-all 32 ss (rw (v .places) (omega arith)) in
           let d : drop 32 ss ≡ [] = drop-of-length-le ss {i = 32} (rw (v .places) (omega arith)) in

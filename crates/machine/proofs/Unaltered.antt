@@ -13,7 +13,7 @@ use Rattle.base.specs.Answers.{refused}
 use Rattle.base.specs.declared.refusal.Refusal.the-variants.{NoPlace, NoLayer}
 use Rattle.mesh.specs.Triangles.{triangleAt}
 use Rattle.mesh.specs.CheckLaws.{below-each}
-use Rattle.volume.specs.Volume.{origin}
+use Rattle.volume.specs.Volume.{originPoint}
 use Rattle.kernel.specs.Field.{centreOf}
 use Rattle.kernel.specs.declared.kernel.Kernel.{Kernel}
 use Rattle.pieces.specs.declared.pieces.Pieces.{Pieces}
@@ -79,7 +79,7 @@ module _ (m : Mesh) (xs : List Float) (ks : List ℕ) (w : ℕ) where
 
     seen-same : (ss : List Place) → freshSeen n ss ≡ freshSeen m ss
     unfolding freshSeen
-    seen-same ss = same-seen (all-same ss) (volume-same m xs ks w same origin +0 (m .faces) (omega arith)) refl refl
+    seen-same ss = same-seen (all-same ss) (volume-same m xs ks w same originPoint +0 (m .faces) (omega arith)) refl refl
 
     pub afresh-same : Shape n → Shape m → (ss : List Place) (r : Reading) → workedAfresh n ss r ≡ workedAfresh m ss r
     afresh-same g h ss r = sym (joined n g ss r) ∙ (ap (answerOf r) (seen-same ss) ∙ joined m h ss r)

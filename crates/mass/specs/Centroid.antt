@@ -12,7 +12,7 @@ use Rattle.mesh.specs.Vectors.{dot}
 use Rattle.mesh.specs.Triangles.{normalOf}
 use Rattle.mesh.specs.declared.dunavant.Node.{Node}
 use Rattle.mesh.specs.Dunavant.{node, pointOf}
-use Rattle.volume.specs.Volume.{origin, bodyVolume}
+use Rattle.volume.specs.Volume.{originPoint, bodyVolume}
 
 -- what a point y adds to the three sums: ((w·0.25)·(y·y))·n_k
 unfoldable pub moment : Triangle → V3 → Node → V3 → V3
@@ -33,11 +33,11 @@ faceMomentStep t f acc = faceMoment (t f) acc
 
 -- the running sums after the first k faces, from +0
 unfoldable pub momentTo : (ℕ → Triangle) → ℕ → V3
-momentTo t k = times (faceMomentStep t) k 0 origin
+momentTo t k = times (faceMomentStep t) k 0 originPoint
 
 -- "zeros unless |volume| > 1e-30, so for NaN too"
 unfoldable pub centred : V3 → Float → V3
-centred a v = cond (lt volumeLimit (abs v)) (record { x = a .x ⊘ v; y = a .y ⊘ v; z = a .z ⊘ v }) origin
+centred a v = cond (lt volumeLimit (abs v)) (record { x = a .x ⊘ v; y = a .y ⊘ v; z = a .z ⊘ v }) originPoint
 
 unfoldable pub volumeCentroid : (ℕ → Triangle) → ℕ → V3
 volumeCentroid t n = centred (momentTo t n) (bodyVolume t n)

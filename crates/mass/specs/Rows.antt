@@ -8,7 +8,7 @@ use Rattle.mesh.specs.declared.vectors.V3.{V3}
 use Rattle.mesh.specs.declared.triangles.Triangle.{Triangle}
 use Rattle.radial.specs.Radial.{seriesOf, radialG}
 use Rattle.mesh.specs.Dunavant.{third}
-use Rattle.volume.specs.Volume.{origin, volumeTo, kernelVolume}
+use Rattle.volume.specs.Volume.{originPoint, volumeTo, kernelVolume}
 use Rattle.mass.specs.Centroid.{momentTo, centred, volumeCentroid}
 
 -- "g(0) = 1/3"
@@ -22,6 +22,6 @@ unfolding volumeTo times
 no-faces-volume t c sigma = refl
 
 -- "no faces: .. centroid 0 0 0"
-pub no-faces-centroid : (t : ℕ → Triangle) → volumeCentroid t 0 ≡ origin
+pub no-faces-centroid : (t : ℕ → Triangle) → volumeCentroid t 0 ≡ originPoint
 unfolding volumeCentroid centred momentTo volumeTo times abs lt ofBits
 no-faces-centroid t = refl

@@ -13,7 +13,7 @@ use Rattle.pieces.specs.declared.pieces.Pieces.{Pieces}
 use Rattle.pieces.specs.Pieces.{decomposed}
 use Rattle.pieces.specs.FitEnd.{fitOf}
 use Rattle.pieces.specs.PieceLaws.{at-most-16}
-use Rattle.pieces.specs.Kernels.{laid, fitted, decomposition}
+use Rattle.pieces.specs.Kernels.{laid, fittedOne, decomposition}
 
 module _ (k : Kernel) (radius : Float) (p : Pieces) (e : p ≡ decomposed k radius) where
   pub few : p .count ≤ 16
@@ -24,6 +24,6 @@ module _ (k : Kernel) (radius : Float) (p : Pieces) (e : p ≡ decomposed k radi
   refuses xs h = rw (← e, lt-leb (6 * p .count) (length xs) h) refl
 
   pub writes : (fit : Fit) → fit ≡ fitOf k radius → (xs ys : List Float) → 6 * p .count ≤ length xs → ys ≡ laid 0 k p xs
-      → outcome (fitted (p .count) (p .error) fit) ys ≡ decomposition k radius xs
+      → outcome (fittedOne (p .count) (p .error) fit) ys ≡ decomposition k radius xs
   unfolding decomposition
-  writes fit f xs ys h l = rw (← e, ← f, le-leb (6 * p .count) (length xs) h) (ap (outcome (fitted (p .count) (p .error) fit)) l)
+  writes fit f xs ys h l = rw (← e, ← f, le-leb (6 * p .count) (length xs) h) (ap (outcome (fittedOne (p .count) (p .error) fit)) l)

@@ -7,7 +7,7 @@ use lib.ListN.{getD, set, replicate}
 use lib.Ieee.{Float, nan, neg}
 use Rattle.base.specs.Floats.{_⊕_, _⊖_, _⊗_, _⊘_, whole, +0, abs, greater}
 use Rattle.base.specs.Constants.{one, two, four, ridge}
-use Rattle.base.specs.Loops.{times}
+use Rattle.base.specs.Loops.{times, table}
 use Rattle.powers.specs.Power.{power, tenTo}
 use Rattle.solve.specs.Elimination.{Matrix, cell, Ended, reduced, flat}
 use Rattle.solve.specs.Solve.{answers}
@@ -20,14 +20,11 @@ zeros = replicate 16 +0
 -- ---- the scales of the terms
 
 -- 10 to the power -1 + 2·t, t = i / (terms - 1)
-unfoldable pub scaleOf : ℕ → ℕ → Float
-scaleOf terms i = tenTo (neg one ⊕ two ⊗ (whole i ⊘ whole (terms - 1)))
-
-abbrev pub scaleAt : ℕ → ℕ → List Float → List Float
-scaleAt terms i xs = set xs i (scaleOf terms i)
+unfoldable pub termScale : ℕ → ℕ → Float
+termScale terms i = tenTo (neg one ⊕ two ⊗ (whole i ⊘ whole (terms - 1)))
 
 unfoldable pub scalesOf : ℕ → List Float → List Float
-scalesOf terms xs = times (scaleAt terms) terms 0 xs
+scalesOf terms xs = table (termScale terms) terms xs
 
 -- ---- the samples
 
@@ -45,11 +42,11 @@ targetOf alpha u = power (one ⊕ u ⊗ u) (neg alpha)
 abbrev pub termOf : Float → Float → Float
 termOf scale u = one ⊘ (one ⊕ scale ⊗ u ⊗ (scale ⊗ u))
 
-abbrev pub termAt : List Float → Float → ℕ → List Float → List Float
-termAt scales u i xs = set xs i (termOf (getD scales i nan) u)
+abbrev pub termAt : List Float → Float → ℕ → Float
+termAt scales u i = termOf (getD scales i nan) u
 
 unfoldable pub basisOf : ℕ → List Float → Float → List Float → List Float
-basisOf terms scales u xs = times (termAt scales u) terms 0 xs
+basisOf terms scales u xs = table (termAt scales u) terms xs
 
 -- row a with one sample more: basis[a]·basis[b] in each column b, then basis[a]·target on the right side
 abbrev pub crossAt : List Float → Float → ℕ → List Float → List Float
@@ -61,12 +58,12 @@ crossed terms basis wa row = times (crossAt basis wa) terms 0 row
 abbrev pub targetAt : ℕ → Float → Float → List Float → List Float
 targetAt terms wa target row = set row terms (getD row terms nan ⊕ wa ⊗ target)
 
-abbrev pub rowAt : ℕ → List Float → Float → ℕ → Matrix → Matrix
-rowAt terms basis target a m = set m a (targetAt terms (getD basis a nan) target (crossed terms basis (getD basis a nan) (getD m a [])))
+abbrev pub crossedRowAt : ℕ → List Float → Float → ℕ → Matrix → Matrix
+crossedRowAt terms basis target a m = set m a (targetAt terms (getD basis a nan) target (crossed terms basis (getD basis a nan) (getD m a [])))
 
 -- every row with one sample more
 unfoldable pub sampled : ℕ → List Float → Float → Matrix → Matrix
-sampled terms basis target m = times (rowAt terms basis target) terms 0 m
+sampled terms basis target m = times (crossedRowAt terms basis target) terms 0 m
 
 unfoldable pub sampleAt : ℕ → List Float → Curve → ℕ → Matrix → Matrix
 sampleAt terms scales curve j m =

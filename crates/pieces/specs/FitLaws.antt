@@ -15,18 +15,18 @@ use Rattle.powers.specs.Exp.{cut, exp}
 use Rattle.powers.specs.Log.{log}
 use Rattle.powers.specs.Power.{power, wholeTen, smallWhole, tenTo}
 use Rattle.solve.specs.Elimination.{flat}
-use Rattle.pieces.specs.Fit.{zeros, scaleOf, sampleOf, targetOf, coefficientsOf, approx, errorAt, peakError}
+use Rattle.pieces.specs.Fit.{zeros, termScale, sampleOf, targetOf, coefficientsOf, approx, errorAt, peakError}
 use Rattle.pieces.specs.declared.points.Curve.{Curve}
 
 -- ---- the outer scales
 
 -- 02, L2: "outer scales of exactly 0.1 and 10", by T at -1 and at 1
-pub outer-13 : (scaleOf 13 0 ≡ tenth) × (scaleOf 13 12 ≡ ten)
-unfolding scaleOf tenTo smallWhole wholeTen cut abs add mul div neg lt eq ofBits ofInt round
+pub outer-13 : (termScale 13 0 ≡ tenth) × (termScale 13 12 ≡ ten)
+unfolding termScale tenTo smallWhole wholeTen cut abs add mul div neg lt eq ofBits ofInt round
 outer-13 = (refl, refl)
 
-pub outer-16 : (scaleOf 16 0 ≡ tenth) × (scaleOf 16 15 ≡ ten)
-unfolding scaleOf tenTo smallWhole wholeTen cut abs add mul div neg lt eq ofBits ofInt round
+pub outer-16 : (termScale 16 0 ≡ tenth) × (termScale 16 15 ≡ ten)
+unfolding termScale tenTo smallWhole wholeTen cut abs add mul div neg lt eq ofBits ofInt round
 outer-16 = (refl, refl)
 
 -- ---- the fallback

@@ -27,16 +27,16 @@ unfoldable pub laid : ℕ → Kernel → Pieces → List Float → List Float
 laid n k p xs = times (layAt n k p) (p .count) 0 xs
 
 -- the count of pieces and the peak error, with how the fit ended
-abbrev pub fitted : ℕ → Float → Fit → Answer
-fitted n e fit = record { refusal = 0; counts = n ∷ kindOf fit ∷ columnOf fit ∷ []; floats = e ∷ pivotOf fit ∷ [] }
+abbrev pub fittedOne : ℕ → Float → Fit → Answer
+fittedOne n e fit = record { refusal = 0; counts = n ∷ kindOf fit ∷ columnOf fit ∷ []; floats = e ∷ pivotOf fit ∷ [] }
 
 -- row 9: "run to be written under 6 floats per piece"; 02, L4: "Decomposition passes this on"
 unfoldable pub decomposition : Kernel → Float → List Float → Outcome
 decomposition k radius xs =
     guardedRun (roomCheck (6 * decomposed k radius .count) (length xs)) xs
-    (outcome (fitted (decomposed k radius .count) (decomposed k radius .error) (fitOf k radius)) (laid 0 k (decomposed k radius) xs))
+    (outcome (fittedOne (decomposed k radius .count) (decomposed k radius .error) (fitOf k radius)) (laid 0 k (decomposed k radius) xs))
 
 -- 01's number and values for each case of the code's answer
 abbrev pub decomposedAs : Decomposed → Answer
-decomposedAs (Written n e fit) = fitted n e fit
+decomposedAs (Written n e fit) = fittedOne n e fit
 decomposedAs (Refused r) = refused r

@@ -10,7 +10,7 @@ use lib.Seq.{getD-set-other}
 use lib.Ieee.{Float, nan, ofBits, lt, le, sub}
 use Rattle.base.specs.Floats.{_⊗_, +0, abs, greater}
 use Rattle.base.specs.Constants.{one, keepLimit}
-use Rattle.base.specs.Loops.{times}
+use Rattle.base.specs.Loops.{times, table}
 use Rattle.base.specs.ChoiceLaws.{cond-of}
 use Rattle.powers.specs.Power.{log10}
 use Rattle.solve.specs.Elimination.{eliminated}
@@ -172,5 +172,5 @@ same-pieces c c' sigma w w' alpha radius = refl
 
 -- "NaN alpha gives no piece and error 1"
 pub nan-alpha : (c : List Float) (sigma w radius : Float) → decomposed (record { c = c; sigma = sigma; w = w; alpha = nan }) radius ≡ none one
-unfolding decomposed fitted kept scalesOf coefficientsOf eliminated answers times abs sub le sizeOf lt ofBits
+unfolding decomposed fitted kept scalesOf coefficientsOf eliminated answers table times abs sub le sizeOf lt ofBits
 nan-alpha c sigma w radius = ap none (error-one zeros zeros (log10 (greater one (sigma ⊗ greater one radius))))

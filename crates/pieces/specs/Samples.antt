@@ -2,18 +2,10 @@
 use Prim.Native.Nat.{ℕ, _<_}
 use mathlib.Core.Path.{_≡_}
 use mathlib.Core.List.{List}
-use lib.ListN.{getD, set}
+use lib.ListN.{getD}
 use lib.Ieee.{Float, nan}
-use Rattle.base.specs.Loops.{times}
 use Rattle.pieces.specs.Fit.{sampleOf, targetOf}
 use Rattle.pieces.specs.declared.points.Curve.{Curve}
-
--- f at 0, at 1, and so on below n, laid over xs
-abbrev pub tableAt : (ℕ → Float) → ℕ → List Float → List Float
-tableAt f j xs = set xs j (f j)
-
-unfoldable pub table : (ℕ → Float) → ℕ → List Float → List Float
-table f n xs = times (tableAt f) n 0 xs
 
 -- the curve's value at the j-th of these points
 abbrev pub valueAt : Curve → List Float → ℕ → Float

@@ -3,8 +3,9 @@
 ghost use mathlib.Core.Path.{_≡_};
 ghost use Prim.Native.Nat.{_<_, _≤_};
 ghost use Rattle.base.specs.Floats.{whole};
-ghost use Rattle.pieces.specs.Fit.{scaleOf, scalesOf, sampleOf, targetOf};
-ghost use Rattle.pieces.specs.Samples.{table, valueAt};
+ghost use Rattle.base.specs.Loops.{table};
+ghost use Rattle.pieces.specs.Fit.{termScale, scalesOf, sampleOf, targetOf};
+ghost use Rattle.pieces.specs.Samples.{valueAt};
 use powers::power::power;
 use powers::power::ten;
 
@@ -26,7 +27,7 @@ fn whole(n: usize) -> f64
 // The scale of term i: two decades around 1.
 fn scale_of(terms: usize, i: usize) -> f64
     requires { ⌜ (1 < terms) × (terms ≤ 16) × (i < terms) ⌝ }
-    ensures { λ r. ⌜ r ≡ scaleOf terms i ⌝ }
+    ensures { λ r. ⌜ r ≡ termScale terms i ⌝ }
 {
     let t = whole(i) / whole(terms - 1);
     ten(-1.0 + 2.0 * t)

@@ -4,6 +4,6 @@ use Prim.Native.Nat.{ℕ, zero, suc, _+_, _-_}
 use Rattle.layout.specs.Layout.{statusOf}
 
 -- of the places below k
-unfoldable pub pieceCount : ℕ → List ℕ → ℕ → ℕ
-pieceCount q ws zero = 0
-pieceCount q ws (suc k) = pieceCount q ws k + (statusOf q ws k - 1)
+unfoldable pub heldPieces : ℕ → List ℕ → ℕ → ℕ
+heldPieces q ws zero = 0
+heldPieces q ws (suc k) = heldPieces q ws k + (statusOf q ws k - 1)

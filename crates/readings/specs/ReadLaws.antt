@@ -6,7 +6,7 @@ use Prim.Native.Nat.{ℕ, _*_, _≤_, _<_}
 use lib.ListN.{length, length-map}
 use borrow.Author.Tests.{le-leb, lt-leb}
 use Rattle.layout.specs.Runs.{write}
-use Rattle.readings.specs.Lists.{rows}
+use Rattle.readings.specs.Lists.{rescaledSixes}
 use lib.Dec.{ltb}
 use lib.Ieee.{Float}
 use Rattle.base.specs.Answers.{andThen, refused, counted, Outcome, outcome}
@@ -76,7 +76,7 @@ module _ (q : ℕ) (fs : List Float) (ws : List ℕ) (layers : ℕ) {c : Checked
 
 -- a list's two answers
 module _ (s : Float) (ps : List Part) (out : List Float) (n : ℕ) (e : n ≡ length ps) where
-  pub listing-in : (out′ : List Float) → 6 * n ≤ length out → out′ ≡ write out 0 (rows s ps) → outcome (counted (n ∷ [])) out′ ≡ listing s (map bare ps) out
+  pub listing-in : (out′ : List Float) → 6 * n ≤ length out → out′ ≡ write out 0 (rescaledSixes s ps) → outcome (counted (n ∷ [])) out′ ≡ listing s (map bare ps) out
   listing-in out′ h r =
       let k : length (map bare ps) ≡ n = length-map ps bare ∙ sym e in
       rw (k, le-leb (6 * n) (length out) h, r) refl

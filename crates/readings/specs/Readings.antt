@@ -22,7 +22,7 @@ use Rattle.density.specs.declared.report.MassReport.{MassReport}
 use Rattle.density.specs.Densitize.{densitizeOf}
 use Rattle.density.specs.Conventions.{bulkOf, rho0Scale, appliedScale}
 use Rattle.density.specs.Reports.{reportValues, reportOf}
-use Rattle.layout.specs.Layout.{placeLimit, centreOf, weightOf, alphaOf, errorOf, pieceFrom, vertsOf, facesOf, statusOf}
+use Rattle.layout.specs.Layout.{placeLimit, centreFloats, weightOf, alphaOf, errorOf, sigmaOf, coefficientOf, volumeOf, vertsOf, facesOf, statusOf}
 use Rattle.layout.specs.Soundness.{storeCheck}
 use Rattle.layout.specs.Left.{held, leftOf}
 use Rattle.layout.specs.Layers.{layersCheck, inLayers}
@@ -161,8 +161,8 @@ readingOf r left s = cond (needsWork r && ltb 0 left) (refusing r Unfinished) (a
 abbrev pub heldPart : List Float → ℕ → ℕ → Part
 heldPart fs i j =
     record {
-      kernel = record { c = centreOf fs i; sigma = getD fs (pieceFrom i j) nan; w = weightOf fs i ⊗ getD fs (pieceFrom i j + 1) nan; alpha = pieceAlpha (alphaOf fs i) };
-      volume = getD fs (pieceFrom i j + 2) nan;
+      kernel = record { c = centreFloats fs i; sigma = sigmaOf fs i j; w = weightOf fs i ⊗ coefficientOf fs i j; alpha = pieceAlpha (alphaOf fs i) };
+      volume = volumeOf fs i j;
     }
 
 -- the first j pieces of place i, and those of the places below k

@@ -18,14 +18,14 @@ use Rattle.density.specs.Densitize.{densitizeOf}
 use Rattle.layout.specs.Runs.{write}
 use Rattle.readings.specs.Along.{along}
 use Rattle.readings.specs.Readings.{Part, bare, rescaled, densityAt, sixes, trackLimit, trackCheck, tracking}
-use Rattle.readings.specs.Lists.{rows}
+use Rattle.readings.specs.Lists.{rescaledSixes}
 use Rattle.readings.specs.SixLaws.{laid-density}
 
 -- ---- the density of pieces that are laid down is theirs
-pub rows-density : (l : List Float) (s : Float) (ps : List Part) (n : ℕ) → n ≡ length ps → (x : List Float)
-    → densitizeOf (kernelAt (write l 0 (rows s ps))) n x ≡ densityAt (map (rescaled s) (map bare ps)) x
+pub rescaled-density : (l : List Float) (s : Float) (ps : List Part) (n : ℕ) → n ≡ length ps → (x : List Float)
+    → densitizeOf (kernelAt (write l 0 (rescaledSixes s ps))) n x ≡ densityAt (map (rescaled s) (map bare ps)) x
 unfolding write
-rows-density l s ps n e x =
+rescaled-density l s ps n e x =
     let ks = map (rescaled s) (map bare ps) in
     let m : n ≡ length ks = e ∙ sym (length-map (map bare ps) (rescaled s) ∙ length-map ps bare) in
     ap (λ (j : ℕ). densitizeOf (kernelAt (write l 0 (sixes ks))) j x) m ∙ laid-density ks (drop (length (sixes ks)) l) x

@@ -9,10 +9,10 @@ ghost use Rattle.base.specs.Floats.{greater};
 ghost use Rattle.layout.specs.Layout.{width, placeLimit, coordsFrom};
 ghost use Rattle.layout.specs.SoundLaws.{Worded};
 ghost use Rattle.readings.specs.Readings.{heldFilled, heldWorst};
-ghost use Rattle.readings.specs.Counts.{pieceCount};
+ghost use Rattle.readings.specs.Counts.{heldPieces};
 use base::floats::greater_of;
 use layout::left::pieces;
-use layout::offsets::KERNEL;
+use layout::offsets::ERROR;
 use layout::offsets::KERNEL_SIZE;
 use layout::offsets::PLACES;
 use layout::offsets::STATE;
@@ -21,7 +21,7 @@ use layout::offsets::WIDTH;
 // The pieces of all places.
 pub fn count_pieces(words: &[u32], faces: usize) -> usize
     requires { ⌜ Worded width (now words) faces ⌝ }
-    ensures { λ r. ⌜ (r ≡ pieceCount width (now (words .entry)) placeLimit) × (r ≤ 512) ⌝ }
+    ensures { λ r. ⌜ (r ≡ heldPieces width (now (words .entry)) placeLimit) × (r ≤ 512) ⌝ }
 {
     let mut sum: usize = 0;
     let mut i: usize = 0;
@@ -71,11 +71,7 @@ pub fn worst_error(floats: &[f64], words: &[u32], faces: usize) -> f64
     let mut e = 0.0;
     let mut i: usize = 0;
     while i < PLACES {
-        e = worse(
-            words[STATE + WIDTH * i],
-            e,
-            floats[KERNEL + 6 + KERNEL_SIZE * i],
-        );
+        e = worse(words[STATE + WIDTH * i], e, floats[ERROR + KERNEL_SIZE * i]);
         i += 1;
     }
     e

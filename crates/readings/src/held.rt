@@ -2,25 +2,27 @@
 // Internal: a function with a `requires` is called by proved code alone.
 ghost use mathlib.Core.Path.{_≡_};
 ghost use Prim.Native.Nat.{_≤_, _<_};
-ghost use lib.ListN.{length, getD};
-ghost use lib.Ieee.{nan};
-ghost use Rattle.layout.specs.Layout.{placeLimit, pieceLimit, coordsFrom, centreOf, alphaOf, pieceFrom};
+ghost use lib.ListN.{length};
+ghost use Rattle.layout.specs.Layout.{placeLimit, pieceLimit, coordsFrom, centreFloats, alphaOf, sigmaOf};
 ghost use Rattle.pieces.specs.Pieces.{pieceAlpha};
 ghost use Rattle.readings.specs.Readings.{bare, heldPart, rescaled};
 use kernel::kernel::Kernel;
+use layout::offsets::ALPHA;
+use layout::offsets::COEFFICIENT;
 use layout::offsets::KERNEL;
 use layout::offsets::KERNEL_SIZE;
 use layout::offsets::PIECE;
 use layout::offsets::PIECES_SIZE;
+use layout::offsets::WEIGHT;
 use pieces::pieces::piece_alpha;
 
 // Piece j of place i, with the weight w.
 fn piece_of_weight(floats: &[f64], i: usize, j: usize, w: f64) -> Kernel
     requires { ⌜ (coordsFrom ≤ length (now floats)) × (i < placeLimit) × (j < pieceLimit) ⌝ }
-    ensures { λ r. ⌜ r ≡ record { c = centreOf (now (floats .entry)) i; sigma = getD (now (floats .entry)) (pieceFrom i j) nan; w = w; alpha = pieceAlpha (alphaOf (now (floats .entry)) i) } ⌝ }
+    ensures { λ r. ⌜ r ≡ record { c = centreFloats (now (floats .entry)) i; sigma = sigmaOf (now (floats .entry)) i j; w = w; alpha = pieceAlpha (alphaOf (now (floats .entry)) i) } ⌝ }
 {
     let at = KERNEL_SIZE * i;
-    let alpha = piece_alpha(floats[KERNEL + 5 + at]);
+    let alpha = piece_alpha(floats[ALPHA + at]);
     Kernel {
         c: [
             floats[KERNEL + at],
@@ -38,8 +40,8 @@ pub fn piece_at(floats: &[f64], i: usize, j: usize) -> Kernel
     requires { ⌜ (coordsFrom ≤ length (now floats)) × (i < placeLimit) × (j < pieceLimit) ⌝ }
     ensures { λ r. ⌜ r ≡ bare (heldPart (now (floats .entry)) i j) ⌝ }
 {
-    let weight = floats[KERNEL + 4 + KERNEL_SIZE * i];
-    let coefficient = floats[PIECE + PIECES_SIZE * i + 3 * j + 1];
+    let weight = floats[WEIGHT + KERNEL_SIZE * i];
+    let coefficient = floats[PIECE + PIECES_SIZE * i + 3 * j + COEFFICIENT];
     piece_of_weight(floats, i, j, weight * coefficient)
 }
 
@@ -48,7 +50,7 @@ pub fn rescaled_at(floats: &[f64], i: usize, j: usize, s: f64) -> Kernel
     requires { ⌜ (coordsFrom ≤ length (now floats)) × (i < placeLimit) × (j < pieceLimit) ⌝ }
     ensures { λ r. ⌜ r ≡ rescaled s (bare (heldPart (now (floats .entry)) i j)) ⌝ }
 {
-    let weight = floats[KERNEL + 4 + KERNEL_SIZE * i];
-    let coefficient = floats[PIECE + PIECES_SIZE * i + 3 * j + 1];
+    let weight = floats[WEIGHT + KERNEL_SIZE * i];
+    let coefficient = floats[PIECE + PIECES_SIZE * i + 3 * j + COEFFICIENT];
     piece_of_weight(floats, i, j, weight * coefficient * s)
 }

@@ -1,4 +1,5 @@
 // The report of a store.
+// Internal: a function with a `requires` is called by proved code alone.
 ghost use mathlib.Core.Path.{_≡_};
 ghost use mathlib.Core.List.{[]};
 ghost use Prim.Native.Nat.{_≤_};

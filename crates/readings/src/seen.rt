@@ -17,6 +17,8 @@ use base::refusal::Refusal;
 use layout::left::left;
 use layout::left::pieces;
 use layout::offsets::CORNERS;
+use layout::offsets::FINISHED;
+use layout::offsets::LAYER;
 use layout::offsets::PLACES;
 use layout::offsets::STATE;
 use layout::offsets::WIDTH;
@@ -49,7 +51,7 @@ fn complete(words: &[u32], i: usize) -> bool
     ensures { λ r. ⌜ r ≡ completeAt width (now (words .entry)) i ⌝ }
 {
     let row = WIDTH * i;
-    word(words, STATE + 1 + row) == pieces(words[STATE + row])
+    word(words, FINISHED + row) == pieces(words[STATE + row])
 }
 
 // Whether a reading sees place i: its layer is in the set and, where only complete places are wanted, it has no step left.
@@ -58,7 +60,7 @@ fn shows(words: &[u32], layers: u32, only: bool, i: usize) -> bool
         ∗ ⌜ (i < placeLimit) × (layerOf width (now words) i < layerLimit) ⌝ }
     ensures { λ r. ⌜ r ≡ shown width layers only (now (words .entry)) i ⌝ }
 {
-    let inside = in_set(layers, words[STATE + 3 + WIDTH * i]);
+    let inside = in_set(layers, words[LAYER + WIDTH * i]);
     if !only {
         return inside;
     }

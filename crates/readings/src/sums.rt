@@ -16,6 +16,7 @@ use layout::offsets::PIECE;
 use layout::offsets::PIECES_SIZE;
 use layout::offsets::PLACES;
 use layout::offsets::STATE;
+use layout::offsets::VOLUME;
 use layout::offsets::WIDTH;
 
 // The density at x with the first `count` pieces of place i added, by a scale.
@@ -83,7 +84,7 @@ pub fn place_mass(floats: &[f64], i: usize, count: usize, start: f64) -> f64
     let mut j: usize = 0;
     while j < count {
         let k = piece_at(floats, i, j);
-        total += k.w * floats[PIECE + PIECES_SIZE * i + 3 * j + 2];
+        total += k.w * floats[PIECE + PIECES_SIZE * i + 3 * j + VOLUME];
         j += 1;
     }
     total

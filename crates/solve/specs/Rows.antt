@@ -1,17 +1,16 @@
 -- Theorems of the solver's definitions: 01's bench rows, n = 0, the words past n, and which row a tie and a NaN take. Assumes nothing.
-use mathlib.Core.Path.{_≡_, refl, _∙_}
-use Prim.Native.Nat.{ℕ, zero, suc, _+_, _≤_, zero-le}
-use native.Mathlib.Omega.{arith}
+use mathlib.Core.Path.{_≡_, refl}
+use Prim.Native.Nat.{ℕ, _≤_, zero-le}
 use borrow.Author.Tests.{le-ltb}
 use mathlib.Core.Bool.{true}
 use mathlib.Core.List.{List, [], _∷_}
 use lib.ListN.{length, getD}
-use lib.Seq.{getD-set-other}
 use lib.Ieee.{Float, nan, ofBits, lt, le, eq, ne, sub, mul, div}
 use Rattle.base.specs.Answers.{accepted, Outcome, outcome}
 use Rattle.base.specs.Floats.{+0, bits, abs}
 use Rattle.base.specs.Constants.{one, two, three, four, flatLimit}
-use Rattle.base.specs.Loops.{times}
+use Rattle.base.specs.Loops.{times, table}
+use Rattle.base.specs.TableLaws.{table-past}
 use Rattle.base.specs.ChoiceLaws.{cond-of}
 use Rattle.base.specs.OrderLaws.{lt-nan, eq-not-lt}
 use Rattle.solve.specs.declared.eliminate.Pivot.{Pivot}
@@ -20,7 +19,7 @@ use Rattle.solve.specs.Solve.{badMatrix, flatAt, answerAt, rowOf, loaded
 
 -- opens every definition on the way of a computed row
 unfoldable rows : ℕ
-unfolding solution times abs better pivotOf over less cleared swept smaller columnAt eliminated rowOf loaded answers concluded ofBits lt le ne eq sub mul div
+unfolding solution times abs better pivotOf over less cleared swept smaller columnAt eliminated rowOf loaded table answers concluded ofBits lt le ne eq sub mul div
 rows = 0
 
 abbrev five : Float
@@ -50,14 +49,9 @@ no-rows xs = simp (le-ltb (length xs) 0 zero-le)
 
 -- ---- the words of the answer
 
-answers-past : (n : ℕ) (m : Matrix) (k row : ℕ) (xs : List Float) (i : ℕ) → row + k ≤ i → getD (times (answerAt n m) k row xs) i nan ≡ getD xs i nan
-unfolding times
-answers-past n m zero row xs i h = refl
-answers-past n m (suc k) row xs i h = answers-past n m k (suc row) (answerAt n m row xs) i (omega arith) ∙ getD-set-other xs row i (cell m row n) nan (λ e. omega arith)
-
 concluded-past : (n : ℕ) (xs : List Float) (e : Ended) (i : ℕ) → n ≤ i → getD (concluded n xs e .out) i nan ≡ getD xs i nan
 unfolding concluded answers
-concluded-past n xs (reduced s m) i h = answers-past n m n 0 xs i (omega arith)
+concluded-past n xs (reduced s m) i h = table-past (answerAt n m) nan n i xs h
 concluded-past n xs (flat c) i h = refl
 
 -- "Words of the answer past n are untouched"

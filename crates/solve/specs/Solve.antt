@@ -6,7 +6,7 @@ use lib.Dec.{eqb, ltb}
 use lib.ListN.{getD, set, length, replicate}
 use lib.Ieee.{Float, nan}
 use Rattle.base.specs.Floats.{+0}
-use Rattle.base.specs.Loops.{times}
+use Rattle.base.specs.Loops.{times, table}
 use Rattle.base.specs.Answers.{Answer, accepted, refused, Outcome, outcome}
 use Rattle.base.specs.Refusals.{number}
 use Rattle.base.specs.declared.refusal.Refusal.the-variants.{BadMatrix, FlatPivot}
@@ -17,11 +17,11 @@ use Rattle.solve.specs.declared.Solve.the-variants.{Solved, Flat, Refuse
 -- ---- the runs
 
 -- n + 1 floats of a run, from a place on, laid over the start of a row
-abbrev pub rowAt : List Float → ℕ → ℕ → List Float → List Float
-rowAt xs from j row = set row j (getD xs (from + j) nan)
+abbrev pub wordFrom : List Float → ℕ → ℕ → Float
+wordFrom xs from j = getD xs (from + j) nan
 
 unfoldable pub rowOf : ℕ → List Float → ℕ → List Float → List Float
-rowOf n xs from row = times (rowAt xs from) (n + 1) 0 row
+rowOf n xs from row = table (wordFrom xs from) (n + 1) row
 
 -- "n rows of n+1 floats", laid over the start of a matrix
 abbrev pub loadedAt : ℕ → List Float → ℕ → Matrix → Matrix
@@ -35,11 +35,11 @@ abbrev pub blank : Matrix
 blank = replicate 16 (replicate 17 +0)
 
 -- column n of a matrix, laid over the first n words of the answer: "Words of the answer past n are untouched"
-abbrev pub answerAt : ℕ → Matrix → ℕ → List Float → List Float
-answerAt n m row xs = set xs row (cell m row n)
+abbrev pub answerAt : ℕ → Matrix → ℕ → Float
+answerAt n m row = cell m row n
 
 unfoldable pub answers : ℕ → Matrix → List Float → List Float
-answers n m xs = times (answerAt n m) n 0 xs
+answers n m xs = table (answerAt n m) n xs
 
 -- ---- the answer
 

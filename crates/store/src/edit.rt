@@ -12,6 +12,7 @@ use layout::offsets::KERNEL_SIZE;
 use layout::offsets::PIECE;
 use layout::offsets::PIECES_SIZE;
 use layout::offsets::STATE;
+use layout::offsets::WEIGHT;
 use layout::offsets::WIDTH;
 use layout::runs::zero_floats;
 use layout::runs::zero_words;
@@ -46,7 +47,7 @@ pub fn reweigh(floats: &mut [f64], words: &mut [u32], place: u32, weight: f64) -
         Checked::Failed(r) => Edited::Refused(r),
         Checked::Passed => {
             let i = place as usize;
-            floats[KERNEL + 4 + KERNEL_SIZE * i] = weight;
+            floats[WEIGHT + KERNEL_SIZE * i] = weight;
             Edited::Done
         }
     }

@@ -37,12 +37,12 @@ volumeTo t c sigma k = times (faceStep t c sigma) k 0 +0
 abbrev pub kernelVolume : (ℕ → Triangle) → ℕ → V3 → Float → Float
 kernelVolume t n c sigma = volumeTo t c sigma n
 
-abbrev pub origin : V3
-origin = record { x = +0; y = +0; z = +0 }
+abbrev pub originPoint : V3
+originPoint = record { x = +0; y = +0; z = +0 }
 
 -- 01, "Remainder", `body_volume`: `kernel_volume` at the origin with sigma 0; it is signed
 abbrev pub bodyVolume : (ℕ → Triangle) → ℕ → Float
-bodyVolume t n = kernelVolume t n origin +0
+bodyVolume t n = kernelVolume t n originPoint +0
 
 -- ---- for the functions' contracts
 

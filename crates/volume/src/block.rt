@@ -1,5 +1,6 @@
 // The volume over four faces at once: their 28 points stand in arrays, so that the radial factors are worked side by side.
 // Every function here has a `requires`, but `all_shares`; a `length` of 28 stands where a proof must carry an array's length.
+// Internal: a function with a `requires` is called by proved code alone.
 ghost use mathlib.Core.Path.{_≡_};
 ghost use Prim.Native.Nat.{_+_, _*_, _≤_, _<_};
 ghost use lib.ListN.{length, set};

@@ -1,4 +1,5 @@
 // The volume of a kernel inside a mesh: Dunavant's seven points on each face, in one running sum.
+// Internal: a function with a `requires` is called by proved code alone.
 ghost use mathlib.Core.Path.{_≡_};
 ghost use Prim.Native.Nat.{_*_, _≤_};
 ghost use lib.ListN.{length};

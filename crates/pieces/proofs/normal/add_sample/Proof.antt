@@ -3,12 +3,12 @@ use borrow.Author.Needs.{needs}
 use Prim.Native.Nat.{_-_}
 use mathlib.Core.Path.{refl}
 use Rattle.base.specs.LoopLaws.{Left, from-zero, goes, ended, set-to}
-use Rattle.pieces.specs.Fit.{sampled, rowAt}
+use Rattle.pieces.specs.Fit.{sampled, crossedRowAt}
 use Rattle.pieces.proofs.normal.add_sample.Statement.{statement}
 use Rattle.pieces.proofs.normal.add_sample.Tie as tie
 
 abbrev Inv-loop : tie.InvT-loop
-Inv-loop m₀ terms basis target a₀ m a = Left (rowAt terms basis target) terms a m (sampled terms basis target m₀)
+Inv-loop m₀ terms basis target a₀ m a = Left (crossedRowAt terms basis target) terms a m (sampled terms basis target m₀)
 
 abbrev μ-loop : tie.MeasureT-loop
 μ-loop m₀ terms basis target a₀ m a = terms - a

@@ -1,12 +1,12 @@
 -- `scale_of` meets its contract, by its callees'. Assumes nothing.
 use borrow.Author.Needs.{needs}
 use mathlib.Core.Path.{_∙_}
-use Rattle.pieces.specs.Fit.{scaleOf}
+use Rattle.pieces.specs.Fit.{termScale}
 use Rattle.pieces.proofs.points.scale_of.Statement.{statement}
 use Rattle.pieces.proofs.points.scale_of.Tie as tie
 
 returns : tie.Need-returns
-unfolding scaleOf
+unfolding termScale
 returns c = c .ten .ensures ∙ simp (c .before .before .whole .ensures, c .before .whole2 .ensures)
 
 pub scale-of-spec : {M : Type 1} → statement M

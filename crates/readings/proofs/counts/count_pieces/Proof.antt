@@ -4,19 +4,19 @@ use Prim.Native.Nat.{ℕ, _+_, _*_, _-_, _≤_}
 use native.Mathlib.Numerals.{add-one}
 use native.Mathlib.Omega.{arith}
 use Rattle.layout.specs.Layout.{width}
-use Rattle.readings.specs.Counts.{pieceCount}
+use Rattle.readings.specs.Counts.{heldPieces}
 use borrow.Author.Needs.{needs}
 use Rattle.readings.proofs.counts.count_pieces.Statement.{statement}
 use Rattle.readings.proofs.counts.count_pieces.Tie as tie
 
 abbrev Inv-loop : tie.InvT-loop
-Inv-loop w faces sum₀ i₀ sum i = (i ≤ 32) × (sum ≡ pieceCount width w i) × (sum ≤ 16 * i)
+Inv-loop w faces sum₀ i₀ sum i = (i ≤ 32) × (sum ≡ heldPieces width w i) × (sum ≤ 16 * i)
 
 abbrev μ-loop : tie.MeasureT-loop
 μ-loop w faces sum₀ i₀ sum i = 32 - i
 
 loop-holds : tie.Need-loop-holds Inv-loop μ-loop
-unfolding pieceCount
+unfolding heldPieces
 loop-holds c = (omega arith, refl, omega arith)
 
 add-sum : tie.Need-add-sum Inv-loop μ-loop
@@ -25,7 +25,7 @@ add-sum c =
     omega (arith, c .pieces .ensures, h .pieces, c .before .before .before .loop .inv)
 
 loop-again : tie.Need-loop-again Inv-loop μ-loop
-unfolding pieceCount
+unfolding heldPieces
 loop-again c =
     let l = c .before .before .before .loop in
     let h = c .before .before .before .before .before .pre .place (l .i) (c .before .before .loop-test .taken) in

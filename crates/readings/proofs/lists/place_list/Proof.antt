@@ -3,13 +3,13 @@ use mathlib.Core.Path.{_≡_}
 use Prim.Native.Nat.{_-_, _≤_}
 use native.Mathlib.Omega.{arith}
 use Rattle.readings.specs.Readings.{heldAt}
-use Rattle.readings.specs.Lists.{rows, Listed, none-listed, piece-listed}
+use Rattle.readings.specs.Lists.{rescaledSixes, Listed, none-listed, piece-listed}
 use borrow.Author.Needs.{needs}
 use Rattle.readings.proofs.lists.place_list.Statement.{statement}
 use Rattle.readings.proofs.lists.place_list.Tie as tie
 
 abbrev Inv-loop : tie.InvT-loop
-Inv-loop out₀ at f i count s j₀ out j = (j ≤ count) × Listed out₀ at (rows s (heldAt f i j)) out
+Inv-loop out₀ at f i count s j₀ out j = (j ≤ count) × Listed out₀ at (rescaledSixes s (heldAt f i j)) out
 
 abbrev μ-loop : tie.MeasureT-loop
 μ-loop out₀ at f i count s j₀ out j = count - j

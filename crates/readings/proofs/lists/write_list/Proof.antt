@@ -4,20 +4,20 @@ use Prim.Native.Nat.{_+_, _*_, _-_, _≤_}
 use native.Mathlib.Omega.{arith}
 use Rattle.layout.specs.Layout.{width}
 use Rattle.readings.specs.Readings.{heldAll}
-use Rattle.readings.specs.Counts.{pieceCount}
-use Rattle.readings.specs.Lists.{rows, Listed, none-listed, place-listed, count-mono, count-next}
+use Rattle.readings.specs.Counts.{heldPieces}
+use Rattle.readings.specs.Lists.{rescaledSixes, Listed, none-listed, place-listed, count-mono, count-next}
 use borrow.Author.Needs.{needs}
 use Rattle.readings.proofs.lists.write_list.Statement.{statement}
 use Rattle.readings.proofs.lists.write_list.Tie as tie
 
 abbrev Inv-loop : tie.InvT-loop
-Inv-loop out₀ f w faces s at₀ i₀ out at i = (i ≤ 32) × (at ≡ 6 * pieceCount width w i) × Listed out₀ 0 (rows s (heldAll width f w i)) out
+Inv-loop out₀ f w faces s at₀ i₀ out at i = (i ≤ 32) × (at ≡ 6 * heldPieces width w i) × Listed out₀ 0 (rescaledSixes s (heldAll width f w i)) out
 
 abbrev μ-loop : tie.MeasureT-loop
 μ-loop out₀ f w faces s at₀ i₀ out at i = 32 - i
 
 loop-holds : tie.Need-loop-holds Inv-loop μ-loop
-unfolding heldAll pieceCount
+unfolding heldAll heldPieces
 loop-holds c = (omega arith, refl, none-listed _ _)
 
 place-list-requires : tie.Need-place-list-requires Inv-loop μ-loop

@@ -11,7 +11,7 @@ use Rattle.layout.specs.Runs.{write}
 use Rattle.readings.specs.AlongLaws.{stretch-same}
 use Rattle.readings.specs.Readings.{bare, rescaled, densityAt, heldAll}
 use Rattle.readings.specs.Lists.{all-length}
-use Rattle.readings.specs.TrackLaws.{rows-density}
+use Rattle.readings.specs.TrackLaws.{rescaled-density}
 use borrow.Author.Needs.{needs}
 use Rattle.readings.proofs.tracks.side_by_side.Statement.{statement}
 use Rattle.readings.proofs.tracks.side_by_side.Tie as tie
@@ -30,7 +30,7 @@ returns c =
     let l = c .before .before .before .before .before .before .write-list in
     c .before .before .densities .ensures
     ∙ ap (write (a .out .now) 0)
-    (stretch-same _ (densityAt (map (rescaled (a .s)) (map bare h))) (λ x. ap (λ (ks : List Float). densitizeOf (kernelAt ks) (n .result) x) (l .ensures) ∙ rows-density _ (a .s) h (n .result) (n .ensures .0 ∙ sym (all-length width (a .floats .now) (a .words .now) 32)) x) (a .points .now) 0 (a .count))
+    (stretch-same _ (densityAt (map (rescaled (a .s)) (map bare h))) (λ x. ap (λ (ks : List Float). densitizeOf (kernelAt ks) (n .result) x) (l .ensures) ∙ rescaled-density _ (a .s) h (n .result) (n .ensures .0 ∙ sym (all-length width (a .floats .now) (a .words .now) 32)) x) (a .points .now) 0 (a .count))
 
 pub side-by-side-spec : {M : Type 1} → statement M
 side-by-side-spec =
