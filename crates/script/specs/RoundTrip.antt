@@ -13,7 +13,7 @@ use lib.Seq.{drop-cons}
 use lib.Ieee.{Float, nan, binary64, fits}
 use Rattle.base.specs.declared.refusal.Checked.the-variants.{Passed}
 use Rattle.kernel.specs.declared.kernel.Kernel.{Kernel}
-use Rattle.layout.specs.Layout.{placeLimit, radiusOf, kernelFrom, centreOf, weightOf, alphaOf, coordsFrom, cornersFrom, cornersOf, vertsOf, facesOf, statusOf, layerOf}
+use Rattle.layout.specs.Layout.{placeLimit, radiusOf, kernelFrom, centreFloats, weightOf, alphaOf, coordsFrom, cornersFrom, cornersOf, vertsOf, facesOf, statusOf, layerOf}
 use Rattle.layout.specs.Soundness.{storeCheck}
 use Rattle.layout.specs.SoundLaws.{Fine, fine}
 use Rattle.text.specs.Text.{left}
@@ -46,7 +46,7 @@ scriptOf q fs ws =
 
 -- what such a put says: the place, and the kernel and the layer as the store keeps them
 abbrev pub kernelOf : List Float → ℕ → Kernel
-kernelOf fs i = record { c = centreOf fs i; sigma = getD fs (4 + 7 * i) nan; w = weightOf fs i; alpha = alphaOf fs i }
+kernelOf fs i = record { c = centreFloats fs i; sigma = getD fs (4 + 7 * i) nan; w = weightOf fs i; alpha = alphaOf fs i }
 
 pub put-says : (q : ℕ) (fs : List Float) (ws : List ℕ) (i : ℕ)
     → (placeIn (putAt q fs ws i) ≡ i) × (kernelIn (putAt q fs ws i) ≡ kernelOf fs i)
