@@ -22,6 +22,7 @@ use layout::offsets::COORDS;
 use layout::offsets::CORNERS;
 use layout::offsets::KERNEL;
 use layout::offsets::KERNEL_SIZE;
+use layout::offsets::LAYER;
 use layout::offsets::PLACES;
 use layout::offsets::STATE;
 use layout::offsets::WIDTH;
@@ -29,9 +30,6 @@ use text::write::decimal_length;
 use text::write::write_bytes;
 use text::write::write_number;
 use text::write::write_real;
-
-// A place's layer, the last word of its record, stands at LAYER + WIDTH * i.
-const LAYER: usize = 5;
 
 // (open (radius h) (verts V) (faces F))
 fn write_open(out: &mut [u8], at: usize, radius: f64, verts: u32, faces: u32) -> usize
