@@ -4,7 +4,7 @@ ghost use mathlib.Core.Bool.{true};
 ghost use Prim.Native.Nat.{_≤_};
 ghost use lib.ListN.{length};
 ghost use Rattle.session.specs.Session.{Small, session, idle};
-ghost use Rattle.program.specs.Bytes.{held, heldAfter};
+ghost use Rattle.program.specs.Bytes.{heldWith, heldAfter};
 ghost use Rattle.program.specs.Bench.{heldAtFirst, Reached};
 use libc::EAGAIN;
 use libc::EINTR;
@@ -86,12 +86,12 @@ fn feed_chunk(
 ) -> Fed
     requires { ⌜ Small (st .opening) ⌝ ∗ ⌜ n ≤ 4096 ⌝ }
     requires { ⌜ Reached
-        (held (session (st .opening) (now floats) (now words) (now coords) (now corners)) (now line) (st .count)) ⌝ }
+        (heldWith (session (st .opening) (now floats) (now words) (now coords) (now corners)) (now line) (st .count)) ⌝ }
     ensures { λ r. ⌜ Small (r .state .opening) ⌝ }
-    ensures { λ r. ⌜ (r .said ≡ true → held
+    ensures { λ r. ⌜ (r .said ≡ true → heldWith
         (session (r .state .opening) (now (floats .exit)) (now (words .exit)) (now (coords .exit)) (now (corners .exit)))
         (now (line .exit)) (r .state .count)
-        ≡ heldAfter (now (chunk .entry)) n (held
+        ≡ heldAfter (now (chunk .entry)) n (heldWith
         (session (st .opening) (now (floats .entry)) (now (words .entry)) (now (coords .entry)) (now (corners .entry)))
         (now (line .entry)) (st .count))) ⌝ }
 {
@@ -119,7 +119,7 @@ fn finish(
 )
     requires { ⌜ Small (st .opening) ⌝ }
     requires { ⌜ Reached
-        (held (session (st .opening) (now floats) (now words) (now coords) (now corners)) (now line) (st .count)) ⌝ }
+        (heldWith (session (st .opening) (now floats) (now words) (now coords) (now corners)) (now line) (st .count)) ⌝ }
 {
     let last = program::end(st, line, floats, words, coords, corners, out);
     say(out, last.wrote);
@@ -135,7 +135,7 @@ fn serve(
     corners: &mut [u32; 3000],
     out: &mut [u8; 512],
 )
-    requires { ⌜ held (session idle (now floats) (now words) (now coords) (now corners)) (now line) 0 ≡ heldAtFirst ⌝ }
+    requires { ⌜ heldWith (session idle (now floats) (now words) (now coords) (now corners)) (now line) 0 ≡ heldAtFirst ⌝ }
 {
     let mut chunk = io::buffer();
     let mut st = program::start();

@@ -12,7 +12,7 @@ use borrow.Author.Tests.{le-leb, lt-leb, le-ltb, ltb-true, ltb-false, eq-eqb, ne
 use Rattle.forms.specs.declared.line.Line.{Line}
 use Rattle.forms.specs.Forms.{parseLine}
 use Rattle.session.specs.Session.{Session, respond}
-use Rattle.program.specs.Bytes.{lineRoom, held, Fed, lineIn, endLine, lineWith, countWith, keep, feedByte, feedEnd, printed}
+use Rattle.program.specs.Bytes.{lineRoom, heldWith, Fed, lineIn, endLine, lineWith, countWith, keep, feedByte, feedEnd, printed}
 use Rattle.program.specs.Bench.{lastLine, linesFrom, answersTo, atFirst, bench}
 use Rattle.program.proofs.Long.{long-bad}
 
@@ -57,7 +57,7 @@ module _ (line : List ℕ) (n : ℕ) where
   holds-line l (all e m k) = rw (le-leb n lineRoom m) (ap parseLine k)
   holds-line l (over e m) = rw (lt-leb n lineRoom (omega arith)) (sym (long-bad l m))
 
-  at-end : (s : Session) (l : List ℕ) → Holds l line n → feedEnd (held s line n) .text ≡ answersTo s (lastLine l)
+  at-end : (s : Session) (l : List ℕ) → Holds l line n → feedEnd (heldWith s line n) .text ≡ answersTo s (lastLine l)
   unfolding feedEnd endLine
   at-end s [] h = rw (eq-eqb n 0 (none h))
   at-end s (b ∷ l) h =
@@ -66,7 +66,7 @@ module _ (line : List ℕ) (n : ℕ) where
 
 -- the input that is left, from within a line
 from : (s : Session) (l line : List ℕ) (n : ℕ) (input : List ℕ) → length line ≡ lineRoom → Holds l line n
-    → printed (held s line n) input ≡ answersTo s (linesFrom l input)
+    → printed (heldWith s line n) input ≡ answersTo s (linesFrom l input)
 unfolding feedByte endLine
 from s l line n [] r h = at-end line n s l h
 from s l line n (b ∷ input) r h =
@@ -75,10 +75,10 @@ from s l line n (b ∷ input) r h =
     (from s (l ++ (b ∷ [])) (lineWith line n b) (countWith n) input (room-more l line n b ∙ r) (holds-more l line n b r h))
   where
     fed : Bool → Fed
-    fed t = cond t (endLine (held s line n)) (record { next = keep (held s line n) b; text = [] })
+    fed t = cond t (endLine (heldWith s line n)) (record { next = keep (heldWith s line n) b; text = [] })
 
-    go : (t : Bool) → printed (held (respond s (lineIn line n) .next) line 0) input ≡ answersTo (respond s (lineIn line n) .next) (linesFrom [] input)
-        → printed (held s (lineWith line n b) (countWith n)) input ≡ answersTo s (linesFrom (l ++ (b ∷ [])) input)
+    go : (t : Bool) → printed (heldWith (respond s (lineIn line n) .next) line 0) input ≡ answersTo (respond s (lineIn line n) .next) (linesFrom [] input)
+        → printed (heldWith s (lineWith line n b) (countWith n)) input ≡ answersTo s (linesFrom (l ++ (b ∷ [])) input)
         → fed t .text ++ printed (fed t .next) input ≡ answersTo s (cond t (l ∷ linesFrom [] input) (linesFrom (l ++ (b ∷ [])) input))
     go true p q =
         ap (λ (t : List ℕ). respond s (lineIn line n) .text ++ t) p
@@ -86,5 +86,5 @@ from s l line n (b ∷ input) r h =
     go false p q = q
 
 -- ---- the theorem: whatever stood in the run of a line's bytes
-pub whole : (line input : List ℕ) → length line ≡ lineRoom → printed (held atFirst line 0) input ≡ bench input
+pub whole : (line input : List ℕ) → length line ≡ lineRoom → printed (heldWith atFirst line 0) input ≡ bench input
 whole line input r = from atFirst [] line 0 input r (all refl (omega arith) refl)

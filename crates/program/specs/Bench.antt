@@ -9,7 +9,7 @@ use lib.ListN.{replicate}
 use Rattle.base.specs.Floats.{+0}
 use Rattle.forms.specs.Forms.{parseLine}
 use Rattle.session.specs.Session.{Session, session, idle, respond}
-use Rattle.program.specs.Bytes.{lineRoom, Held, held, feedByte}
+use Rattle.program.specs.Bytes.{lineRoom, Held, heldWith, feedByte}
 
 -- a line ends with a newline or with the input, where it has a byte
 abbrev pub lastLine : List ℕ → List (List ℕ)
@@ -35,7 +35,7 @@ atFirst = session idle (replicate 3261 +0) (replicate 3130 0) (replicate 1500 +0
 
 -- what is held before the first byte
 abbrev pub heldAtFirst : Held
-heldAtFirst = held atFirst (replicate lineRoom 0) 0
+heldAtFirst = heldWith atFirst (replicate lineRoom 0) 0
 
 -- what is held once these bytes more were fed
 unfoldable pub fedAll : Held → List ℕ → Held

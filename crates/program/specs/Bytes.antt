@@ -23,8 +23,8 @@ pub record Held : Type 0 where
   pub line : List ℕ
   pub count : ℕ
 
-abbrev pub held : Session → List ℕ → ℕ → Held
-held s line n = record { session = s; line = line; count = n }
+abbrev pub heldWith : Session → List ℕ → ℕ → Held
+heldWith s line n = record { session = s; line = line; count = n }
 
 -- and what is printed
 pub record Fed : Type 0 where
@@ -35,8 +35,8 @@ pub record Fed : Type 0 where
 -- is written from the start of out, up to k
 abbrev pub Feeds : (Held → Fed) → Session → List ℕ → ℕ → Session → List ℕ → ℕ → List ℕ → ℕ → List ℕ → Type 0
 Feeds f s line n s′ line′ n′ out k out′ =
-    let r = f (held s line n) in
-    (held s′ line′ n′ ≡ r .next) × Wrote out 0 (r .text) k out′
+    let r = f (heldWith s line n) in
+    (heldWith s′ line′ n′ ≡ r .next) × Wrote out 0 (r .text) k out′
 
 -- the line that is held
 unfoldable pub lineIn : List ℕ → ℕ → Line
@@ -46,7 +46,7 @@ lineIn line n = cond (leb n lineRoom) (parseLine (take n line)) Bad
 unfoldable pub endLine : Held → Fed
 endLine h =
     let s = respond (h .session) (lineIn (h .line) (h .count)) in
-    record { next = held (s .next) (h .line) 0; text = s .text }
+    record { next = heldWith (s .next) (h .line) 0; text = s .text }
 
 -- a byte more of it
 unfoldable pub lineWith : List ℕ → ℕ → ℕ → List ℕ
@@ -56,7 +56,7 @@ unfoldable pub countWith : ℕ → ℕ
 countWith n = cond (ltb n lineRoom) (n + 1) (lineRoom + 1)
 
 abbrev pub keep : Held → ℕ → Held
-keep h b = held (h .session) (lineWith (h .line) (h .count) b) (countWith (h .count))
+keep h b = heldWith (h .session) (lineWith (h .line) (h .count) b) (countWith (h .count))
 
 -- a byte of the input
 unfoldable pub feedByte : Held → ℕ → Fed

@@ -5,14 +5,14 @@ use Prim.Native.Nat.{_-_}
 use borrow.Author.Needs.{needs}
 use Rattle.base.specs.LoopLaws.{Left, from-zero, goes, ended}
 use Rattle.session.specs.Session.{Small, session}
-use Rattle.program.specs.Bytes.{held, feedAt, heldAfter}
+use Rattle.program.specs.Bytes.{heldWith, feedAt, heldAfter}
 use Rattle.bench.proofs.feed_chunk.Statement.{statement}
 use Rattle.bench.proofs.feed_chunk.Tie as tie
 
 abbrev Inv-loop : tie.InvT-loop
 Inv-loop chunk n line₀ floats₀ words₀ coords₀ corners₀ out₀ state₀ i₀ line floats words coords corners out state i =
     Small (state .opening)
-    × Left (feedAt chunk) n i (held (session (state .opening) floats words coords corners) line (state .count)) (heldAfter chunk n (held (session (state₀ .opening) floats₀ words₀ coords₀ corners₀) line₀ (state₀ .count)))
+    × Left (feedAt chunk) n i (heldWith (session (state .opening) floats words coords corners) line (state .count)) (heldAfter chunk n (heldWith (session (state₀ .opening) floats₀ words₀ coords₀ corners₀) line₀ (state₀ .count)))
 
 abbrev μ-loop : tie.MeasureT-loop
 μ-loop chunk n line₀ floats₀ words₀ coords₀ corners₀ out₀ state₀ i₀ line floats words coords corners out state i = n - i

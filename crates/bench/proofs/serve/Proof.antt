@@ -6,7 +6,7 @@ use lib.ListN.{length}
 use borrow.Author.Needs.{needs}
 use borrow.Author.Tests.{not-false}
 use Rattle.session.specs.Session.{Small, session}
-use Rattle.program.specs.Bytes.{held}
+use Rattle.program.specs.Bytes.{heldWith}
 use Rattle.program.specs.Bench.{Reached}
 use Rattle.program.proofs.Reached.{at-start, many-more}
 use Rattle.bench.proofs.serve.Statement.{statement}
@@ -14,7 +14,7 @@ use Rattle.bench.proofs.serve.Tie as tie
 
 abbrev Inv-loop : tie.InvT-loop
 Inv-loop line₀ floats₀ words₀ coords₀ corners₀ out₀ chunk₀ st₀ turns₀ line floats words coords corners out chunk st turns =
-    (length chunk ≡ 4096) × Small (st .opening) × Reached (held (session (st .opening) floats words coords corners) line (st .count))
+    (length chunk ≡ 4096) × Small (st .opening) × Reached (heldWith (session (st .opening) floats words coords corners) line (st .count))
 
 abbrev μ-loop : tie.MeasureT-loop
 μ-loop line₀ floats₀ words₀ coords₀ corners₀ out₀ chunk₀ st₀ turns₀ line floats words coords corners out chunk st turns = turns

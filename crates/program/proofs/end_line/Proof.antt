@@ -1,7 +1,7 @@
 -- `program::end_line` meets its contract. Assumes nothing.
 use mathlib.Core.Path.{ap}
 use Rattle.session.specs.Session.{Session}
-use Rattle.program.specs.Bytes.{held, endLine}
+use Rattle.program.specs.Bytes.{heldWith, endLine}
 use borrow.Author.Needs.{needs}
 use Rattle.program.proofs.end_line.Statement.{statement}
 use Rattle.program.proofs.end_line.Tie as tie
@@ -11,7 +11,7 @@ unfolding endLine
 returns c =
     let e = c .before .before .before .before .before .respond .ensures in
     let a = c .before .before .before .before .before .before .before .before .before .before .before .before .before .before .before .before .args in
-    rw (← c .before .before .before .before .before .before .before .before .before .before .before .before .line-in .ensures) (e .0, (ap (λ (s : Session). held s (a .line .now) 0) (e .1 .0), e .1 .1))
+    rw (← c .before .before .before .before .before .before .before .before .before .before .before .before .line-in .ensures) (e .0, (ap (λ (s : Session). heldWith s (a .line .now) 0) (e .1 .0), e .1 .1))
 
 pub end-line-spec : {M : Type 1} → statement M
 end-line-spec =
