@@ -99,7 +99,7 @@ lines-bytes q fs ws v f =
       length-append (vertRows fs v 0) (faceRows q ws f 0 ++ putRows q fs ws placeLimit 0),
       length-append (faceRows q ws f 0) (putRows q fs ws placeLimit 0),
       open-bytes (radiusOf fs) v f,
-      verts-bytes fs v 0
+      verts-bytes fs v 0,
     )
 
 -- the opening of a put line, and then r

@@ -1,7 +1,6 @@
 -- The end without a layer where it stands, else the one with a layer. Assumes nothing.
 use mathlib.Core.Path.{_∙_}
 use Prim.Native.Nat.{_-_, _^_}
-use native.Mathlib.Omega.{arith}
 use Rattle.text.specs.Text.{bytes, literal, decimal}
 use Rattle.script.proofs.Entries.{first-end, second-end}
 use borrow.Author.Needs.{needs}

@@ -1,13 +1,12 @@
-use mathlib.Core.Path.{_≡_, refl, sym, ap, subst, _∙_}
-use mathlib.Core.List.{List, [], _∷_, _++_}
-use Prim.Native.Nat.{ℕ, suc, _+_, _*_, _-_, _≤_, _<_, _%_}
+-- At each turn the lines that are left say what all of them say. Assumes nothing.
+use mathlib.Core.Path.{_≡_, refl, sym, ap, _∙_}
+use mathlib.Core.List.{List}
+use Prim.Native.Nat.{_+_, _-_, _≤_}
 use native.Mathlib.Omega.{arith}
-use lib.ListN.{length}
-use lib.Seq.{sets}
 use Rattle.mesh.specs.Checks.{allBelow}
 use native.Mathlib.Nat.{sub-zero}
-use mathlib.Core.Bool.{Bool, true, _&&_}
-use Rattle.text.specs.Text.{Text, rest, Got}
+use mathlib.Core.Bool.{_&&_}
+use Rattle.text.specs.Text.{rest, Got}
 use Rattle.text.specs.Form.{Vals, _&_}
 use Rattle.text.specs.TextLaws.{rest-past, rest-out}
 use Rattle.script.specs.Lines.{faceLine}
@@ -24,47 +23,37 @@ Inv-loop s at n v k₀ below₀ i₀ k below i = (i ≤ n) × (linesFrom faceLin
 abbrev μ-loop : tie.MeasureT-loop
 μ-loop s at n v k₀ below₀ i₀ k below i = n - i
 
-loop-holds : tie.Need-loop-holds Inv-loop μ-loop
-loop-holds c = (omega arith, rw sub-zero refl, rw sub-zero refl)
-
-read-face-requires : tie.Need-read-face-requires Inv-loop μ-loop
-read-face-requires c κs = search needs
-
-add-t12 : tie.Need-add-t12 Inv-loop μ-loop
-add-t12 c = search needs
-
 returns : tie.Need-returns Inv-loop μ-loop
-returns c = 
+returns c =
     let a = c .before .before .before .before .before .before .args in
     let l = c .before .before .before .before .loop in
     let m = a .n - (l .i + 1) in
-    let p = c .before .before .read-face in
-    (rest-past (a .s .now) ∙ sym (from-lost faceLine m) ∙ (λ j. linesFrom faceLine m (sym (rest-out (a .s .now) (p .result .at) (c .if1 .taken)) j) .text)
-    ∙ sym (ap (λ (g : Got (List (Vals faceLine))). g .text) (from-more faceLine (a .n) (l .i) (rest (a .s .now) (l .k)) (rest (a .s .now) (p .result .at)) (p .result .a & p .result .b & p .result .c & tt) (c .before .before .before .loop-test .taken) (p .ensures))) ∙ l .inv .1, λ h. absurd (omega arith))
-
-add-i : tie.Need-add-i Inv-loop μ-loop
-add-i c = search needs
-
-loop-less : tie.Need-loop-less Inv-loop μ-loop
-loop-less c = search needs
+    let p = c .before .before .read-face in (
+      rest-past (a .s .now) ∙ sym (from-lost faceLine m) ∙ (λ j. linesFrom faceLine m (sym (rest-out (a .s .now) (p .result .at) (c .if1 .taken)) j) .text)
+          ∙ sym (ap (λ (g : Got (List (Vals faceLine))). g .text) (from-more faceLine (a .n) (l .i) (rest (a .s .now) (l .k)) (rest (a .s .now) (p .result .at)) (p .result .a & p .result .b & p .result .c & tt) (c .before .before .before .loop-test .taken) (p .ensures))) ∙ l .inv .1,
+      λ h. absurd (omega arith),
+    )
 
 loop-again : tie.Need-loop-again Inv-loop μ-loop
-loop-again c = 
+loop-again c =
     let a = c .before .before .before .before .before .before .before .before .before .args in
     let l = c .before .before .before .before .before .before .before .loop in
     let p = c .before .before .before .before .before .read-face in
-    let e = from-more faceLine (a .n) (l .i) (rest (a .s .now) (l .k)) (rest (a .s .now) (p .result .at)) (p .result .a & p .result .b & p .result .c & tt) (c .before .before .before .before .before .before .loop-test .taken) (p .ensures) in
-    (omega arith, sym (ap (λ (g : Got (List (Vals faceLine))). g .text) e) ∙ l .inv .1,
+    let e = from-more faceLine (a .n) (l .i) (rest (a .s .now) (l .k)) (rest (a .s .now) (p .result .at)) (p .result .a & p .result .b & p .result .c & tt) (c .before .before .before .before .before .before .loop-test .taken) (p .ensures) in (
+      omega arith,
+      sym (ap (λ (g : Got (List (Vals faceLine))). g .text) e) ∙ l .inv .1,
       three-below (a .v) (p .result .a) (p .result .b) (p .result .c) (l .below) (cornersIn (linesFrom faceLine (a .n - (l .i + 1)) (rest (a .s .now) (p .result .at)) .val))
-      ∙ (λ j. l .below && allBelow (a .v) (cornersIn (sym e j .val))) ∙ l .inv .2)
+          ∙ (λ j. l .below && allBelow (a .v) (cornersIn (sym e j .val))) ∙ l .inv .2,
+    )
 
 returns-2 : tie.Need-returns-2 Inv-loop μ-loop
-returns-2 c = 
+returns-2 c =
     let a = c .before .before .before .args in
     let l = c .before .loop in
-    let e = from-none faceLine (a .n) (l .i) (rest (a .s .now) (l .k)) (c .loop-test .left) in
-    (sym (ap (λ (g : Got (List (Vals faceLine))). g .text) e) ∙ l .inv .1,
-      λ h. sym (none-below (a .v) (l .below)) ∙ (λ j. l .below && allBelow (a .v) (cornersIn (sym e j .val))) ∙ l .inv .2)
+    let e = from-none faceLine (a .n) (l .i) (rest (a .s .now) (l .k)) (c .loop-test .left) in (
+      sym (ap (λ (g : Got (List (Vals faceLine))). g .text) e) ∙ l .inv .1,
+      λ h. sym (none-below (a .v) (l .below)) ∙ (λ j. l .below && allBelow (a .v) (cornersIn (sym e j .val))) ∙ l .inv .2,
+    )
 
 pub check-faces-spec : {M : Type 1} → statement M
 check-faces-spec =
@@ -72,11 +61,11 @@ check-faces-spec =
     (tie.spec
     Inv-loop
     μ-loop
-    loop-holds
-    read-face-requires
-    add-t12
+    (λ c. (omega arith, rw sub-zero refl, rw sub-zero refl))
+    (λ c κs. search needs)
+    (λ c. search needs)
     returns
-    add-i
-    loop-less
+    (λ c. search needs)
+    (λ c. search needs)
     loop-again
     returns-2)

@@ -47,11 +47,13 @@ loop-again c =
     let m = drop (suc (l .k)) (a .s .now) in
     let n = p .ensures ∙ (λ j. record { val = entryIn (read putLine (t j) .val); text = read putLine (t j) .text }) in
     let e = ap (linesTo putLine (l .turns)) t ∙ to-more putLine b m (l .turns) (rest (a .s .now) (p .result .at)) (omega arith) (λ j. n j .text) in
-    let r = linesTo putLine (l .turns - 1) (rest (a .s .now) (p .result .at)) in
-    (omega arith, sym (ap (λ (g : Got (List (Vals putLine))). g .text) e) ∙ l .inv .1,
+    let r = linesTo putLine (l .turns - 1) (rest (a .s .now) (p .result .at)) in (
+      omega arith,
+      sym (ap (λ (g : Got (List (Vals putLine))). g .text) e) ∙ l .inv .1,
       omega (arith, l .inv .2, ap (λ (g : Got (List (Vals putLine))). length (g .val)) e),
       place-more (l .placed) (p .result .place) _ (r .val) (λ j. n j .val .0) ∙ (λ j. l .placed && placesIn (sym e j .val)) ∙ l .inv .3,
-      layer-more (l .layered) (p .result .layer) _ (r .val) (λ j. n j .val .1 .1 .1 .1 .1 .1 .1 .0) ∙ (λ j. l .layered && layersIn (sym e j .val)) ∙ l .inv .4)
+      layer-more (l .layered) (p .result .layer) _ (r .val) (λ j. n j .val .1 .1 .1 .1 .1 .1 .1 .0) ∙ (λ j. l .layered && layersIn (sym e j .val)) ∙ l .inv .4,
+    )
 
 returns-2 : tie.Need-returns-2 Inv-loop μ-loop
 returns-2 c =

@@ -1,12 +1,10 @@
-use mathlib.Core.Path.{_≡_, refl, sym, ap, subst, _∙_}
-use mathlib.Core.List.{List, [], _∷_, _++_}
-use Prim.Native.Nat.{ℕ, suc, _+_, _*_, _-_, _≤_, _<_, _%_}
+-- At each turn the lines that are left end where all end. Assumes nothing.
+use mathlib.Core.Path.{_≡_, refl, sym, ap, _∙_}
+use mathlib.Core.List.{List}
+use Prim.Native.Nat.{_+_, _-_, _≤_}
 use native.Mathlib.Omega.{arith}
-use lib.ListN.{length}
-use lib.Seq.{sets}
 use native.Mathlib.Nat.{sub-zero}
-use mathlib.Core.Bool.{Bool, true, _&&_}
-use Rattle.text.specs.Text.{Text, rest, Got}
+use Rattle.text.specs.Text.{rest, Got}
 use Rattle.text.specs.Form.{Vals, _&_}
 use Rattle.text.specs.TextLaws.{rest-past, rest-out}
 use Rattle.script.specs.Lines.{vertLine}
@@ -22,17 +20,8 @@ Inv-loop s at n k₀ i₀ k i = (i ≤ n) × (linesFrom vertLine (n - i) (rest s
 abbrev μ-loop : tie.MeasureT-loop
 μ-loop s at n k₀ i₀ k i = n - i
 
-loop-holds : tie.Need-loop-holds Inv-loop μ-loop
-loop-holds c = (omega arith, rw sub-zero refl)
-
-read-vert-requires : tie.Need-read-vert-requires Inv-loop μ-loop
-read-vert-requires c κs = search needs
-
-add-result : tie.Need-add-result Inv-loop μ-loop
-add-result c = search needs
-
 returns : tie.Need-returns Inv-loop μ-loop
-returns c = 
+returns c =
     let a = c .before .before .before .before .before .before .args in
     let l = c .before .before .before .before .loop in
     let m = a .n - (l .i + 1) in
@@ -40,21 +29,15 @@ returns c =
     rest-past (a .s .now) ∙ sym (from-lost vertLine m) ∙ (λ j. linesFrom vertLine m (sym (rest-out (a .s .now) (p .result .at) (c .if1 .taken)) j) .text)
     ∙ sym (ap (λ (g : Got (List (Vals vertLine))). g .text) (from-more vertLine (a .n) (l .i) (rest (a .s .now) (l .k)) (rest (a .s .now) (p .result .at)) (p .result .x & p .result .y & p .result .z & tt) (c .before .before .before .loop-test .taken) (p .ensures))) ∙ l .inv .1
 
-add-i : tie.Need-add-i Inv-loop μ-loop
-add-i c = search needs
-
-loop-less : tie.Need-loop-less Inv-loop μ-loop
-loop-less c = search needs
-
 loop-again : tie.Need-loop-again Inv-loop μ-loop
-loop-again c = 
+loop-again c =
     let a = c .before .before .before .before .before .before .args in
     let l = c .before .before .before .before .loop in
     let p = c .before .before .read-vert in
     (omega arith, sym (ap (λ (g : Got (List (Vals vertLine))). g .text) (from-more vertLine (a .n) (l .i) (rest (a .s .now) (l .k)) (rest (a .s .now) (p .result .at)) (p .result .x & p .result .y & p .result .z & tt) (c .before .before .before .loop-test .taken) (p .ensures))) ∙ l .inv .1)
 
 returns-2 : tie.Need-returns-2 Inv-loop μ-loop
-returns-2 c = 
+returns-2 c =
     let a = c .before .before .before .args in
     let l = c .before .loop in
     sym (ap (λ (g : Got (List (Vals vertLine))). g .text) (from-none vertLine (a .n) (l .i) (rest (a .s .now) (l .k)) (c .loop-test .left))) ∙ l .inv .1
@@ -65,11 +48,11 @@ check-verts-spec =
     (tie.spec
     Inv-loop
     μ-loop
-    loop-holds
-    read-vert-requires
-    add-result
+    (λ c. (omega arith, rw sub-zero refl))
+    (λ c κs. search needs)
+    (λ c. search needs)
     returns
-    add-i
-    loop-less
+    (λ c. search needs)
+    (λ c. search needs)
     loop-again
     returns-2)

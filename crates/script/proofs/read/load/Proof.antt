@@ -41,9 +41,10 @@ returns c =
     let y = c .before .before .before .before .before .before .before .before .before .load-words .ensures in
     let u = y .0 ∙ (λ i. linesFrom faceLine (a .faces) (x .0 i) .text) in
     let v = y .1 ∙ (λ i. write (a .words .now) 0 (openWords width (a .verts) (a .faces) (cornersIn (linesFrom faceLine (a .faces) (x .0 i) .val)))) in
-    let z = c .before .before .before .before .load-puts .ensures in
-    (z .0 ∙ (λ i. putsOn width (linesFrom putLine (a .n) (u i) .val) (after done (x .1 i) (v i)) .floats) ∙ l .left-floats,
-      z .1 ∙ (λ i. putsOn width (linesFrom putLine (a .n) (u i) .val) (after done (x .1 i) (v i)) .words) ∙ l .left-words)
+    let z = c .before .before .before .before .load-puts .ensures in (
+      z .0 ∙ (λ i. putsOn width (linesFrom putLine (a .n) (u i) .val) (after done (x .1 i) (v i)) .floats) ∙ l .left-floats,
+      z .1 ∙ (λ i. putsOn width (linesFrom putLine (a .n) (u i) .val) (after done (x .1 i) (v i)) .words) ∙ l .left-words,
+    )
 
 pub load-spec : {M : Type 1} → statement M
 load-spec =

@@ -38,9 +38,6 @@ Inv-loop f₀ w₀ s at n k₀ i₀ f w k i =
 abbrev μ-loop : tie.MeasureT-loop
 μ-loop f₀ w₀ s at n k₀ i₀ f w k i = n - i
 
-loop-holds : tie.Need-loop-holds Inv-loop μ-loop
-loop-holds c = (omega arith, refl, refl, c .before .before .before .pre .0, rw sub-zero (c .before .before .before .pre .1), rw sub-zero (c .before .before .before .pre .2), rw sub-zero refl, rw sub-zero refl)
-
 put-sound-requires : tie.Need-put-sound-requires Inv-loop μ-loop
 put-sound-requires c κs =
     let a = c .before .before .before .before .before .before .before .before .args in
@@ -76,10 +73,16 @@ loop-again c =
     let u = c .before .before .before .before .put-sound in
     let k = step-stays (l .floats) (l .words) (p .result .place) (p .result .layer) (l .inv .3) ix iy (kernel (p .result .x) (p .result .y) (p .result .z) (p .result .sigma) (p .result .w) (p .result .alpha)) {r = placed (u .result)} (u .ensures) in
     let g = u .ensures ∙ (λ j. let q = p .ensures j .val in putStep width (l .floats) (l .words) (q .0) (kernel (q .1 .0) (q .1 .1 .0) (q .1 .1 .1 .0) (q .1 .1 .1 .1 .0) (q .1 .1 .1 .1 .1 .0) (q .1 .1 .1 .1 .1 .1 .0)) (q .1 .1 .1 .1 .1 .1 .1 .0)) in
-    let m = puts-turn width v vs (l .floats) (l .words) (placed (u .result)) (u .last .0) (u .last .1 .0) g in
-    (omega arith, omega arith, omega arith, k, x .1, y .1,
+    let m = puts-turn width v vs (l .floats) (l .words) (placed (u .result)) (u .last .0) (u .last .1 .0) g in (
+      omega arith,
+      omega arith,
+      omega arith,
+      k,
+      x .1,
+      y .1,
       m .0 ∙ (λ j. putsOn width (sym e j .val) (after done (l .floats) (l .words)) .floats) ∙ l .inv .6,
-      m .1 ∙ (λ j. putsOn width (sym e j .val) (after done (l .floats) (l .words)) .words) ∙ l .inv .7)
+      m .1 ∙ (λ j. putsOn width (sym e j .val) (after done (l .floats) (l .words)) .words) ∙ l .inv .7,
+    )
 
 returns : tie.Need-returns Inv-loop μ-loop
 returns c =
@@ -95,7 +98,7 @@ load-puts-spec =
     (tie.spec
     Inv-loop
     μ-loop
-    loop-holds
+    (λ c. (omega arith, refl, refl, c .before .before .before .pre .0, rw sub-zero (c .before .before .before .pre .1), rw sub-zero (c .before .before .before .pre .2), rw sub-zero refl, rw sub-zero refl))
     (λ c κs. search needs)
     put-sound-requires
     (λ c. search needs)

@@ -1,9 +1,8 @@
-use mathlib.Core.Path.{_≡_, refl, sym, ap, subst, _∙_}
-use mathlib.Core.List.{List, [], _∷_, _++_}
-use Prim.Native.Nat.{ℕ, suc, _+_, _*_, _-_, _≤_, _<_, _%_}
+-- At each turn the bytes counted and those of the lines that are left are all. Assumes nothing.
+use mathlib.Core.Path.{_≡_, ap}
+use Prim.Native.Nat.{_+_, _*_, _-_, _≤_}
 use native.Mathlib.Omega.{arith}
 use lib.ListN.{length}
-use lib.Seq.{sets}
 use native.Mathlib.Nat.{sub-zero}
 use lib.ListN.{length-append}
 use Rattle.layout.specs.Layout.{width}
@@ -21,53 +20,8 @@ Inv-loop w n sum₀ i₀ sum i = (i ≤ n) × (sum ≤ 70 * i) × (sum + length 
 abbrev μ-loop : tie.MeasureT-loop
 μ-loop w n sum₀ i₀ sum i = n - i
 
-loop-holds : tie.Need-loop-holds Inv-loop μ-loop
-loop-holds c = (omega arith, omega arith, rw sub-zero (omega arith))
-
-mul-j : tie.Need-mul-j Inv-loop μ-loop
-mul-j c = search needs
-
-add-j : tie.Need-add-j Inv-loop μ-loop
-add-j c = search needs
-
-mul-face-length : tie.Need-mul-face-length Inv-loop μ-loop
-mul-face-length c = search needs
-
-shared-slice-read-face-length : tie.Need-shared-slice-read-face-length Inv-loop μ-loop
-shared-slice-read-face-length c = search needs
-
-add-face-length : tie.Need-add-face-length Inv-loop μ-loop
-add-face-length c = search needs
-
-mul-face-length-2 : tie.Need-mul-face-length-2 Inv-loop μ-loop
-mul-face-length-2 c = search needs
-
-shared-slice-read-face-length-2 : tie.Need-shared-slice-read-face-length-2 Inv-loop μ-loop
-shared-slice-read-face-length-2 c = search needs
-
-add-face-length-2 : tie.Need-add-face-length-2 Inv-loop μ-loop
-add-face-length-2 c = search needs
-
-mul-face-length-3 : tie.Need-mul-face-length-3 Inv-loop μ-loop
-mul-face-length-3 c = search needs
-
-shared-slice-read-face-length-3 : tie.Need-shared-slice-read-face-length-3 Inv-loop μ-loop
-shared-slice-read-face-length-3 c = search needs
-
-face-length-requires : tie.Need-face-length-requires Inv-loop μ-loop
-face-length-requires c κs = search needs
-
-add-sum : tie.Need-add-sum Inv-loop μ-loop
-add-sum c = search needs
-
-add-i : tie.Need-add-i Inv-loop μ-loop
-add-i c = search needs
-
-loop-less : tie.Need-loop-less Inv-loop μ-loop
-loop-less c = search needs
-
 loop-again : tie.Need-loop-again Inv-loop μ-loop
-loop-again c = 
+loop-again c =
     let a = c .before .before .before .before .before .before .before .args in
     let l = c .before .before .before .before .before .loop in
     let t = faceRows width (a .words .now) (a .n - (l .i + 1)) (l .i + 1) in
@@ -75,7 +29,7 @@ loop-again c =
     (omega arith, omega (arith, e .1, l .inv .1), omega (arith, e .0, l .inv .2, ap length (faces-more width (a .words .now) (a .n) (l .i) (c .before .before .before .before .loop-test .taken)), length-append (print faceLine (faceAt width (a .words .now) (l .i))) t))
 
 returns : tie.Need-returns Inv-loop μ-loop
-returns c = 
+returns c =
     let a = c .before .before .before .args in
     let l = c .before .loop in
     (omega (arith, l .inv .2, ap length (faces-none width (a .words .now) (a .n) (l .i) (c .loop-test .left))), omega (arith, l .inv .1))
@@ -86,20 +40,20 @@ faces-length-spec =
     (tie.spec
     Inv-loop
     μ-loop
-    loop-holds
-    mul-j
-    add-j
-    mul-face-length
-    shared-slice-read-face-length
-    add-face-length
-    mul-face-length-2
-    shared-slice-read-face-length-2
-    add-face-length-2
-    mul-face-length-3
-    shared-slice-read-face-length-3
-    face-length-requires
-    add-sum
-    add-i
-    loop-less
+    (λ c. (omega arith, omega arith, rw sub-zero (omega arith)))
+    (λ c. search needs)
+    (λ c. search needs)
+    (λ c. search needs)
+    (λ c. search needs)
+    (λ c. search needs)
+    (λ c. search needs)
+    (λ c. search needs)
+    (λ c. search needs)
+    (λ c. search needs)
+    (λ c. search needs)
+    (λ c κs. search needs)
+    (λ c. search needs)
+    (λ c. search needs)
+    (λ c. search needs)
     loop-again
     returns)

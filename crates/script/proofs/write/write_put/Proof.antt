@@ -47,12 +47,13 @@ returns c =
     let l2 : w2 .result ≡ w1 .result + 5 + 16 = w2 .ensures .0 in
     let l3 : w3 .result ≡ w2 .result + 9 + 16 = w3 .ensures .0 in
     let l4 : w4 .result ≡ w3 .result + 9 + decimalLength (a .layer) = w4 .ensures .0 in
-    let l5 : w5 .result ≡ w4 .result + 3 = w5 .ensures .next in
-    (omega (arith, l0, l1, l2, l3, l4, l5),
+    let l5 : w5 .result ≡ w4 .result + 3 = w5 .ensures .next in (
+      omega (arith, l0, l1, l2, l3, l4, l5),
       subst (λ (t : List ℕ). Wrote (now (a .out)) (a .at) t (w5 .result) (w5 .last .0))
-      (put-joined (decimalText (a .place)) (x k) (x (k + 1)) (x (k + 2)) (tail (n ++ bytes "))\n"))
-      ∙ (λ i. bytes "(put " ++ (decimalText (a .place) ++ (bytes " (c " ++ (x k ++ (bytes " " ++ (x (k + 1) ++ (bytes " " ++ (x (k + 2) ++ tail (sym (append-assoc n (bytes "))") (bytes "\n")) i))))))))))
-      (then (w0 .ensures .1) (then (w1 .ensures .1) (then (w2 .ensures .1) (then (w3 .ensures .1) (then (w4 .ensures .1) (w5 .ensures)))))))
+          (put-joined (decimalText (a .place)) (x k) (x (k + 1)) (x (k + 2)) (tail (n ++ bytes "))\n"))
+          ∙ (λ i. bytes "(put " ++ (decimalText (a .place) ++ (bytes " (c " ++ (x k ++ (bytes " " ++ (x (k + 1) ++ (bytes " " ++ (x (k + 2) ++ tail (sym (append-assoc n (bytes "))") (bytes "\n")) i))))))))))
+          (then (w0 .ensures .1) (then (w1 .ensures .1) (then (w2 .ensures .1) (then (w3 .ensures .1) (then (w4 .ensures .1) (w5 .ensures)))))),
+    )
 
 pub write-put-spec : {M : Type 1} → statement M
 write-put-spec =

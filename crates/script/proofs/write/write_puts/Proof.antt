@@ -1,10 +1,6 @@
-use mathlib.Core.Path.{_≡_, refl, sym, ap, subst, _∙_}
-use mathlib.Core.List.{List, [], _∷_, _++_}
-use Prim.Native.Nat.{ℕ, suc, _+_, _*_, _-_, _≤_, _<_, _%_}
+-- At each turn the lines that are left, once written, make the run that all make. Assumes nothing.
+use Prim.Native.Nat.{_+_, _-_, _≤_}
 use native.Mathlib.Omega.{arith}
-use lib.ListN.{length}
-use lib.Seq.{sets}
-use native.Mathlib.Nat.{sub-zero}
 use Rattle.script.specs.Written.{putRow, putRows}
 use Rattle.layout.specs.Layout.{width}
 use Rattle.script.specs.LineLaws.{Todo, todo-all, todo-next, todo-room, todo-done, puts-more, puts-none}
@@ -18,32 +14,20 @@ Inv-loop out₀ at f w k₀ i₀ out k i = (i ≤ 32) × Todo out₀ at (putRows
 abbrev μ-loop : tie.MeasureT-loop
 μ-loop out₀ at f w k₀ i₀ out k i = 32 - i
 
-loop-holds : tie.Need-loop-holds Inv-loop μ-loop
-loop-holds c = (omega arith, todo-all _ _ _)
-
 write-row-requires : tie.Need-write-row-requires Inv-loop μ-loop
-write-row-requires c κs = 
+write-row-requires c κs =
     let a = c .before .before .before .before .before .before .args in
     let l = c .before .before .loop in
     (todo-room (putRow width (a .floats .now) (a .words .now) (l .i)) (putRows width (a .floats .now) (a .words .now) (32 - (l .i + 1)) (l .i + 1)) (l .inv .1) (puts-more width (a .floats .now) (a .words .now) 32 (l .i) (c .before .loop-test .taken)) (c .before .before .before .before .before .before .pre .0), c .before .loop-test .taken, c .before .before .before .before .before .before .pre .1, c .before .before .before .before .before .before .pre .2)
 
-add-i : tie.Need-add-i Inv-loop μ-loop
-add-i c = search needs
-
-loop-less : tie.Need-loop-less Inv-loop μ-loop
-loop-less c = search needs
-
 loop-again : tie.Need-loop-again Inv-loop μ-loop
-loop-again c = 
+loop-again c =
     let a = c .before .before .before .before .before .before .before .before .before .args in
     let l = c .before .before .before .before .before .loop in
     (omega arith, todo-next (l .inv .1) (puts-more width (a .floats .now) (a .words .now) 32 (l .i) (c .before .before .before .before .loop-test .taken)) (c .before .before .write-row .ensures))
 
-same-length : tie.Need-same-length Inv-loop μ-loop
-same-length c = search needs
-
 returns : tie.Need-returns Inv-loop μ-loop
-returns c = 
+returns c =
     let a = c .before .before .before .before .before .args in
     let l = c .before .loop in
     todo-done (l .inv .1) (puts-none width (a .floats .now) (a .words .now) 32 (l .i) (c .loop-test .left))
@@ -54,10 +38,10 @@ write-puts-spec =
     (tie.spec
     Inv-loop
     μ-loop
-    loop-holds
+    (λ c. (omega arith, todo-all _ _ _))
     write-row-requires
-    add-i
-    loop-less
+    (λ c. search needs)
+    (λ c. search needs)
     loop-again
-    same-length
+    (λ c. search needs)
     returns)
