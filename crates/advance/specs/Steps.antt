@@ -27,8 +27,9 @@ pub record Work : Type 0 where
 abbrev pub work : List Float → ℕ → ℕ → ℕ → Work
 work fs n d b = record { floats = fs; finished = n; done = d; budget = b }
 
--- one step at a place whose `count` pieces stand from `base` on, centre c, in a mesh of m triangles t: the current piece's volume so far is
--- brought on by its next face, and its last face finishes it. Where no piece or no step is left, nothing is done
+-- one step at a place whose `count` pieces stand from `base` on, centre c, in a mesh of m triangles t: the current
+-- piece's volume so far is brought on by its next face, and its last face finishes it. Where no piece or no step is
+-- left, nothing is done
 unfoldable pub oneFace : (ℕ → Triangle) → V3 → ℕ → ℕ → ℕ → Work → Work
 oneFace t c m base count r =
     let at = base + 3 * r .finished in

@@ -20,7 +20,8 @@ pub enum Advanced {
 
 // Does up to `budget` steps of the work that is left.
 pub fn advance(floats: &mut [f64], words: &mut [u32], budget: u64) -> Advanced
-    ensures { λ r. ⌜ after (advanced r) (now (floats .exit)) (now (words .exit)) ≡ advanceStep width (now (floats .entry)) (now (words .entry)) budget ⌝ }
+    ensures { λ r. ⌜ after (advanced r) (now (floats .exit)) (now (words .exit))
+        ≡ advanceStep width (now (floats .entry)) (now (words .entry)) budget ⌝ }
 {
     match check_store(floats, words) {
         Checked::Failed(r) => Advanced::Refused(r),

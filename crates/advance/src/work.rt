@@ -47,7 +47,9 @@ fn chunk(
     k: usize,
 )
     requires { ⌜ Meshed width (now floats) (now words) verts faces ⌝ ∗ ⌜ (at + 2 < coordsFrom) × (done + k ≤ faces) ⌝ }
-    ensures { λ _. ⌜ now (floats .exit) ≡ set (now (floats .entry)) (at + 2) (volumeFrom (held width (now (floats .entry)) (now (words .entry)) verts faces) c (getD (now (floats .entry)) at nan) done (done + k) (getD (now (floats .entry)) (at + 2) nan)) ⌝ }
+    ensures { λ _. ⌜ now (floats .exit) ≡ set (now (floats .entry)) (at + 2)
+        (volumeFrom (held width (now (floats .entry)) (now (words .entry)) verts faces) c
+        (getD (now (floats .entry)) at nan) done (done + k) (getD (now (floats .entry)) (at + 2) nan)) ⌝ }
 {
     let sigma = floats[at];
     let sum = floats[at + VOLUME];
@@ -75,8 +77,12 @@ fn run_piece(
     c: V3,
     start: Ran,
 ) -> Ran
-    requires { ⌜ Meshed width (now floats) (now words) verts faces ⌝ ∗ ⌜ Ready faces i (start .finished + 1) (start .finished) (start .done) ⌝ }
-    ensures { λ r. ⌜ work (now (floats .exit)) (r .finished) (r .done) (r .budget) ≡ iterate (oneFace (held width (now (floats .entry)) (now (words .entry)) verts faces) c faces (piecesFrom i) (start .finished + 1)) (start .budget) (work (now (floats .entry)) (start .finished) (start .done) (start .budget)) ⌝ }
+    requires { ⌜ Meshed width (now floats) (now words) verts faces ⌝
+        ∗ ⌜ Ready faces i (start .finished + 1) (start .finished) (start .done) ⌝ }
+    ensures { λ r. ⌜ work (now (floats .exit)) (r .finished) (r .done) (r .budget)
+        ≡ iterate (oneFace (held width (now (floats .entry)) (now (words .entry)) verts faces) c faces (piecesFrom i)
+        (start .finished + 1)) (start .budget)
+        (work (now (floats .entry)) (start .finished) (start .done) (start .budget)) ⌝ }
 {
     let finished = start.finished;
     let done = start.done;
@@ -109,8 +115,10 @@ fn run_place(
     count: usize,
     start: Ran,
 ) -> Ran
-    requires { ⌜ Meshed width (now floats) (now words) verts faces ⌝ ∗ ⌜ Ready faces i count (start .finished) (start .done) ⌝ }
-    ensures { λ r. ⌜ work (now (floats .exit)) (r .finished) (r .done) (r .budget) ≡ iterate (oneFace (held width (now (floats .entry)) (now (words .entry)) verts faces) (centreAt (now (floats .entry)) i) faces (piecesFrom i) count) (start .budget) (work (now (floats .entry)) (start .finished) (start .done) (start .budget)) ⌝ ∗ ⌜ (r .finished ≤ count) × (r .done ≤ faces) ⌝ }
+    requires { ⌜ Meshed width (now floats) (now words) verts faces ⌝
+        ∗ ⌜ Ready faces i count (start .finished) (start .done) ⌝ }
+    ensures { λ r. ⌜ work (now (floats .exit)) (r .finished) (r .done) (r .budget)
+        ≡ iterate (oneFace (held width (now (floats .entry)) (now (words .entry)) verts faces) (centreAt (now (floats .entry)) i) faces (piecesFrom i) count) (start .budget) (work (now (floats .entry)) (start .finished) (start .done) (start .budget)) ⌝ ∗ ⌜ (r .finished ≤ count) × (r .done ≤ faces) ⌝ }
 {
     let at = KERNEL_SIZE * i;
     let c = V3 {
@@ -137,8 +145,13 @@ fn spend(
     i: usize,
     budget: usize,
 ) -> usize
-    requires { ⌜ Meshed width (now floats) (now words) verts faces ⌝ ∗ ⌜ Ready faces i (statusOf width (now words) i - 1) (finishedOf width (now words) i) (doneOf width (now words) i) ⌝ }
-    ensures { λ r. ⌜ standing (now (floats .exit)) (now (words .exit)) r ≡ stored width (now (words .entry)) i (placeWork width (held width (now (floats .entry)) (now (words .entry)) verts faces) faces i (standing (now (floats .entry)) (now (words .entry)) budget)) ⌝ }
+    requires { ⌜ Meshed width (now floats) (now words) verts faces ⌝
+        ∗ ⌜ Ready faces i (statusOf width (now words) i - 1) (finishedOf width (now words) i)
+        (doneOf width (now words) i) ⌝ }
+    ensures { λ r. ⌜ standing (now (floats .exit)) (now (words .exit)) r
+        ≡ stored width (now (words .entry)) i
+        (placeWork width (held width (now (floats .entry)) (now (words .entry)) verts faces) faces i
+        (standing (now (floats .entry)) (now (words .entry)) budget)) ⌝ }
 {
     let at = WIDTH * i;
     let count = pieces(words[STATE + at]);
@@ -171,7 +184,9 @@ pub fn run_places(
     budget: usize,
 ) -> usize
     requires { ⌜ Meshed width (now floats) (now words) verts faces ⌝ ∗ ⌜ Worded width (now words) faces ⌝ }
-    ensures { λ r. ⌜ standing (now (floats .exit)) (now (words .exit)) r ≡ placesRun width (held width (now (floats .entry)) (now (words .entry)) verts faces) faces placeLimit (standing (now (floats .entry)) (now (words .entry)) budget) ⌝ }
+    ensures { λ r. ⌜ standing (now (floats .exit)) (now (words .exit)) r
+        ≡ placesRun width (held width (now (floats .entry)) (now (words .entry)) verts faces) faces placeLimit
+        (standing (now (floats .entry)) (now (words .entry)) budget) ⌝ }
 {
     let mut rest = budget;
     let mut i: usize = 0;

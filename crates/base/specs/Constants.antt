@@ -1,5 +1,5 @@
--- The float literals of 01 and the Rust, by their bits (the form in which the code's goals have them), and for each the theorem that it is the decimal, rounded once.
--- A comment says where it is used.
+-- The float literals of 01 and the Rust, by their bits (the form in which the code's goals have them), and for each the
+-- theorem that it is the decimal, rounded once. A comment says where it is used.
 use mathlib.Core.Path.{_≡_, refl}
 use lib.Ieee.{Float, ofBits, round}
 use Rattle.base.specs.Floats.{bits, decimal}

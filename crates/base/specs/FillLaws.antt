@@ -1,5 +1,5 @@
--- A loop that sets the elements of an array of n floats in their order: what is shown of an element that is set, and what is kept of one that is not.
--- Assumes nothing.
+-- A loop that sets the elements of an array of n floats in their order: what is shown of an element that is set, and
+-- what is kept of one that is not. Assumes nothing.
 use mathlib.Core.Path.{_≡_, refl, _∙_, subst⁻¹}
 use mathlib.Core.Logic.{inl, inr}
 use mathlib.Core.List.{List}
@@ -32,12 +32,15 @@ up-to {P} {i} before last j l = elim (eq-or-lt-of-le (under l)) [
 
 module _ {n : ℕ} {P : ℕ → Float → Type 0} {first ys : List Float} {i : ℕ} {y : Float} where
   -- one more is set; what is shown of the others may become another statement that follows
-  pub fills-on : {Q : ℕ → Float → Type 0} → Filled n P first i ys → i < n → ((j : ℕ) (z : Float) → P j z → Q j z) → Q i y → Filled n Q first (i + 1) (set ys i y)
+  pub fills-on : {Q : ℕ → Float → Type 0} → Filled n P first i ys → i < n → ((j : ℕ) (z : Float) → P j z → Q j z)
+      → Q i y → Filled n Q first (i + 1) (set ys i y)
   fills-on {Q} f h on q =
       record {
         within = omega arith;
         long = length-set ys i y ∙ f .long;
-        done = up-to {P = λ (k : ℕ). Q k (getD (set ys i y) k nan)} (λ j g. subst⁻¹ (Q j) (getD-set-other ys i j y nan (ne-of-lt g)) (on j (getD ys j nan) (f .done j g))) (subst⁻¹ (Q i) (getD-set-same ys i y nan (subst⁻¹ (λ (m : ℕ). i < m) (f .long) h)) q);
+        done = up-to {P = λ (k : ℕ). Q k (getD (set ys i y) k nan)}
+            (λ j g. subst⁻¹ (Q j) (getD-set-other ys i j y nan (ne-of-lt g)) (on j (getD ys j nan) (f .done j g)))
+            (subst⁻¹ (Q i) (getD-set-same ys i y nan (subst⁻¹ (λ (m : ℕ). i < m) (f .long) h)) q);
         kept = λ j l. getD-set-other ys i j y nan (ne-of-gt (over j l)) ∙ f .kept j (lower j l);
       }
     where

@@ -1,4 +1,5 @@
--- Laws of floats that the proofs of several crates cite: NaN, the sign, the infinities as code writes them, and the cases that tests tell apart. Assumes nothing.
+-- Laws of floats that the proofs of several crates cite: NaN, the sign, the infinities as code writes them, and the
+-- cases that tests tell apart. Assumes nothing.
 use mathlib.Core.Path.{_≡_, refl, sym, ap, _∙_, subst}
 use mathlib.Core.Logic.{_⊎_, inl, inr}
 use mathlib.Core.Bool.{Bool, true, false, not, _&&_, _||_, Bool·beq, cond, true≢false, false≢true}
@@ -52,7 +53,8 @@ pub nan-above : (n : ℕ) → 0x7FF0_0000_0000_0000 < n % 0x8000_0000_0000_0000 
 nan-above n h = only-nan (ofBits binary64 n) (sym (nanBits-is binary64 n) ∙ nanBits-above binary64 n ∙ lt-ltb _ _ h)
 
 pub no-nan-at : (n : ℕ) → n % 0x8000_0000_0000_0000 ≤ 0x7FF0_0000_0000_0000 → T (not (nanBits binary64 n))
-no-nan-at n h = subst (λ (b : Bool). T (not b)) (sym (nanBits-above binary64 n)) (le→nltb 9218868437227405312 (n % 9223372036854775808) h)
+no-nan-at n h = subst (λ (b : Bool). T (not b)) (sym (nanBits-above binary64 n))
+    (le→nltb 9218868437227405312 (n % 9223372036854775808) h)
 
 pub no-nan-below : (n : ℕ) → n ≤ 9218868437227405312 → T (not (nanBits binary64 n))
 no-nan-below n h = no-nan-at n (omega arith)
@@ -76,7 +78,8 @@ unfolding odd
 odd-signed d s zero k l = refl
 odd-signed d s (suc q) k l = refl
 
-infinite-signed : (b c : Bool) (s : Bool) (y : Float) → sign y ≡ s → T (not (isNan (cond b (cond c (inf s) nan) y))) → sign (cond b (cond c (inf s) nan) y) ≡ s
+infinite-signed : (b c : Bool) (s : Bool) (y : Float) → sign y ≡ s → T (not (isNan (cond b (cond c (inf s) nan) y)))
+    → sign (cond b (cond c (inf s) nan) y) ≡ s
 unfolding isNan
 infinite-signed true true s y h n = refl
 infinite-signed true false s y h n = absurd n
@@ -85,10 +88,12 @@ infinite-signed false c s y h n = h
 fields-signed : (s : Bool) (x t : ℕ) → T (not (isNan (ofFields binary64 s x t))) → sign (ofFields binary64 s x t) ≡ s
 unfolding ofFields
 fields-signed s zero t n = odd-signed (prec binary64) s t 0 (low binary64)
-fields-signed s (suc x) t n = infinite-signed (eqb (suc x) (ones binary64)) (eqb t 0) s _ (odd-signed (prec binary64) s (hid binary64 + t) x (low binary64)) n
+fields-signed s (suc x) t n = infinite-signed (eqb (suc x) (ones binary64)) (eqb t 0) s _
+    (odd-signed (prec binary64) s (hid binary64 + t) x (low binary64)) n
 
 -- the highest bit of a float's pattern is its sign
-pub sign-bit : (x : Float) → T (fits binary64 x) → T (not (isNan x)) → leb 0x8000_0000_0000_0000 (toBits binary64 x) ≡ sign x
+pub sign-bit : (x : Float) → T (fits binary64 x) → T (not (isNan x))
+    → leb 0x8000_0000_0000_0000 (toBits binary64 x) ≡ sign x
 unfolding ofBits
 sign-bit x f n =
     let e : ofBits binary64 (toBits binary64 x) ≡ x = ofBits-toBits binary64 x f in
@@ -106,7 +111,8 @@ abs-signed (fin true m e) = refl
 abs-signed (fin false m e) = refl
 
 -- ---- a rounded fraction's sign is turned by turning the fraction's
-units-neg : (b : Bool) (s : Bool) (q k : ℕ) → neg (cond b (odd 54 s q k 1074) (inf s)) ≡ cond b (odd 54 (not s) q k 1074) (inf (not s))
+units-neg : (b : Bool) (s : Bool) (q k : ℕ)
+    → neg (cond b (odd 54 s q k 1074) (inf s)) ≡ cond b (odd 54 (not s) q k 1074) (inf (not s))
 unfolding neg odd
 units-neg true s zero k = refl
 units-neg true s (suc q) k = refl
@@ -121,7 +127,8 @@ round-neg s a b = ap neg (round-is binary64 s a b) ∙ units-negated s _ _ ∙ s
 
 -- ---- the cases that tests against zero tell apart
 nothing : (m : ℕ) (e : ℤ) → suc m * up e * 1 ≡ 0 * 1 * down e → ⊥
-nothing m e h = lt-irrefl 0 (lt-of-lt-of-le (mul-pos (mul-pos (zero-lt-suc m) (up-pos e)) (lit< tt)) (le-of-eq (h ∙ zero-mul (down e))))
+nothing m e h = lt-irrefl 0 (lt-of-lt-of-le (mul-pos (mul-pos (zero-lt-suc m) (up-pos e)) (lit< tt))
+    (le-of-eq (h ∙ zero-mul (down e))))
 
 both : (a b : Bool) → (a && b) ≡ true → T a
 both true b h = tt
@@ -138,13 +145,18 @@ unfolding eq ofBits
 is-zero nan h = absurd (false≢true h)
 is-zero (inf s) h = absurd (false≢true h)
 is-zero (fin s zero e) h = record { minus = s; place = e; same = refl }
-is-zero (fin s (suc m) e) h = absurd (nothing m e (eqb→eq (suc m * up e * 1) (0 * 1 * down e) (both (eqb (suc m * up e * 1) (0 * 1 * down e)) (Bool·beq s false || eqb (suc m * up e * 1) 0) h)))
+is-zero (fin s (suc m) e) h = absurd (nothing m e
+    (eqb→eq (suc m * up e * 1) (0 * 1 * down e)
+    (both (eqb (suc m * up e * 1) (0 * 1 * down e)) (Bool·beq s false || eqb (suc m * up e * 1) 0) h)))
 
 not-under : (a : ℕ) (e : ℤ) → ltb a (0 * 1 * down e) ≡ true → ⊥
-not-under a e h = not-le-of-lt (ltb→lt a (0 * 1 * down e) (subst T (sym h) tt)) (le-trans (le-of-eq (zero-mul (down e))) zero-le)
+not-under a e h =
+    not-le-of-lt (ltb→lt a (0 * 1 * down e) (subst T (sym h) tt)) (le-trans (le-of-eq (zero-mul (down e))) zero-le)
 
 no-zero : (e : ℤ) → ltb 0 (0 * up e * 1 + 0 * 1 * down e) ≡ true → ⊥
-no-zero e h = lt-irrefl 0 (subst (λ (n : ℕ). 0 < n) (ap (λ (n : ℕ). n * 1 + 0 * down e) (zero-mul (up e)) ∙ ap (λ (n : ℕ). 0 + n) (zero-mul (down e))) (ltb→lt 0 (0 * up e * 1 + 0 * 1 * down e) (subst T (sym h) tt)))
+no-zero e h = lt-irrefl 0 (subst (λ (n : ℕ). 0 < n)
+    (ap (λ (n : ℕ). n * 1 + 0 * down e) (zero-mul (up e)) ∙ ap (λ (n : ℕ). 0 + n) (zero-mul (down e)))
+    (ltb→lt 0 (0 * up e * 1 + 0 * 1 * down e) (subst T (sym h) tt)))
 
 -- what is below zero is the lower infinity, or finite and not zero
 pub data Below : Float → Type 0 where
@@ -161,14 +173,16 @@ is-below (fin true (suc m) e) h = finite m e
 is-below (fin false m e) h = absurd (not-under (m * up e * 1) e h)
 
 zero-equal : (s : Bool) (e : ℤ) → level s (0 * up e * 1) false (0 * 1 * down e) ≡ false → ⊥
-zero-equal s e h = true≢false (sym (ap (λ (a : ℕ). level s (a * 1) false (0 * down e)) (zero-mul (up e)) ∙ ap (λ (b : ℕ). level s 0 false b) (zero-mul (down e)) ∙ last s) ∙ h)
+zero-equal s e h = true≢false (sym (ap (λ (a : ℕ). level s (a * 1) false (0 * down e)) (zero-mul (up e)) ∙ ap
+    (λ (b : ℕ). level s 0 false b) (zero-mul (down e)) ∙ last s) ∙ h)
   where
     last : (t : Bool) → level t 0 false 0 ≡ true
     last true = refl
     last false = refl
 
 negative-below : (m : ℕ) (e : ℤ) → ltb 0 (suc m * up e * 1 + 0 * 1 * down e) ≡ false → ⊥
-negative-below m e h = not-le-of-lt (mul-pos (mul-pos (zero-lt-suc m) (up-pos e)) (lit< tt)) (le-trans (le-add (suc m * up e * 1) (0 * 1 * down e)) (none (suc m * up e * 1 + 0 * 1 * down e) h))
+negative-below m e h = not-le-of-lt (mul-pos (mul-pos (zero-lt-suc m) (up-pos e)) (lit< tt))
+    (le-trans (le-add (suc m * up e * 1) (0 * 1 * down e)) (none (suc m * up e * 1 + 0 * 1 * down e) h))
   where
     le-add : (a b : ℕ) → a ≤ a + b
     le-add a b = omega arith
@@ -177,7 +191,8 @@ negative-below m e h = not-le-of-lt (mul-pos (mul-pos (zero-lt-suc m) (up-pos e)
     none a g = nltb→le 0 a (subst (λ (b : Bool). T (not b)) (sym g) tt)
 
 -- what is left: the infinity, and what is finite and above zero
-pub the-rest : (x : Float) → ne x x ≡ false → eq x (bits 0) ≡ false → lt x (bits 0) ≡ false → (x ≡ inf false) ⊎ T (positive x)
+pub the-rest : (x : Float) → ne x x ≡ false → eq x (bits 0) ≡ false → lt x (bits 0) ≡ false
+    → (x ≡ inf false) ⊎ T (positive x)
 unfolding ne eq lt ofBits
 the-rest nan a b c = absurd (true≢false a)
 the-rest (inf true) a b c = absurd (true≢false c)
@@ -194,7 +209,8 @@ is-inf (inf true) h = absurd (false≢true h)
 is-inf (inf false) h = refl
 is-inf (fin s m e) h = absurd (false≢true h)
 
-pub is-positive : (x : Float) → ne x x ≡ false → eq x (bits 0) ≡ false → lt x (bits 0) ≡ false → eq x (inf false) ≡ false → T (positive x)
+pub is-positive : (x : Float) → ne x x ≡ false → eq x (bits 0) ≡ false → lt x (bits 0) ≡ false
+    → eq x (inf false) ≡ false → T (positive x)
 unfolding eq
 is-positive x a b c d = elim (the-rest x a b c) [
   | inl e ↦ absurd (true≢false (sym (ap (λ (y : Float). eq y (inf false)) e) ∙ d))

@@ -1,5 +1,5 @@
--- Rust's operators on f64 as IEEE 754 has them, literals by their bits, and the sign. 01: "results match bit for bit, every NaN counting as one"
--- is `≡` on `lib.Ieee`'s `Float`, which has one NaN. Definitions only.
+-- Rust's operators on f64 as IEEE 754 has them, literals by their bits, and the sign. 01: "results match bit for bit,
+-- every NaN counting as one" is `≡` on `lib.Ieee`'s `Float`, which has one NaN. Definitions only.
 use Prim.Native.Nat.{ℕ, _*_, _/_, _^_}
 use lib.IntN.{pos}
 use mathlib.Core.Bool.{Bool, false, cond}
@@ -51,7 +51,8 @@ abs nan = nan
 abs (inf s) = inf false
 abs (fin s m e) = fin false m e
 
--- Rust's `max` of an a that is no NaN and any b: a NaN is passed over. Of equal zeros it is a, which is never at stake here
+-- Rust's `max` of an a that is no NaN and any b: a NaN is passed over. Of equal zeros it is a, which is never at stake
+-- here
 unfoldable pub greater : Float → Float → Float
 greater a b = cond (lt a b) b a
 

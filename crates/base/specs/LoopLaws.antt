@@ -1,4 +1,5 @@
--- Laws of counting loops: the turns that are left, done on the state as it is, give the loop's result w. Assumes nothing.
+-- Laws of counting loops: the turns that are left, done on the state as it is, give the loop's result w. Assumes
+-- nothing.
 use mathlib.Core.Path.{_≡_, refl, ap, subst⁻¹}
 use mathlib.Core.Bool.{Bool, true, false, _&&_, and-false, and-eq-true-iff}
 use Prim.Native.Nat.{ℕ, zero, suc, _+_, _-_, _≤_, _<_}
@@ -56,7 +57,8 @@ module _ {S : Type 0} {f g : ℕ → S → S} {n : ℕ} (same : (i : ℕ) (s : S
   times-same s = same-from n 0 s (omega arith)
 
 -- ---- turns that do the same on each state that has P, and keep P
-module _ {S : Type 0} (P : S → Type 0) (f g : ℕ → S → S) (same : (i : ℕ) (s : S) → P s → f i s ≡ g i s) (keeps : (i : ℕ) (s : S) → P s → P (g i s)) where
+module _ {S : Type 0} (P : S → Type 0) (f g : ℕ → S → S) (same : (i : ℕ) (s : S) → P s → f i s ≡ g i s)
+    (keeps : (i : ℕ) (s : S) → P s → P (g i s)) where
   pub times-keeps : (k i : ℕ) (s : S) → P s → P (times g k i s)
   unfolding times
   times-keeps zero i s h = h

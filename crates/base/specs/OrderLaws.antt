@@ -1,4 +1,5 @@
--- Laws of a float's tests by `<` and `==`: a NaN is below nothing, what is equal is not below, and an absolute value is at least +0 or a NaN. Assumes nothing.
+-- Laws of a float's tests by `<` and `==`: a NaN is below nothing, what is equal is not below, and an absolute value is
+-- at least +0 or a NaN. Assumes nothing.
 use mathlib.Core.Path.{_≡_, refl}
 use mathlib.Core.Logic.{_⊎_, inl, inr}
 use mathlib.Core.Bool.{Bool, true, false, _&&_}
@@ -30,7 +31,8 @@ right false q h = cc
 level-not-below : (s : Bool) (a : ℕ) (t : Bool) (b : ℕ) → level s a t b ≡ true → below s a t b ≡ false
 level-not-below false a false b h = le-ltb a b (omega (arith, eqb-true a b (left _ _ h)))
 level-not-below false a true b h = refl
-level-not-below true a false b h = le-ltb 0 (a + b) (omega (arith, eqb-true a b (left _ _ h), eqb-true a 0 (right (eqb a b) _ h)))
+level-not-below true a false b h =
+    le-ltb 0 (a + b) (omega (arith, eqb-true a b (left _ _ h), eqb-true a 0 (right (eqb a b) _ h)))
 level-not-below true a true b h = le-ltb b a (omega (arith, eqb-true a b (left _ _ h)))
 
 pub eq-not-lt : (x y : Float) → eq x y ≡ true → lt x y ≡ false
@@ -49,4 +51,5 @@ pub abs-least : (x : Float) → (abs x ≡ nan) ⊎ (le +0 (abs x) ≡ true)
 unfolding abs le lt ofBits
 abs-least nan = inl refl
 abs-least (inf s) = inr refl
-abs-least (fin s m e) = inr (is-true _ (le-of-values +0 (fin false m e) 0 1 (m * up e) (down e) (lit< tt) (down-pos e) (refl, refl) (refl, refl) (omega (arith, zero-mul (down e)))))
+abs-least (fin s m e) = inr (is-true _ (le-of-values +0 (fin false m e) 0 1 (m * up e) (down e) (lit< tt) (down-pos e)
+    (refl, refl) (refl, refl) (omega (arith, zero-mul (down e)))))

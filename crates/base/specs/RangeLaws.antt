@@ -1,4 +1,5 @@
--- Sums, products and quotients stay between the whole numbers that the exact ones lie between, since rounding keeps the order and these numbers round to themselves. Assumes nothing.
+-- Sums, products and quotients stay between the whole numbers that the exact ones lie between, since rounding keeps the
+-- order and these numbers round to themselves. Assumes nothing.
 use mathlib.Core.Path.{_≡_, refl, sym, ap, _∙_, subst}
 use mathlib.Core.Bool.{Bool, true, false, _&&_, _||_, cond, true≢false}
 use Prim.Native.Nat.{ℕ, _+_, _*_, _^_, _≤_, _<_}
@@ -30,12 +31,15 @@ ordered p q = at-most p q (ltb p q) (eqb p q) refl refl
 
 -- n / d is the whole number a; what is at least or at most n / d is so of a
 over : (n d a p q : ℕ) → 0 < d → n * 1 ≡ a * d → n * q ≤ p * d → a * q ≤ p
-over n d a p q D e h = le-of-mul-le-mul-right (le-trans (le-of-eq (mul-right-comm a q d ∙ ap (λ (z : ℕ). z * q) (sym e ∙ mul-one n))) h) D
+over n d a p q D e h =
+    le-of-mul-le-mul-right (le-trans (le-of-eq (mul-right-comm a q d ∙ ap (λ (z : ℕ). z * q) (sym e ∙ mul-one n))) h) D
 
 under : (n d b p q : ℕ) → 0 < d → n * 1 ≡ b * d → p * d ≤ n * q → p ≤ b * q
-under n d b p q D e h = le-of-mul-le-mul-right (le-trans h (le-of-eq (ap (λ (z : ℕ). z * q) (sym (mul-one n) ∙ e) ∙ mul-right-comm b d q))) D
+under n d b p q D e h = le-of-mul-le-mul-right
+    (le-trans h (le-of-eq (ap (λ (z : ℕ). z * q) (sym (mul-one n) ∙ e) ∙ mul-right-comm b d q))) D
 
-between : (a b c d : ℕ) (lo x hi : Float) → HasValue lo false a 1 → HasValue hi false b 1 → (T (finite x) → HasValue x false c d) → T (le lo x) → T (le x hi) → Within a b x
+between : (a b c d : ℕ) (lo x hi : Float) → HasValue lo false a 1 → HasValue hi false b 1
+    → (T (finite x) → HasValue x false c d) → T (le lo x) → T (le x hi) → Within a b x
 unfolding le lt eq
 between a b c d nan x hi p q s h k = absurd p
 between a b c d (inf t) x hi p q s h k = absurd p
@@ -47,34 +51,47 @@ between a b c d (fin false n f) nan (fin false i j) p q s h k = absurd h
 between a b c d (fin false n f) (inf true) (fin false i j) p q s h k = absurd h
 between a b c d (fin false n f) (inf false) (fin false i j) p q s h k = absurd k
 between a b c d (fin false n f) (fin true m e) (fin false i j) p q s h k = absurd (true≢false (s tt .0))
-between a b c d (fin false n f) (fin false m e) (fin false i j) p q s h k = (refl, over (n * up f) (down f) a (m * up e) (down e) (down-pos f) (p .1) (ordered (n * up f * down e) (m * up e * down f) h), under (i * up j) (down j) b (m * up e) (down e) (down-pos j) (q .1) (ordered (m * up e * down j) (i * up j * down e) k))
+between a b c d (fin false n f) (fin false m e) (fin false i j) p q s h k = (
+  refl,
+  over (n * up f) (down f) a
+      (m * up e) (down e) (down-pos f) (p .1) (ordered (n * up f * down e) (m * up e * down f) h),
+  under (i * up j)
+      (down j) b (m * up e) (down e) (down-pos j) (q .1) (ordered (m * up e * down j) (i * up j * down e) k),
+)
 
 -- ---- a fraction that is rounded
-pub round-within : (a b num den : ℕ) → a ≤ 2 ^ 53 → b ≤ 2 ^ 53 → 0 < den → a * den ≤ num → num ≤ b * den → Within a b (round binary64 false num den)
+pub round-within : (a b num den : ℕ) → a ≤ 2 ^ 53 → b ≤ 2 ^ 53 → 0 < den → a * den ≤ num → num ≤ b * den
+    → Within a b (round binary64 false num den)
 round-within a b num den A B D h k =
     let x = round binary64 false num den in
-    between a b (grid binary64 num den) (2 ^ 1074) (round binary64 false a 1) x (round binary64 false b 1) (round-whole binary64 false a A) (round-whole binary64 false b B)
+    between a b (grid binary64 num den) (2 ^ 1074) (round binary64 false a 1) x (round binary64 false b 1)
+    (round-whole binary64 false a A) (round-whole binary64 false b B)
     (λ (t : T (finite x)). round-val binary64 num den (round-under binary64 num den t))
     (round-mono binary64 a 1 num den (lit< tt) D (le-trans h (le-of-eq (sym (mul-one num)))))
     (round-mono binary64 num den b 1 D (lit< tt) (le-trans (le-of-eq (mul-one num)) k))
 
 -- ---- operations
 product : (p q i j : ℕ) → p ≤ 1 * i → q ≤ 1 * j → p * q ≤ 1 * (i * j)
-product p q i j h k = le-trans (mul-le-mul h k) (le-of-eq (ap (λ (z : ℕ). z * (1 * j)) (one-mul i) ∙ ap (λ (z : ℕ). i * z) (one-mul j) ∙ sym (one-mul (i * j))))
+product p q i j h k = le-trans (mul-le-mul h k)
+    (le-of-eq (ap (λ (z : ℕ). z * (1 * j)) (one-mul i) ∙ ap (λ (z : ℕ). i * z) (one-mul j) ∙ sym (one-mul (i * j))))
 
 pub square-within : (v : Float) → Within 0 1 v → Within 0 1 (v ⊗ v)
 unfolding mul
 square-within nan h = absurd h
 square-within (inf s) h = absurd h
 square-within (fin true m e) h = absurd (true≢false (h .0))
-square-within (fin false m e) h = round-within 0 1 (m * up e * (m * up e)) (down e * down e) (omega arith) (omega arith) (mul-pos (down-pos e) (down-pos e)) (omega (arith, zero-mul (down e * down e))) (product (m * up e) (m * up e) (down e) (down e) (h .2) (h .2))
+square-within (fin false m e) h = round-within 0 1 (m * up e * (m * up e)) (down e * down e) (omega arith)
+    (omega arith) (mul-pos (down-pos e) (down-pos e)) (omega (arith, zero-mul (down e * down e)))
+    (product (m * up e) (m * up e) (down e) (down e) (h .2) (h .2))
 
 pub one-plus-within : (a b : ℕ) (x : Float) → a < 2 ^ 53 → b < 2 ^ 53 → Within a b x → Within (1 + a) (1 + b) (one ⊕ x)
 unfolding add sum ofBits
 one-plus-within a b nan A B h = absurd h
 one-plus-within a b (inf s) A B h = absurd h
 one-plus-within a b (fin true m e) A B h = absurd (true≢false (h .0))
-one-plus-within a b (fin false m e) A B h = round-within (1 + a) (1 + b) (1 * down e + m * up e * 1) (1 * down e) (omega arith) (omega arith) (one-more (down-pos e)) (more a (down e) (m * up e) (h .1)) (fewer b (down e) (m * up e) (h .2))
+one-plus-within a b (fin false m e) A B h = round-within (1 + a) (1 + b) (1 * down e + m * up e * 1) (1 * down e)
+    (omega arith) (omega arith) (one-more (down-pos e)) (more a (down e) (m * up e) (h .1))
+    (fewer b (down e) (m * up e) (h .2))
   where
     one-more : 0 < down e → 0 < 1 * down e
     one-more k = omega arith
@@ -94,9 +111,14 @@ quotient-within (fin false m e) nan h k = absurd k
 quotient-within (fin false m e) (inf s) h k = absurd k
 quotient-within (fin false m e) (fin true n d) h k = absurd (true≢false (k .0))
 quotient-within (fin false m e) (fin false n d) h k =
-    subst (Within 0 1) (sym (cond-no (eqb n 0) (cond (eqb m 0) nan (inf false)) (round binary64 false (m * up e * down d) (n * up d * down e)) (not-T (eqb n 0) (λ (t : T (eqb n 0)). lt-irrefl 0 (subst (λ (z : ℕ). 0 < z) (eqb→eq n 0 t) some)))))
-    (round-within 0 1 (m * up e * down d) (n * up d * down e) (omega arith) (omega arith) (mul-pos large (down-pos e)) (omega (arith, zero-mul (n * up d * down e)))
-    (le-trans (product (m * up e) (down d) (down e) (n * up d) (h .2) (le-trans (le-of-eq (sym (one-mul (down d)))) (le-trans (k .1) (le-of-eq (sym (one-mul (n * up d))))))) (le-of-eq (ap (λ (z : ℕ). 1 * z) (mul-comm (down e) (n * up d))))))
+    subst (Within 0 1) (sym (cond-no (eqb n 0) (cond (eqb m 0) nan (inf false))
+    (round binary64 false (m * up e * down d) (n * up d * down e))
+    (not-T (eqb n 0) (λ (t : T (eqb n 0)). lt-irrefl 0 (subst (λ (z : ℕ). 0 < z) (eqb→eq n 0 t) some)))))
+    (round-within 0 1 (m * up e * down d) (n * up d * down e) (omega arith) (omega arith) (mul-pos large (down-pos e))
+    (omega (arith, zero-mul (n * up d * down e)))
+    (le-trans (product (m * up e) (down d) (down e) (n * up d) (h .2)
+    (le-trans (le-of-eq (sym (one-mul (down d)))) (le-trans (k .1) (le-of-eq (sym (one-mul (n * up d)))))))
+    (le-of-eq (ap (λ (z : ℕ). 1 * z) (mul-comm (down e) (n * up d))))))
   where
     large : 0 < n * up d
     large = lt-of-lt-of-le (down-pos d) (le-trans (le-of-eq (sym (one-mul (down d)))) (k .1))
@@ -115,20 +137,25 @@ value-within a b n c nan v C h k = absurd v
 value-within a b n c (inf s) v C h k = absurd v
 value-within a b n c (fin s m e) v C h k = (
   v .0,
-  le-of-mul-le-mul-right (le-trans (le-of-eq (mul-right-comm a (down e) c)) (le-trans (mul-le-mul-right (down e) h) (le-of-eq (sym (v .1))))) C,
-  le-of-mul-le-mul-right (le-trans (le-of-eq (v .1)) (le-trans (mul-le-mul-right (down e) k) (le-of-eq (mul-right-comm b c (down e))))) C,
+  le-of-mul-le-mul-right (le-trans (le-of-eq (mul-right-comm a (down e) c))
+      (le-trans (mul-le-mul-right (down e) h) (le-of-eq (sym (v .1))))) C,
+  le-of-mul-le-mul-right (le-trans (le-of-eq (v .1))
+      (le-trans (mul-le-mul-right (down e) k) (le-of-eq (mul-right-comm b c (down e))))) C,
 )
 
 pub within-value : (a b n c : ℕ) (x : Float) → HasValue x false n c → Within a b x → (a * c ≤ n) × (n ≤ b * c)
 within-value a b n c nan v h = absurd v
 within-value a b n c (inf s) v h = absurd v
 within-value a b n c (fin s m e) v h = (
-  le-of-mul-le-mul-right (le-trans (le-of-eq (mul-right-comm a c (down e))) (le-trans (mul-le-mul-right c (h .1)) (le-of-eq (v .1)))) (down-pos e),
-  le-of-mul-le-mul-right (le-trans (le-of-eq (sym (v .1))) (le-trans (mul-le-mul-right c (h .2)) (le-of-eq (mul-right-comm b (down e) c)))) (down-pos e),
+  le-of-mul-le-mul-right (le-trans (le-of-eq (mul-right-comm a c (down e)))
+      (le-trans (mul-le-mul-right c (h .1)) (le-of-eq (v .1)))) (down-pos e),
+  le-of-mul-le-mul-right (le-trans (le-of-eq (sym (v .1)))
+      (le-trans (mul-le-mul-right c (h .2)) (le-of-eq (mul-right-comm b (down e) c)))) (down-pos e),
 )
 
 pub within-positive : (a b : ℕ) (x : Float) → 0 < a → Within a b x → T (positive x)
 within-positive a b nan p h = absurd h
 within-positive a b (inf s) p h = absurd h
 within-positive a b (fin true m e) p h = absurd (true≢false (h .0))
-within-positive a b (fin false m e) p h = lt→ltb 0 m (first-pos m (up e) (lt-of-lt-of-le (mul-pos p (down-pos e)) (h .1)))
+within-positive a b (fin false m e) p h =
+    lt→ltb 0 m (first-pos m (up e) (lt-of-lt-of-le (mul-pos p (down-pos e)) (h .1)))

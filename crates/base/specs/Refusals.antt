@@ -20,7 +20,8 @@ number NoPlace = 6
 number Vacant = 7
 -- left > 0, for report, or density and list by mass with target > 0
 number Unfinished = 8
--- run to be written under 6 floats per piece (or kernel) written, or a kernel list given whose length isn't a multiple of 6
+-- run to be written under 6 floats per piece (or kernel) written, or a kernel list given whose length isn't a multiple
+-- of 6
 number ShortList = 9
 -- n > 16, length not n(n+1), or answer shorter than n
 number BadMatrix = 10
@@ -28,9 +29,11 @@ number BadMatrix = 10
 number FlatPivot = 11
 -- `normalize_kernels`: some abs(alpha - 1) > 1e-9 (NaN passes)
 number Exponent = 12
--- a line of the program that is none of its forms; "also for bytes that aren't one whole opening and then puts" (02, L10)
+-- a line of the program that is none of its forms; "also for bytes that aren't one whole opening and then puts" (02,
+-- L10)
 number BadLine = 13
--- a track of more than 4,096 points, of a coordinate count that isn't a multiple of 3, or with a run that is too short (02, L1)
+-- a track of more than 4,096 points, of a coordinate count that isn't a multiple of 3, or with a run that is too short
+-- (02, L1)
 number BadTrack = 14
 -- more than 32 kernels to be billed (02, L3)
 number ManyKernels = 15

@@ -1,5 +1,5 @@
--- A float taken apart into significand and exponent. 01, "Roots and powers": "split into exponent and significand by shifts and masks; a subnormal is brought up
--- by its count of leading zeros". Definitions only.
+-- A float taken apart into significand and exponent. 01, "Roots and powers": "split into exponent and significand by
+-- shifts and masks; a subnormal is brought up by its count of leading zeros". Definitions only.
 use Prim.Native.Nat.{ℕ, _+_, _-_, _*_, _/_, _%_, _^_, _≤_, _<_}
 use mathlib.Core.Path.{_≡_}
 use mathlib.Core.Bool.{cond}

@@ -13,12 +13,14 @@ module _ {A : Type 0} (f : ℕ → A) (d : A) where
   before : (k i j : ℕ) (xs : List A) → j < i → getD (times (tableAt f) k i xs) j d ≡ getD xs j d
   unfolding times
   before zero i j xs h = refl
-  before (suc k) i j xs h = before k (suc i) j (tableAt f i xs) (omega arith) ∙ getD-set-other xs i j (f i) d (λ e. omega arith)
+  before (suc k) i j xs h =
+      before k (suc i) j (tableAt f i xs) (omega arith) ∙ getD-set-other xs i j (f i) d (λ e. omega arith)
 
   behind : (k i j : ℕ) (xs : List A) → i + k ≤ j → getD (times (tableAt f) k i xs) j d ≡ getD xs j d
   unfolding times
   behind zero i j xs h = refl
-  behind (suc k) i j xs h = behind k (suc i) j (tableAt f i xs) (omega arith) ∙ getD-set-other xs i j (f i) d (λ e. omega arith)
+  behind (suc k) i j xs h =
+      behind k (suc i) j (tableAt f i xs) (omega arith) ∙ getD-set-other xs i j (f i) d (λ e. omega arith)
 
   placed : (j k i : ℕ) (xs : List A) → j < k → i + j < length xs → getD (times (tableAt f) k i xs) (i + j) d ≡ f (i + j)
   unfolding times

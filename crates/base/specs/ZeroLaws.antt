@@ -1,5 +1,5 @@
--- Floats that are equal but for the sign of a zero. Products keep this, and a sum that is not -0 does not see it; and a sum whose first term is not -0 is
--- not -0 either. Assumes nothing.
+-- Floats that are equal but for the sign of a zero. Products keep this, and a sum that is not -0 does not see it; and a
+-- sum whose first term is not -0 is not -0 either. Assumes nothing.
 use mathlib.Core.Path.{_≡_, refl, sym, ap, subst, _∙_}
 use mathlib.Core.Logic.{_⊎_, inl, inr}
 use mathlib.Core.Bool.{Bool, true, false, not, _&&_, cond, false≢true}
@@ -63,13 +63,17 @@ module _ {x y : Float} (h : Near x y) (z : Float) where
   pub near-left : Near (x ⊗ z) (y ⊗ z)
   near-left = elim h [
     | inl e ↦ inl (ap (λ (w : Float). w ⊗ z) e)
-    | inr k ↦ subst (λ (w : Float). Near (w ⊗ z) (y ⊗ z)) (sym (k .left-is)) (subst (λ (w : Float). Near (zeroOf (k .left) ⊗ z) (w ⊗ z)) (sym (k .right-is)) (zeros-times (k .left) (k .right) z))
+    | inr k ↦ subst (λ (w : Float). Near (w ⊗ z) (y ⊗ z)) (sym (k .left-is))
+        (subst (λ (w : Float). Near (zeroOf (k .left) ⊗ z) (w ⊗ z)) (sym (k .right-is))
+        (zeros-times (k .left) (k .right) z))
   ]
 
   pub near-right : Near (z ⊗ x) (z ⊗ y)
   near-right = elim h [
     | inl e ↦ inl (ap (λ (w : Float). z ⊗ w) e)
-    | inr k ↦ subst (λ (w : Float). Near (z ⊗ w) (z ⊗ y)) (sym (k .left-is)) (subst (λ (w : Float). Near (z ⊗ zeroOf (k .left)) (z ⊗ w)) (sym (k .right-is)) (times-zeros (k .left) (k .right) z))
+    | inr k ↦ subst (λ (w : Float). Near (z ⊗ w) (z ⊗ y)) (sym (k .left-is))
+        (subst (λ (w : Float). Near (z ⊗ zeroOf (k .left)) (z ⊗ w)) (sym (k .right-is))
+        (times-zeros (k .left) (k .right) z))
   ]
 
 -- ---- a quotient of a difference, all three signs turned
@@ -82,7 +86,8 @@ zeros-over s t (fin r n d) = go (eqb n 0) refl
     some : eqb n 0 ≡ false → 0 < n
     some e = let z = eqb-false n 0 e in omega arith
 
-    go : (b : Bool) → eqb n 0 ≡ b → Near (cond b nan (round binary64 (unlike s (not r)) (0 * down d) (n * up d * 1))) (cond b nan (round binary64 (unlike t r) (0 * down d) (n * up d * 1)))
+    go : (b : Bool) → eqb n 0 ≡ b → Near (cond b nan (round binary64 (unlike s (not r)) (0 * down d) (n * up d * 1)))
+        (cond b nan (round binary64 (unlike t r) (0 * down d) (n * up d * 1)))
     go true e = inl refl
     go false e =
         let p : 0 < n * up d * 1 = mul-pos (mul-pos (some e) (up-pos d)) (lit< tt) in
@@ -102,7 +107,8 @@ turned : (x y : Float) → x ⊖ y ≡ +0 → Some (neg x ⊖ neg y)
 unfolding ofBits neg
 turned x y e = elim (sub-neg (neg x) (neg y)) [
   | inl k ↦
-      let a : x ⊖ y ≡ neg (neg x ⊖ neg y) = ap (λ (u : Float). u ⊖ y) (sym (neg-neg x)) ∙ ap (λ (u : Float). neg (neg x) ⊖ u) (sym (neg-neg y)) ∙ k in
+      let a : x ⊖ y ≡ neg (neg x ⊖ neg y) = ap (λ (u : Float). u ⊖ y) (sym (neg-neg x))
+      ∙ ap (λ (u : Float). neg (neg x) ⊖ u) (sym (neg-neg y)) ∙ k in
       record { minus = true; is = sym (neg-neg (neg x ⊖ neg y)) ∙ ap neg (sym a ∙ e) }
   | inr k ↦ record { minus = false; is = k }
 ]
@@ -113,7 +119,8 @@ quotient-near x y z = elim (sub-neg x y) [
   | inl e ↦ inl (ap (λ (w : Float). w ⊘ neg z) e ∙ div-neg-both (x ⊖ y) z)
   | inr e ↦
       let k = turned x y e in
-      subst (λ (w : Float). Near (w ⊘ neg z) ((x ⊖ y) ⊘ z)) (sym (k .is)) (subst (λ (w : Float). Near (zeroOf (k .minus) ⊘ neg z) (w ⊘ z)) (sym e) (zeros-over (k .minus) false z))
+      subst (λ (w : Float). Near (w ⊘ neg z) ((x ⊖ y) ⊘ z)) (sym (k .is))
+      (subst (λ (w : Float). Near (zeroOf (k .minus) ⊘ neg z) (w ⊘ z)) (sym e) (zeros-over (k .minus) false z))
 ]
 
 -- ---- what is -0
@@ -157,12 +164,15 @@ some-rounded : (s : Bool) (a c : ℕ) → 0 < c → c ≤ a * 2 ^ 1074 → minus
 some-rounded false a c p h = plus-rounded a c
 some-rounded true a c p h =
     ap minusZero (sym (round-neg false a c))
-    ∙ above-not (round binary64 false a c) (above-of-le (round binary64 false 1 (2 ^ 1074)) (round binary64 false a c) least (round-mono binary64 1 (2 ^ 1074) a c (pow-pos 1074) p (le-trans (le-of-eq (one-mul c)) h)))
+    ∙ above-not (round binary64 false a c)
+    (above-of-le (round binary64 false 1 (2 ^ 1074)) (round binary64 false a c) least
+    (round-mono binary64 1 (2 ^ 1074) a c (pow-pos 1074) p (le-trans (le-of-eq (one-mul c)) h)))
 
 -- ---- sums
 -- a finite value that the format holds is a whole number of its smallest
 unitsOf : (s : Bool) (m : ℕ) (e : ℤ) → T (fits binary64 (fin s m e)) → m * up e * 2 ^ 1074 ≡ m * 2 ^ shift-of e * down e
-unitsOf s zero e f = ap (λ (x : ℕ). x * 2 ^ 1074) (zero-mul (up e)) ∙ (zero-mul (2 ^ 1074) ∙ sym (ap (λ (x : ℕ). x * down e) (zero-mul (2 ^ shift-of e)) ∙ zero-mul (down e)))
+unitsOf s zero e f = ap (λ (x : ℕ). x * 2 ^ 1074) (zero-mul (up e))
+    ∙ (zero-mul (2 ^ 1074) ∙ sym (ap (λ (x : ℕ). x * down e) (zero-mul (2 ^ shift-of e)) ∙ zero-mul (down e)))
 unitsOf s (suc m) e f = units-of s m e f .value
 
 -- so two of them, over one denominator c, that differ, differ by at least the smallest
@@ -180,22 +190,26 @@ unlike-plus : (s t : Bool) (a b u v c : ℕ) → a * 2 ^ 1074 ≡ u * c → b * 
     → minusZero (cond (ltb a b) (round binary64 t (b - a) c) (round binary64 (s && ltb b a) (a - b) c)) ≡ false
 unlike-plus s t a b u v c e g p = go (ltb a b) (ltb b a) refl refl
   where
-    go : (x y : Bool) → ltb a b ≡ x → ltb b a ≡ y → minusZero (cond x (round binary64 t (b - a) c) (round binary64 (s && y) (a - b) c)) ≡ false
+    go : (x y : Bool) → ltb a b ≡ x → ltb b a ≡ y
+        → minusZero (cond x (round binary64 t (b - a) c) (round binary64 (s && y) (a - b) c)) ≡ false
     go true y k l = some-rounded t (b - a) c p (gap b a v u c (2 ^ 1074) g e (ltb-true a b k) (pow-pos 1074))
-    go false true k l = some-rounded (s && true) (a - b) c p (gap a b u v c (2 ^ 1074) e g (ltb-true b a l) (pow-pos 1074))
+    go false true k l =
+        some-rounded (s && true) (a - b) c p (gap a b u v c (2 ^ 1074) e g (ltb-true b a l) (pow-pos 1074))
     go false false k l = ap (λ (z : Bool). minusZero (round binary64 z (a - b) c)) (none s) ∙ plus-rounded (a - b) c
       where
         none : (z : Bool) → (z && false) ≡ false
         none true = refl
         none false = refl
 
-sum-plus : (s t : Bool) (a b u v c : ℕ) → a * 2 ^ 1074 ≡ u * c → b * 2 ^ 1074 ≡ v * c → 0 < c → (s ≡ true → 0 < a) → minusZero (sum binary64 s a t b c) ≡ false
+sum-plus : (s t : Bool) (a b u v c : ℕ) → a * 2 ^ 1074 ≡ u * c → b * 2 ^ 1074 ≡ v * c → 0 < c → (s ≡ true → 0 < a)
+    → minusZero (sum binary64 s a t b c) ≡ false
 unfolding sum
 sum-plus false false a b u v c e g p h = plus-rounded (a + b) c
 sum-plus true true a b u v c e g p h =
     let j : 0 < a = h refl in
     let x : a * 2 ^ 1074 ≤ (a + b) * 2 ^ 1074 = rw (add-mul a b (2 ^ 1074)) (grows (a * 2 ^ 1074) (b * 2 ^ 1074)) in
-    let y : c ≤ (a - 0) * 2 ^ 1074 = gap a 0 u 0 c (2 ^ 1074) e (zero-mul (2 ^ 1074) ∙ sym (zero-mul c)) j (pow-pos 1074) in
+    let y : c ≤ (a - 0) * 2 ^ 1074 = gap a 0 u 0 c (2 ^ 1074) e (zero-mul (2 ^ 1074) ∙ sym (zero-mul c)) j
+    (pow-pos 1074) in
     some-rounded true (a + b) c p (through c a (a + b) (2 ^ 1074) y x)
   where
     grows : (x y : ℕ) → x ≤ x + y
@@ -211,7 +225,8 @@ no-minus s zero e d h k = absurd (false≢true (sym h ∙ k))
 no-minus s (suc m) e d h k = mul-pos (mul-pos (zero-lt-suc m) (up-pos e)) (down-pos d)
 
 -- a sum of two values that the format holds is not -0 where the first is not
-pub add-plus : (x y : Float) → T (fits binary64 x) → T (fits binary64 y) → minusZero x ≡ false → minusZero (x ⊕ y) ≡ false
+pub add-plus : (x y : Float) → T (fits binary64 x) → T (fits binary64 y) → minusZero x ≡ false
+    → minusZero (x ⊕ y) ≡ false
 unfolding add
 add-plus nan y f g h = refl
 add-plus (inf s) nan f g h = refl
@@ -225,7 +240,8 @@ add-plus (fin s m e) (inf t) f g h = refl
 add-plus (fin s m e) (fin t n d) f g h =
     sum-plus s t (m * up e * down d) (n * up d * down e) (m * 2 ^ shift-of e) (n * 2 ^ shift-of d) (down e * down d)
     (over (m * up e) (down d) (2 ^ 1074) (m * 2 ^ shift-of e) (down e) (unitsOf s m e f))
-    (over (n * up d) (down e) (2 ^ 1074) (n * 2 ^ shift-of d) (down d) (unitsOf t n d g) ∙ ap (λ (z : ℕ). n * 2 ^ shift-of d * z) (mul-comm (down d) (down e)))
+    (over (n * up d) (down e) (2 ^ 1074) (n * 2 ^ shift-of d) (down d) (unitsOf t n d g)
+    ∙ ap (λ (z : ℕ). n * 2 ^ shift-of d * z) (mul-comm (down d) (down e)))
     (mul-pos (down-pos e) (down-pos d)) (no-minus s m e d h)
   where
     over : (a b k u c : ℕ) → a * k ≡ u * c → a * b * k ≡ u * (c * b)
@@ -256,7 +272,8 @@ zero-added (fin r m e) s t h =
 pub near-added : (x y z : Float) → minusZero x ≡ false → Near y z → x ⊕ y ≡ x ⊕ z
 near-added x y z h n = elim n [
   | inl e ↦ ap (λ (w : Float). x ⊕ w) e
-  | inr k ↦ ap (λ (w : Float). x ⊕ w) (k .left-is) ∙ (zero-added x (k .left) (k .right) h ∙ sym (ap (λ (w : Float). x ⊕ w) (k .right-is)))
+  | inr k ↦ ap (λ (w : Float). x ⊕ w) (k .left-is)
+      ∙ (zero-added x (k .left) (k .right) h ∙ sym (ap (λ (w : Float). x ⊕ w) (k .right-is)))
 ]
 
 -- ---- a running sum: a value of the format that is not -0, as +0 is

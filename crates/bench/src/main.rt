@@ -71,8 +71,8 @@ struct Fed {
     said: bool,
 }
 
-// The first `n` bytes of a chunk, each answer written where its line ends. After an answer that was not written none is.
-// What is held is what some bytes left of the store of zeros, and stays so.
+// The first `n` bytes of a chunk, each answer written where its line ends. After an answer that was not written none
+// is. What is held is what some bytes left of the store of zeros, and stays so.
 fn feed_chunk(
     st: State,
     chunk: &[u8; 4096],
@@ -86,10 +86,12 @@ fn feed_chunk(
 ) -> Fed
     requires { ⌜ Small (st .opening) ⌝ ∗ ⌜ n ≤ 4096 ⌝ }
     requires { ⌜ Reached
-        (heldWith (session (st .opening) (now floats) (now words) (now coords) (now corners)) (now line) (st .count)) ⌝ }
+        (heldWith (session (st .opening) (now floats) (now words) (now coords) (now corners)) (now line)
+        (st .count)) ⌝ }
     ensures { λ r. ⌜ Small (r .state .opening) ⌝ }
     ensures { λ r. ⌜ (r .said ≡ true → heldWith
-        (session (r .state .opening) (now (floats .exit)) (now (words .exit)) (now (coords .exit)) (now (corners .exit)))
+        (session (r .state .opening) (now (floats .exit)) (now (words .exit)) (now (coords .exit))
+        (now (corners .exit)))
         (now (line .exit)) (r .state .count)
         ≡ heldAfter (now (chunk .entry)) n (heldWith
         (session (st .opening) (now (floats .entry)) (now (words .entry)) (now (coords .entry)) (now (corners .entry)))
@@ -119,7 +121,8 @@ fn finish(
 )
     requires { ⌜ Small (st .opening) ⌝ }
     requires { ⌜ Reached
-        (heldWith (session (st .opening) (now floats) (now words) (now coords) (now corners)) (now line) (st .count)) ⌝ }
+        (heldWith (session (st .opening) (now floats) (now words) (now coords) (now corners)) (now line)
+        (st .count)) ⌝ }
 {
     let last = program::end(st, line, floats, words, coords, corners, out);
     say(out, last.wrote);
@@ -135,7 +138,8 @@ fn serve(
     corners: &mut [u32; 3000],
     out: &mut [u8; 512],
 )
-    requires { ⌜ heldWith (session idle (now floats) (now words) (now coords) (now corners)) (now line) 0 ≡ heldAtFirst ⌝ }
+    requires { ⌜ heldWith (session idle (now floats) (now words) (now coords) (now corners)) (now line) 0
+        ≡ heldAtFirst ⌝ }
 {
     let mut chunk = io::buffer();
     let mut st = program::start();

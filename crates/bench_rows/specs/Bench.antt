@@ -42,11 +42,13 @@ pub record BenchRows : Type 0 where
   -- "[2|4] solves to 2; [1e-18|1] is 11; [1 1|3],[1 2|5] gives 1, 2", by 02 with the smallest pivot or the flat column
   pub solve-one : solution 1 (two ∷ four ∷ []) (+0 ∷ []) ≡ outcome (accepted (two ∷ [])) (two ∷ [])
   pub solve-flat : solution 1 (flatLimit ∷ one ∷ []) (+0 ∷ []) ≡ outcome (flatAt 0) (+0 ∷ [])
-  pub solve-two : solution 2 (one ∷ one ∷ three ∷ one ∷ two ∷ five ∷ []) (+0 ∷ +0 ∷ four ∷ []) ≡ outcome (accepted (one ∷ [])) (one ∷ two ∷ four ∷ [])
+  pub solve-two : solution 2 (one ∷ one ∷ three ∷ one ∷ two ∷ five ∷ []) (+0 ∷ +0 ∷ four ∷ [])
+      ≡ outcome (accepted (one ∷ [])) (one ∷ two ∷ four ∷ [])
   -- "alpha 1.0000000005 stays": for every centre, sigma, weight and radius
   pub near-is : near ≡ decimal 10000000005 10
   pub near-stays : (c : List Float) (sigma w radius : Float)
-      → decomposed (record { c = c; sigma = sigma; w = w; alpha = near }) radius ≡ itself (record { c = c; sigma = sigma; w = w; alpha = near })
+      → decomposed (record { c = c; sigma = sigma; w = w; alpha = near }) radius
+      ≡ itself (record { c = c; sigma = sigma; w = w; alpha = near })
   -- "alpha 2 has 13 terms, 2.5 has 16"
   pub two-terms : sizeOf (delta two) .terms ≡ 13
   pub two-and-half-is : twoAndHalf ≡ decimal 25 1

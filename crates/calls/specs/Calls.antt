@@ -43,5 +43,6 @@ callOf fs ws (Put place x y z sigma w alpha) =
 callOf fs ws (Clear place) = called (clearText place) (clearStep width fs ws place)
 callOf fs ws (Reweigh place w) = called (reweighText place) (reweighStep width fs ws place w)
 callOf fs ws (Advance n) = called advanceText (advanceStep width fs ws n)
-callOf fs ws (Density v x y z) = looked fs ws (densityText (readStep width fs ws allLayers (density v (x ∷ y ∷ z ∷ [])) .reply))
+callOf fs ws (Density v x y z) =
+    looked fs ws (densityText (readStep width fs ws allLayers (density v (x ∷ y ∷ z ∷ [])) .reply))
 callOf fs ws (Report v) = looked fs ws (reportText (readStep width fs ws allLayers (report v) .reply))

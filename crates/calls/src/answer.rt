@@ -1,4 +1,5 @@
-// A call on the store, and its answer written as a line from the start of a run of 512 bytes; each answers the line's length.
+// A call on the store, and its answer written as a line from the start of a run of 512 bytes; each answers the line's
+// length.
 ghost use mathlib.Core.Path.{_≡_};
 ghost use mathlib.Core.List.{[], _∷_};
 ghost use Prim.Native.Nat.{_≤_};
@@ -72,9 +73,13 @@ pub fn answer_open(
     out: &mut [u8; 512],
 ) -> usize
     ensures { λ r. ⌜ r ≤ 256 ⌝ }
-    ensures { λ _. ⌜ now (floats .exit) ≡ openStep width (now (floats .entry)) (now (words .entry)) radius (now (xyz .entry)) (now (corners .entry)) .floats ⌝ }
-    ensures { λ _. ⌜ now (words .exit) ≡ openStep width (now (floats .entry)) (now (words .entry)) radius (now (xyz .entry)) (now (corners .entry)) .words ⌝ }
-    ensures { λ r. ⌜ Wrote (now (out .entry)) 0 (openText (openStep width (now (floats .entry)) (now (words .entry)) radius (now (xyz .entry)) (now (corners .entry)) .reply)) r (now (out .exit)) ⌝ }
+    ensures { λ _. ⌜ now (floats .exit) ≡ openStep width (now (floats .entry)) (now (words .entry)) radius
+        (now (xyz .entry)) (now (corners .entry)) .floats ⌝ }
+    ensures { λ _. ⌜ now (words .exit) ≡ openStep width (now (floats .entry)) (now (words .entry)) radius
+        (now (xyz .entry)) (now (corners .entry)) .words ⌝ }
+    ensures { λ r. ⌜ Wrote (now (out .entry)) 0
+        (openText (openStep width (now (floats .entry)) (now (words .entry)) radius (now (xyz .entry))
+        (now (corners .entry)) .reply)) r (now (out .exit)) ⌝ }
 {
     match open(floats, words, radius, xyz, corners) {
         Opened::Mesh(verts, faces) => {
@@ -96,7 +101,9 @@ pub fn answer_put(
     ensures { λ r. ⌜ r ≤ 256 ⌝ }
     ensures { λ _. ⌜ now (floats .exit) ≡ putStep width (now (floats .entry)) (now (words .entry)) place k 0 .floats ⌝ }
     ensures { λ _. ⌜ now (words .exit) ≡ putStep width (now (floats .entry)) (now (words .entry)) place k 0 .words ⌝ }
-    ensures { λ r. ⌜ Wrote (now (out .entry)) 0 (putText place (putStep width (now (floats .entry)) (now (words .entry)) place k 0 .reply)) r (now (out .exit)) ⌝ }
+    ensures { λ r. ⌜ Wrote (now (out .entry)) 0
+        (putText place (putStep width (now (floats .entry)) (now (words .entry)) place k 0 .reply)) r
+        (now (out .exit)) ⌝ }
 {
     match put(floats, words, place, k, LAYER) {
         Placed::Needs(pieces, need, _) => {
@@ -112,7 +119,9 @@ pub fn answer_clear(floats: &mut [f64], words: &mut [u32], place: u32, out: &mut
     ensures { λ r. ⌜ r ≤ 256 ⌝ }
     ensures { λ _. ⌜ now (floats .exit) ≡ clearStep width (now (floats .entry)) (now (words .entry)) place .floats ⌝ }
     ensures { λ _. ⌜ now (words .exit) ≡ clearStep width (now (floats .entry)) (now (words .entry)) place .words ⌝ }
-    ensures { λ r. ⌜ Wrote (now (out .entry)) 0 (clearText place (clearStep width (now (floats .entry)) (now (words .entry)) place .reply)) r (now (out .exit)) ⌝ }
+    ensures { λ r. ⌜ Wrote (now (out .entry)) 0
+        (clearText place (clearStep width (now (floats .entry)) (now (words .entry)) place .reply)) r
+        (now (out .exit)) ⌝ }
 {
     match clear(floats, words, place) {
         Edited::Done => {
@@ -132,9 +141,13 @@ pub fn answer_reweigh(
     out: &mut [u8; 512],
 ) -> usize
     ensures { λ r. ⌜ r ≤ 256 ⌝ }
-    ensures { λ _. ⌜ now (floats .exit) ≡ reweighStep width (now (floats .entry)) (now (words .entry)) place weight .floats ⌝ }
-    ensures { λ _. ⌜ now (words .exit) ≡ reweighStep width (now (floats .entry)) (now (words .entry)) place weight .words ⌝ }
-    ensures { λ r. ⌜ Wrote (now (out .entry)) 0 (reweighText place (reweighStep width (now (floats .entry)) (now (words .entry)) place weight .reply)) r (now (out .exit)) ⌝ }
+    ensures { λ _. ⌜ now (floats .exit) ≡ reweighStep width (now (floats .entry))
+        (now (words .entry)) place weight .floats ⌝ }
+    ensures { λ _. ⌜ now (words .exit) ≡ reweighStep width (now (floats .entry))
+        (now (words .entry)) place weight .words ⌝ }
+    ensures { λ r. ⌜ Wrote (now (out .entry)) 0
+        (reweighText place (reweighStep width (now (floats .entry)) (now (words .entry)) place weight .reply)) r
+        (now (out .exit)) ⌝ }
 {
     match reweigh(floats, words, place, weight) {
         Edited::Done => {
@@ -153,9 +166,12 @@ pub fn answer_advance(
     out: &mut [u8; 512],
 ) -> usize
     ensures { λ r. ⌜ r ≤ 256 ⌝ }
-    ensures { λ _. ⌜ now (floats .exit) ≡ advanceStep width (now (floats .entry)) (now (words .entry)) budget .floats ⌝ }
+    ensures { λ _. ⌜ now (floats .exit) ≡ advanceStep width (now (floats .entry))
+        (now (words .entry)) budget .floats ⌝ }
     ensures { λ _. ⌜ now (words .exit) ≡ advanceStep width (now (floats .entry)) (now (words .entry)) budget .words ⌝ }
-    ensures { λ r. ⌜ Wrote (now (out .entry)) 0 (advanceText (advanceStep width (now (floats .entry)) (now (words .entry)) budget .reply)) r (now (out .exit)) ⌝ }
+    ensures { λ r. ⌜ Wrote (now (out .entry)) 0
+        (advanceText (advanceStep width (now (floats .entry)) (now (words .entry)) budget .reply)) r
+        (now (out .exit)) ⌝ }
 {
     match advance(floats, words, budget) {
         Advanced::Steps { done, left } => {
@@ -175,7 +191,9 @@ pub fn answer_density(
     out: &mut [u8; 512],
 ) -> usize
     ensures { λ r. ⌜ r ≤ 256 ⌝ }
-    ensures { λ r. ⌜ Wrote (now (out .entry)) 0 (densityText (readStep width (now (floats .entry)) (now (words .entry)) allLayers (Readings.density v point) .reply)) r (now (out .exit)) ⌝ }
+    ensures { λ r. ⌜ Wrote (now (out .entry)) 0
+        (densityText (readStep width (now (floats .entry)) (now (words .entry)) allLayers
+        (Readings.density v point) .reply)) r (now (out .exit)) ⌝ }
 {
     match density(floats, words, v, ALL_LAYERS, point) {
         Measured::Value(x) => {
@@ -189,7 +207,9 @@ pub fn answer_density(
 // Reports the masses, with all sixteen layers.
 pub fn answer_report(floats: &[f64], words: &[u32], v: Convention, out: &mut [u8; 512]) -> usize
     ensures { λ r. ⌜ r ≤ 256 ⌝ }
-    ensures { λ r. ⌜ Wrote (now (out .entry)) 0 (reportText (readStep width (now (floats .entry)) (now (words .entry)) allLayers (Readings.report v) .reply)) r (now (out .exit)) ⌝ }
+    ensures { λ r. ⌜ Wrote (now (out .entry)) 0
+        (reportText (readStep width (now (floats .entry)) (now (words .entry)) allLayers (Readings.report v) .reply)) r
+        (now (out .exit)) ⌝ }
 {
     match report(floats, words, v, ALL_LAYERS) {
         Reported::Report {

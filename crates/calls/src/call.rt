@@ -17,7 +17,8 @@ pub fn call(c: Call, floats: &mut [f64], words: &mut [u32], out: &mut [u8; 512])
     ensures { λ r. ⌜ r ≤ 256 ⌝ }
     ensures { λ _. ⌜ now (floats .exit) ≡ callOf (now (floats .entry)) (now (words .entry)) c .floats ⌝ }
     ensures { λ _. ⌜ now (words .exit) ≡ callOf (now (floats .entry)) (now (words .entry)) c .words ⌝ }
-    ensures { λ r. ⌜ Wrote (now (out .entry)) 0 (callOf (now (floats .entry)) (now (words .entry)) c .text) r (now (out .exit)) ⌝ }
+    ensures { λ r. ⌜ Wrote (now (out .entry)) 0 (callOf (now (floats .entry)) (now (words .entry)) c .text) r
+        (now (out .exit)) ⌝ }
 {
     match c {
         Call::Put {

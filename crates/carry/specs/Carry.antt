@@ -1,5 +1,5 @@
--- 02, L6: "Turn an opened store of the old form into the new one, in fresh lent runs, with every kernel in layer 0." The
--- old runs are fs and ws, the new ones gs and us. Definitions only.
+-- 02, L6: "Turn an opened store of the old form into the new one, in fresh lent runs, with every kernel in layer 0."
+-- The old runs are fs and ws, the new ones gs and us. Definitions only.
 use mathlib.Core.Bool.{Bool, _&&_, cond}
 use mathlib.Core.List.{List, [], _∷_, _++_}
 use Prim.Native.Nat.{ℕ, zero, suc, _+_, _*_}
@@ -35,15 +35,16 @@ carriedRows ws (suc k) =
 abbrev pub carriedWords : List ℕ → List ℕ
 carriedWords ws = vertsOf ws ∷ facesOf ws ∷ (carriedRows ws placeLimit ++ cornersOf oldWidth ws)
 
--- ---- "Unsound and short-store refusals apply to the old runs as in 01, and 4 to new runs below L5's lengths": 4 first,
--- for the counts V and F that the old words have, whatever they are
+-- ---- "Unsound and short-store refusals apply to the old runs as in 01, and 4 to new runs below L5's lengths": 4
+-- first, for the counts V and F that the old words have, whatever they are
 
 abbrev pub roomFor : List ℕ → List Float → List ℕ → Bool
 roomFor ws gs us = leb (cornersFrom width + 3 * facesOf ws) (length us) && leb (coordsFrom + 3 * vertsOf ws) (length gs)
 
 unfoldable pub carryCheck : List Float → List ℕ → List Float → List ℕ → Checked
 carryCheck fs ws gs us =
-    cond (longEnough oldWidth fs ws && roomFor ws gs us) (cond (sound oldWidth ws) Passed (Failed Unsound)) (Failed ShortStore)
+    cond (longEnough oldWidth fs ws && roomFor ws gs us) (cond (sound oldWidth ws) Passed (Failed Unsound))
+    (Failed ShortStore)
 
 -- ---- the call: it answers V and F, as an opening does, and leaves what lies past the store in the new runs
 unfoldable pub carryStep : List Float → List ℕ → List Float → List ℕ → After

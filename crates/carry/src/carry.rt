@@ -23,7 +23,8 @@ use store::open::Opened;
 // Each place's three words, and layer 0 behind them.
 fn write_rows(words: &mut [u32], old_words: &[u32])
     requires { ⌜ (cornersFrom width ≤ length (now words)) × (cornersFrom oldWidth ≤ length (now «old_words»)) ⌝ }
-    ensures { λ _. ⌜ now (words .exit) ≡ write (now (words .entry)) (stateFrom width 0) (carriedRows (now («old_words» .entry)) placeLimit) ⌝ }
+    ensures { λ _. ⌜ now (words .exit) ≡ write (now (words .entry)) (stateFrom width 0)
+        (carriedRows (now («old_words» .entry)) placeLimit) ⌝ }
 {
     let mut i: usize = 0;
     while i < PLACES {
@@ -39,7 +40,8 @@ fn write_rows(words: &mut [u32], old_words: &[u32])
 
 // The counts, the places and the corners.
 fn write_words(words: &mut [u32], old_words: &[u32])
-    requires { ⌜ (cornersFrom width + 3 * facesOf (now «old_words») ≤ length (now words)) × (cornersFrom oldWidth + 3 * facesOf (now «old_words») ≤ length (now «old_words»)) ⌝ }
+    requires { ⌜ (cornersFrom width + 3 * facesOf (now «old_words») ≤ length (now words))
+        × (cornersFrom oldWidth + 3 * facesOf (now «old_words») ≤ length (now «old_words»)) ⌝ }
     ensures { λ _. ⌜ now (words .exit) ≡ write (now (words .entry)) 0 (carriedWords (now («old_words» .entry))) ⌝ }
 {
     words[0] = old_words[0];
@@ -49,10 +51,12 @@ fn write_words(words: &mut [u32], old_words: &[u32])
     copy_words(words, CORNERS, &old_words[OLD_CORNERS..end]);
 }
 
-// Carries a store of the old form into runs of today's form, every kernel in layer 0, and answers its vertices and faces.
+// Carries a store of the old form into runs of today's form, every kernel in layer 0, and answers its vertices and
+// faces.
 pub fn carry(old_floats: &[f64], old_words: &[u32], floats: &mut [f64], words: &mut [u32]) -> Opened
     ensures { λ r. ⌜ after (opened r) (now (floats .exit)) (now (words .exit))
-        ≡ carryStep (now («old_floats» .entry)) (now («old_words» .entry)) (now (floats .entry)) (now (words .entry)) ⌝ }
+        ≡ carryStep (now («old_floats» .entry)) (now («old_words» .entry)) (now (floats .entry))
+        (now (words .entry)) ⌝ }
 {
     match check_carry(old_floats, old_words, floats, words) {
         Checked::Failed(r) => Opened::Refused(r),

@@ -13,10 +13,11 @@ pub const OLD_WIDTH: usize = 3;
 
 pub const OLD_CORNERS: usize = 98;
 
-// Whether the old runs can be carried into the new ones: both must be long enough for the counts that the old words have,
-// whatever these are, and then the old words must be sound.
+// Whether the old runs can be carried into the new ones: both must be long enough for the counts that the old words
+// have, whatever these are, and then the old words must be sound.
 pub fn check_carry(old_floats: &[f64], old_words: &[u32], floats: &[f64], words: &[u32]) -> Checked
-    ensures { λ r. ⌜ r ≡ carryCheck (now («old_floats» .entry)) (now («old_words» .entry)) (now (floats .entry)) (now (words .entry)) ⌝ }
+    ensures { λ r. ⌜ r ≡ carryCheck (now («old_floats» .entry)) (now («old_words» .entry)) (now (floats .entry))
+        (now (words .entry)) ⌝ }
 {
     if !long_enough(old_floats, old_words, OLD_WIDTH) {
         return Checked::Failed(Refusal::ShortStore);

@@ -1,4 +1,5 @@
--- What crosses to C: of each answer its number, 01's (0 where the call is not refused), beside its values, 0 where it has none. Definitions only.
+-- What crosses to C: of each answer its number, 01's (0 where the call is not refused), beside its values, 0 where it
+-- has none. Definitions only.
 use Prim.Native.Nat.{ℕ, _+_}
 use mathlib.Core.Bool.{cond}
 use mathlib.Core.List.{List}

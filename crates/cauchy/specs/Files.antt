@@ -1,4 +1,5 @@
--- What crosses to C of a kernel file: the number and how many kernels are written, 0 where it is refused; a loader by its number. Definitions only.
+-- What crosses to C of a kernel file: the number and how many kernels are written, 0 where it is refused; a loader by
+-- its number. Definitions only.
 use Prim.Native.Nat.{ℕ}
 use mathlib.Core.Bool.{cond}
 use lib.Dec.{eqb}

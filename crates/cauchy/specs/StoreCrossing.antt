@@ -1,4 +1,5 @@
--- What crosses to C of a store's reply: 01's number, then each value, 0 where the reply has none, beside both runs. Definitions only.
+-- What crosses to C of a store's reply: 01's number, then each value, 0 where the reply has none, beside both runs.
+-- Definitions only.
 use Prim.Native.Nat.{ℕ}
 use mathlib.Core.Bool.{cond}
 use mathlib.Core.List.{List}

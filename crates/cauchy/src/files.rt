@@ -47,7 +47,9 @@ pub extern "C" fn cauchy_convert(
     loader: u32,
     out: &mut [f64],
 ) -> CauchyKernels
-    ensures { λ r. ⌜ lent r (now (out .exit)) ≡ lentFrom convertedFrom (conversion (now (lines .entry)) «default_alpha» (loaderOf loader) (now (out .entry))) ⌝ }
+    ensures { λ r. ⌜ lent r (now (out .exit))
+        ≡ lentFrom convertedFrom (conversion (now (lines .entry)) «default_alpha» (loaderOf loader)
+        (now (out .entry))) ⌝ }
 {
     converted_of(convert(lines, default_alpha, loader_of(loader), out))
 }

@@ -92,7 +92,8 @@ fn solved_of(s: Solve) -> CauchySolved
 // Solves n rows of n + 1 floats: 10 or 11.
 #[no_mangle]
 pub extern "C" fn cauchy_solve(n: usize, cells: &[f64], answer: &mut [f64]) -> CauchySolved
-    ensures { λ r. ⌜ lent r (now (answer .exit)) ≡ lentFrom solvedFrom (solution n (now (cells .entry)) (now (answer .entry))) ⌝ }
+    ensures { λ r. ⌜ lent r (now (answer .exit))
+        ≡ lentFrom solvedFrom (solution n (now (cells .entry)) (now (answer .entry))) ⌝ }
 {
     solved_of(solve_linear_system(n, cells, answer))
 }
@@ -221,7 +222,8 @@ pub extern "C" fn cauchy_decompose_list(
     radius: f64,
     out: &mut [f64],
 ) -> CauchyListPieces
-    ensures { λ r. ⌜ lent r (now (out .exit)) ≡ lentFrom listPiecesFrom (listDecomposition (now (kernels .entry)) radius (now (out .entry))) ⌝ }
+    ensures { λ r. ⌜ lent r (now (out .exit))
+        ≡ lentFrom listPiecesFrom (listDecomposition (now (kernels .entry)) radius (now (out .entry))) ⌝ }
 {
     list_pieces_of(decompose_list(kernels, radius, out))
 }

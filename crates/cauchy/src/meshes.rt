@@ -1,4 +1,5 @@
-// Whether a mesh is closed, for C callers. It crosses as a run of coordinates and a run of corners, which are only read.
+// Whether a mesh is closed, for C callers. It crosses as a run of coordinates and a run of corners, which are only
+// read.
 ghost use mathlib.Core.Path.{_≡_};
 ghost use mathlib.Core.List.{[]};
 ghost use lib.ListN.{length};

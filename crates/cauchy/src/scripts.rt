@@ -44,7 +44,8 @@ fn loaded_of(d: Loaded) -> CauchyLoaded
 // Writes a store as lines of text: 4, 5 or 19. Bytes past them stay.
 #[no_mangle]
 pub extern "C" fn cauchy_store_write(floats: &[f64], words: &[u32], bytes: &mut [u8]) -> CauchyBytes
-    ensures { λ r. ⌜ lent r (now (bytes .exit)) ≡ printedFrom (writeStep width (now (floats .entry)) (now (words .entry)) (now (bytes .entry))) ⌝ }
+    ensures { λ r. ⌜ lent r (now (bytes .exit))
+        ≡ printedFrom (writeStep width (now (floats .entry)) (now (words .entry)) (now (bytes .entry))) ⌝ }
 {
     bytes_of(write_store(floats, words, bytes))
 }
@@ -57,7 +58,8 @@ pub extern "C" fn cauchy_store_read(
     words: &mut [u32],
     bytes: &[u8],
 ) -> CauchyLoaded
-    ensures { λ r. ⌜ crossed r (now (floats .exit)) (now (words .exit)) ≡ across loadedFrom (loadStep width (now (floats .entry)) (now (words .entry)) (now (bytes .entry))) ⌝ }
+    ensures { λ r. ⌜ crossed r (now (floats .exit)) (now (words .exit))
+        ≡ across loadedFrom (loadStep width (now (floats .entry)) (now (words .entry)) (now (bytes .entry))) ⌝ }
 {
     loaded_of(read_store(floats, words, bytes))
 }

@@ -82,7 +82,9 @@ pub extern "C" fn cauchy_source_normalize(
     target: f64,
     out: &mut [f64],
 ) -> CauchyKernels
-    ensures { λ r. ⌜ lent r (now (out .exit)) ≡ lentFrom (kernelsFrom (length (now (kernels .entry)) / 6)) (normalized (now (xyz .entry)) (now (faces .entry)) (now (kernels .entry)) target (now (out .entry))) ⌝ }
+    ensures { λ r. ⌜ lent r (now (out .exit))
+        ≡ lentFrom (kernelsFrom (length (now (kernels .entry)) / 6))
+        (normalized (now (xyz .entry)) (now (faces .entry)) (now (kernels .entry)) target (now (out .entry))) ⌝ }
 {
     let outcome = normalize_kernels(xyz, faces, kernels, target, out);
     kernels_of(outcome, kernels.len() / 6)
@@ -109,7 +111,10 @@ pub extern "C" fn cauchy_source_calibrate(
     given: u32,
     out: &mut [f64],
 ) -> CauchyKernels
-    ensures { λ r. ⌜ lent r (now (out .exit)) ≡ lentFrom (kernelsFrom (length (now (kernels .entry)) / 6)) (calibrated (now (xyz .entry)) (now (faces .entry)) (now (kernels .entry)) (meanOf given mean) total (now (out .entry))) ⌝ }
+    ensures { λ r. ⌜ lent r (now (out .exit))
+        ≡ lentFrom (kernelsFrom (length (now (kernels .entry)) / 6))
+        (calibrated (now (xyz .entry)) (now (faces .entry)) (now (kernels .entry)) (meanOf given mean) total
+        (now (out .entry))) ⌝ }
 {
     let outcome = calibrate_kernels(xyz, faces, kernels, mean_of(given, mean), total, out);
     kernels_of(outcome, kernels.len() / 6)

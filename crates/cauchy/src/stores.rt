@@ -124,7 +124,9 @@ pub extern "C" fn cauchy_store_open(
     xyz: &[f64],
     faces: &[u32],
 ) -> CauchyOpened
-    ensures { λ r. ⌜ crossed r (now (floats .exit)) (now (words .exit)) ≡ across openedFrom (openStep width (now (floats .entry)) (now (words .entry)) radius (now (xyz .entry)) (now (faces .entry))) ⌝ }
+    ensures { λ r. ⌜ crossed r (now (floats .exit)) (now (words .exit))
+        ≡ across openedFrom (openStep width (now (floats .entry)) (now (words .entry)) radius (now (xyz .entry))
+        (now (faces .entry))) ⌝ }
 {
     opened_of(open(floats, words, radius, xyz, faces))
 }
@@ -139,7 +141,9 @@ pub extern "C" fn cauchy_store_carry(
     floats: &mut [f64],
     words: &mut [u32],
 ) -> CauchyOpened
-    ensures { λ r. ⌜ crossed r (now (floats .exit)) (now (words .exit)) ≡ across openedFrom (carryStep (now («old_floats» .entry)) (now («old_words» .entry)) (now (floats .entry)) (now (words .entry))) ⌝ }
+    ensures { λ r. ⌜ crossed r (now (floats .exit)) (now (words .exit))
+        ≡ across openedFrom (carryStep (now («old_floats» .entry)) (now («old_words» .entry)) (now (floats .entry))
+        (now (words .entry))) ⌝ }
 {
     opened_of(carry(old_floats, old_words, floats, words))
 }
@@ -175,7 +179,8 @@ pub extern "C" fn cauchy_store_put(
     k: Kernel,
     layer: u32,
 ) -> CauchyPlaced
-    ensures { λ r. ⌜ crossed r (now (floats .exit)) (now (words .exit)) ≡ across placedFrom (putStep width (now (floats .entry)) (now (words .entry)) place k layer) ⌝ }
+    ensures { λ r. ⌜ crossed r (now (floats .exit)) (now (words .exit))
+        ≡ across placedFrom (putStep width (now (floats .entry)) (now (words .entry)) place k layer) ⌝ }
 {
     placed_of(put(floats, words, place, k, layer))
 }
@@ -192,7 +197,8 @@ fn edit_number(e: Edited) -> u32
 // Empties a place; answers 0, 4, 5, 6 or 7.
 #[no_mangle]
 pub extern "C" fn cauchy_store_clear(floats: &mut [f64], words: &mut [u32], place: u32) -> u32
-    ensures { λ r. ⌜ crossed r (now (floats .exit)) (now (words .exit)) ≡ across numberFrom (clearStep width (now (floats .entry)) (now (words .entry)) place) ⌝ }
+    ensures { λ r. ⌜ crossed r (now (floats .exit)) (now (words .exit))
+        ≡ across numberFrom (clearStep width (now (floats .entry)) (now (words .entry)) place) ⌝ }
 {
     edit_number(clear(floats, words, place))
 }
@@ -205,7 +211,8 @@ pub extern "C" fn cauchy_store_reweigh(
     place: u32,
     w: f64,
 ) -> u32
-    ensures { λ r. ⌜ crossed r (now (floats .exit)) (now (words .exit)) ≡ across numberFrom (reweighStep width (now (floats .entry)) (now (words .entry)) place w) ⌝ }
+    ensures { λ r. ⌜ crossed r (now (floats .exit)) (now (words .exit))
+        ≡ across numberFrom (reweighStep width (now (floats .entry)) (now (words .entry)) place w) ⌝ }
 {
     edit_number(reweigh(floats, words, place, w))
 }
@@ -225,7 +232,8 @@ fn squeezed_of(s: Squeezed) -> CauchySqueezed
 // Squeezes the vertices that no face uses out of a store: 4 or 5.
 #[no_mangle]
 pub extern "C" fn cauchy_store_squeeze(floats: &mut [f64], words: &mut [u32]) -> CauchySqueezed
-    ensures { λ r. ⌜ crossed r (now (floats .exit)) (now (words .exit)) ≡ across squeezedFrom (squeezeStep width (now (floats .entry)) (now (words .entry))) ⌝ }
+    ensures { λ r. ⌜ crossed r (now (floats .exit)) (now (words .exit))
+        ≡ across squeezedFrom (squeezeStep width (now (floats .entry)) (now (words .entry))) ⌝ }
 {
     squeezed_of(squeeze(floats, words))
 }
@@ -251,7 +259,8 @@ pub extern "C" fn cauchy_store_advance(
     words: &mut [u32],
     budget: u64,
 ) -> CauchySteps
-    ensures { λ r. ⌜ crossed r (now (floats .exit)) (now (words .exit)) ≡ across stepsFrom (advanceStep width (now (floats .entry)) (now (words .entry)) budget) ⌝ }
+    ensures { λ r. ⌜ crossed r (now (floats .exit)) (now (words .exit))
+        ≡ across stepsFrom (advanceStep width (now (floats .entry)) (now (words .entry)) budget) ⌝ }
 {
     steps_of(advance(floats, words, budget))
 }
@@ -330,7 +339,8 @@ pub extern "C" fn cauchy_store_density(
     layers: u32,
     point: V3,
 ) -> CauchyValue
-    ensures { λ r. ⌜ r ≡ valueFrom (readStep width (now (floats .entry)) (now (words .entry)) layers (Readings.density (conventionOf convention) (pointValues point)) .reply) ⌝ }
+    ensures { λ r. ⌜ r ≡ valueFrom (readStep width (now (floats .entry)) (now (words .entry)) layers
+        (Readings.density (conventionOf convention) (pointValues point)) .reply) ⌝ }
 {
     value_of(density(
         floats,
@@ -378,7 +388,8 @@ pub extern "C" fn cauchy_store_report(
     convention: CauchyConvention,
     layers: u32,
 ) -> CauchyStoreReport
-    ensures { λ r. ⌜ r ≡ reportFrom (readStep width (now (floats .entry)) (now (words .entry)) layers (Readings.report (conventionOf convention)) .reply) ⌝ }
+    ensures { λ r. ⌜ r ≡ reportFrom (readStep width (now (floats .entry)) (now (words .entry)) layers
+        (Readings.report (conventionOf convention)) .reply) ⌝ }
 {
     report_of(report(floats, words, convention_of(convention), layers))
 }
@@ -423,7 +434,8 @@ pub extern "C" fn cauchy_store_finished(
     convention: CauchyConvention,
     layers: u32,
 ) -> CauchyFinished
-    ensures { λ r. ⌜ r ≡ finishedFrom (finishedStep width (now (floats .entry)) (now (words .entry)) layers (conventionOf convention)) ⌝ }
+    ensures { λ r. ⌜ r ≡ finishedFrom (finishedStep width (now (floats .entry)) (now (words .entry)) layers
+        (conventionOf convention)) ⌝ }
 {
     finished_of(finished(floats, words, convention_of(convention), layers))
 }
@@ -450,7 +462,9 @@ pub extern "C" fn cauchy_store_list(
     layers: u32,
     out: &mut [f64],
 ) -> CauchyListed
-    ensures { λ r. ⌜ lent r (now (out .exit)) ≡ lentFrom listedFrom (readStep width (now (floats .entry)) (now (words .entry)) layers (Readings.list (conventionOf convention) (now (out .entry)))) ⌝ }
+    ensures { λ r. ⌜ lent r (now (out .exit))
+        ≡ lentFrom listedFrom (readStep width (now (floats .entry)) (now (words .entry)) layers
+        (Readings.list (conventionOf convention) (now (out .entry)))) ⌝ }
 {
     listed_of(list(floats, words, convention_of(convention), layers, out))
 }
@@ -478,7 +492,9 @@ pub extern "C" fn cauchy_store_track(
     points: &[f64],
     out: &mut [f64],
 ) -> CauchyTrack
-    ensures { λ r. ⌜ lent r (now (out .exit)) ≡ lentFrom trackFrom (readStep width (now (floats .entry)) (now (words .entry)) layers (Readings.track (conventionOf convention) (now (points .entry)) (now (out .entry)))) ⌝ }
+    ensures { λ r. ⌜ lent r (now (out .exit))
+        ≡ lentFrom trackFrom (readStep width (now (floats .entry)) (now (words .entry)) layers
+        (Readings.track (conventionOf convention) (now (points .entry)) (now (out .entry)))) ⌝ }
 {
     track_of(track(
         floats,
@@ -505,7 +521,8 @@ pub fn bytes_of(d: Printed) -> CauchyBytes
 // Writes the wall page of a store with no work left: 4, 5, 8, 17 or 18. Bytes of `out` past it stay.
 #[no_mangle]
 pub extern "C" fn cauchy_store_page(floats: &[f64], words: &[u32], out: &mut [u8]) -> CauchyBytes
-    ensures { λ r. ⌜ lent r (now (out .exit)) ≡ printedFrom (pageStep width (now (floats .entry)) (now (words .entry)) (now (out .entry))) ⌝ }
+    ensures { λ r. ⌜ lent r (now (out .exit))
+        ≡ printedFrom (pageStep width (now (floats .entry)) (now (words .entry)) (now (out .entry))) ⌝ }
 {
     bytes_of(page(floats, words, out))
 }

@@ -50,10 +50,12 @@ unfoldable pub each : (Edge → Bool) → List Edge → Bool
 each p [] = true
 each p (e ∷ es) = p e && each p es
 
--- "A mesh passes exactly when no face names a corner twice and each directed edge of a face occurs once over all faces, with its reverse also once."
+-- "A mesh passes exactly when no face names a corner twice and each directed edge of a face occurs once over all faces,
+-- with its reverse also once."
 unfoldable pub passes : List ℕ → Bool
 passes corners = distinctCorners corners && each (once (edges corners)) (edges corners)
 
 -- "1, 2 and 3 apply first; 22 when a mesh doesn't pass"
 unfoldable pub closedCheck : ℕ → List ℕ → Checked
-closedCheck coordinates corners = andThen (meshCheck coordinates corners) (cond (passes corners) Passed (Failed Unclosed))
+closedCheck coordinates corners =
+    andThen (meshCheck coordinates corners) (cond (passes corners) Passed (Failed Unclosed))

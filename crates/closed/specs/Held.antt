@@ -38,7 +38,8 @@ pub record Put (low end x : ℕ) (xs : List ℕ) (m : ℕ) (ys : List ℕ) (n : 
 pub record Faced (low end x y z : ℕ) (xs : List ℕ) (m : ℕ) (ys : List ℕ) (n : ℕ) : Type 0 where
   pub more : n ≤ m + 3
   pub long : length ys ≡ length xs
-  pub same : (c : ℕ) → low ≤ c → c < end → copies c ys n ≡ copies c xs m + (is (code x y) c + is (code y z) c + is (code z x) c)
+  pub same : (c : ℕ) → low ≤ c → c < end
+      → copies c ys n ≡ copies c xs m + (is (code x y) c + is (code y z) c + is (code z x) c)
   pub within : Within low end xs m → Within low end ys n
 
 -- none of the corners from .. to - 1 is one of first .. last

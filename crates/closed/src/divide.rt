@@ -12,7 +12,8 @@ use crate::ranges::push;
 // The numbers of every 103rd face, put into words; answers how many there are.
 fn sample(corners: &[u32], words: &mut [u64]) -> usize
     requires { ⌜ (length (now corners) ≤ 6291456) × (length (now words) ≡ 61440) ⌝ }
-    ensures { λ r. ⌜ (r ≤ 61440) × (length (now (words .exit)) ≡ 61440) × Within 0 2199023255552 (now (words .exit)) r ⌝ }
+    ensures { λ r. ⌜ (r ≤ 61440) × (length (now (words .exit)) ≡ 61440)
+        × Within 0 2199023255552 (now (words .exit)) r ⌝ }
 {
     let mut n: usize = 0;
     let mut face: usize = 0;

@@ -55,8 +55,11 @@ pub fn put_at(
     low: u64,
     end: u64,
 ) -> usize
-    requires { ⌜ (3 * face + 3 ≤ length (now corners)) × (length (now corners) ≤ 6291456) × (n + 3 ≤ length (now words)) × (low ≤ 1099511627776) × (end ≤ 1099511627776) ⌝ }
-    ensures { λ r. ⌜ Faced (2 * low) (2 * end) (getD (now (corners .entry)) (3 * face) 0) (getD (now (corners .entry)) (3 * face + 1) 0) (getD (now (corners .entry)) (3 * face + 2) 0) (now (words .entry)) n (now (words .exit)) r ⌝ }
+    requires { ⌜ (3 * face + 3 ≤ length (now corners)) × (length (now corners) ≤ 6291456)
+        × (n + 3 ≤ length (now words)) × (low ≤ 1099511627776) × (end ≤ 1099511627776) ⌝ }
+    ensures { λ r. ⌜ Faced (2 * low) (2 * end) (getD (now (corners .entry)) (3 * face) 0)
+        (getD (now (corners .entry)) (3 * face + 1) 0) (getD (now (corners .entry)) (3 * face + 2) 0)
+        (now (words .entry)) n (now (words .exit)) r ⌝ }
 {
     let i = 3 * face;
     let x = corners[i];
@@ -102,7 +105,9 @@ fn make_room(
     ends: &mut [u64; 384],
 ) -> Batch
     requires { ⌜ faces ≤ 256 ⌝ ∗ ⌜ Sound low batch (now words) ⌝ }
-    ensures { λ r. ⌜ (r .count + 3 * faces ≤ 61440) × (r .end ≤ batch .end) × ((ks : List ℕ) (i : ℕ) → Gathered ks low batch (now (words .entry)) i → Gathered ks low r (now (words .exit)) i) ⌝ }
+    ensures { λ r. ⌜ (r .count + 3 * faces ≤ 61440) × (r .end ≤ batch .end)
+        × ((ks : List ℕ) (i : ℕ) → Gathered ks low batch (now (words .entry)) i
+        → Gathered ks low r (now (words .exit)) i) ⌝ }
 {
     if batch.count + 3 * faces <= 61440 {
         return batch;
@@ -122,8 +127,11 @@ fn take_stretch(
     ends: &mut [u64; 384],
     list: &mut [usize],
 ) -> Batch
-    requires { ⌜ (faces ≤ 256) × (length (now list) ≡ 256) × (3 * (from + faces) ≤ length (now corners)) × (length (now corners) ≤ 6291456) ⌝ ∗ ⌜ Below 1048576 (now corners) ⌝ ∗ ⌜ Gathered (now corners) low batch (now words) (3 * from) ⌝ }
-    ensures { λ r. ⌜ (r .end ≤ batch .end) × Gathered (now (corners .entry)) low r (now (words .exit)) (3 * (from + faces)) ⌝ }
+    requires { ⌜ (faces ≤ 256) × (length (now list) ≡ 256) × (3 * (from + faces) ≤ length (now corners))
+        × (length (now corners) ≤ 6291456) ⌝ ∗ ⌜ Below 1048576 (now corners) ⌝
+        ∗ ⌜ Gathered (now corners) low batch (now words) (3 * from) ⌝ }
+    ensures { λ r. ⌜ (r .end ≤ batch .end)
+        × Gathered (now (corners .entry)) low r (now (words .exit)) (3 * (from + faces)) ⌝ }
 {
     let first = (low / 1_048_576) as u32;
     let last = (batch.end / 1_048_576) as u32;
@@ -151,8 +159,10 @@ pub fn gather(
     words: &mut [u64],
     ends: &mut [u64; 384],
 ) -> Batch
-    requires { ⌜ length (now corners) ≤ 6291456 ⌝ ∗ ⌜ Below 1048576 (now corners) ⌝ ∗ ⌜ Gathered (now corners) low empty (now words) 0 ⌝ }
-    ensures { λ r. ⌜ (r .end ≤ empty .end) × Gathered (now (corners .entry)) low r (now (words .exit)) (length (now (corners .entry))) ⌝ }
+    requires { ⌜ length (now corners) ≤ 6291456 ⌝ ∗ ⌜ Below 1048576 (now corners) ⌝
+        ∗ ⌜ Gathered (now corners) low empty (now words) 0 ⌝ }
+    ensures { λ r. ⌜ (r .end ≤ empty .end)
+        × Gathered (now (corners .entry)) low r (now (words .exit)) (length (now (corners .entry))) ⌝ }
 {
     let faces = corners.len() / 3;
     let mut list = [0usize; 256];

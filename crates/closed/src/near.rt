@@ -43,8 +43,10 @@ fn near_blocks(
     last: u32,
     list: &mut [usize],
 ) -> usize
-    requires { ⌜ (blocks ≤ 32) × (length (now list) ≡ 32) × (3 * (from + 8 * blocks) ≤ length (now corners)) × (length (now corners) ≤ 6291456) ⌝ }
-    ensures { λ r. ⌜ (r ≤ blocks) × Listed (now (corners .entry)) first last 8 from (from + 8 * blocks) (now (list .exit)) r ⌝ }
+    requires { ⌜ (blocks ≤ 32) × (length (now list) ≡ 32) × (3 * (from + 8 * blocks) ≤ length (now corners))
+        × (length (now corners) ≤ 6291456) ⌝ }
+    ensures { λ r. ⌜ (r ≤ blocks) × Listed (now (corners .entry)) first last 8 from (from + 8 * blocks)
+        (now (list .exit)) r ⌝ }
 {
     let mut m: usize = 0;
     let mut face = from;
@@ -68,8 +70,11 @@ fn near_faces(
     list: &mut [usize],
     m: usize,
 ) -> usize
-    requires { ⌜ (m + faces ≤ 256) × (length (now list) ≡ 256) × (3 * (from + faces) ≤ length (now corners)) × (length (now corners) ≤ 6291456) ⌝ }
-    ensures { λ r. ⌜ (r ≤ m + faces) × ((b : ℕ) → Listed (now (corners .entry)) first last 1 b from (now (list .entry)) m → Listed (now (corners .entry)) first last 1 b (from + faces) (now (list .exit)) r) ⌝ }
+    requires { ⌜ (m + faces ≤ 256) × (length (now list) ≡ 256) × (3 * (from + faces) ≤ length (now corners))
+        × (length (now corners) ≤ 6291456) ⌝ }
+    ensures { λ r. ⌜ (r ≤ m + faces) × ((b : ℕ)
+        → Listed (now (corners .entry)) first last 1 b from (now (list .entry)) m
+        → Listed (now (corners .entry)) first last 1 b (from + faces) (now (list .exit)) r) ⌝ }
 {
     let mut n = m;
     let mut face = from;
@@ -92,8 +97,10 @@ pub fn list_near(
     last: u32,
     list: &mut [usize],
 ) -> usize
-    requires { ⌜ (faces ≤ 256) × (length (now list) ≡ 256) × (3 * (from + faces) ≤ length (now corners)) × (length (now corners) ≤ 6291456) ⌝ }
-    ensures { λ r. ⌜ (r ≤ faces) × Listed (now (corners .entry)) first last 1 from (from + faces) (now (list .exit)) r ⌝ }
+    requires { ⌜ (faces ≤ 256) × (length (now list) ≡ 256) × (3 * (from + faces) ≤ length (now corners))
+        × (length (now corners) ≤ 6291456) ⌝ }
+    ensures { λ r. ⌜ (r ≤ faces) × Listed (now (corners .entry)) first last 1 from (from + faces)
+        (now (list .exit)) r ⌝ }
 {
     let mut blocks = [0usize; 32];
     let near = near_blocks(corners, from, faces / 8, first, last, &mut blocks);

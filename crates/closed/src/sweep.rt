@@ -1,9 +1,9 @@
 // The numbers of all faces, range by range: each range is gathered, put in order and looked through for a number
 // without its partner.
 //
-// How long it takes is no matter of luck. A batch is halved only where the near ones of 256 faces more might not fit, and
-// the end that it loses is listed: so each halving leaves some 30,300 numbers on either side of an end that stays, and
-// there are about 208 of them at most, whatever the mesh. With at most 117 ends of the sample that makes some 325
+// How long it takes is no matter of luck. A batch is halved only where the near ones of 256 faces more might not fit,
+// and the end that it loses is listed: so each halving leaves some 30,300 numbers on either side of an end that stays,
+// and there are about 208 of them at most, whatever the mesh. With at most 117 ends of the sample that makes some 325
 // passes over the faces at most.
 // Internal: a function with a `requires` is called by proved code alone.
 ghost use mathlib.Core.Path.{_≡_};
@@ -20,7 +20,8 @@ use crate::ranges::next_range;
 // How many of the n words, which are in order, are whole pairs 2k, 2k + 1 from the first on.
 fn paired(words: &[u64], n: usize) -> usize
     requires { ⌜ n ≤ length (now words) ⌝ ∗ ⌜ Rising (now words) 0 n ⌝ }
-    ensures { λ r. ⌜ (r ≤ n) × (r ≡ n → Paired (now (words .entry)) n) × (r < n → Unpaired (now (words .entry)) n (getD (now (words .entry)) r 0)) ⌝ }
+    ensures { λ r. ⌜ (r ≤ n) × (r ≡ n → Paired (now (words .entry)) n)
+        × (r < n → Unpaired (now (words .entry)) n (getD (now (words .entry)) r 0)) ⌝ }
 {
     let mut i: usize = 0;
     while i + 1 < n {
@@ -40,7 +41,8 @@ fn paired(words: &[u64], n: usize) -> usize
 // Whether of the numbers whose k is below `top` each is there once, with its partner.
 pub fn sweep(corners: &[u32], top: u64) -> bool
     requires { ⌜ (length (now corners) ≤ 6291456) × (top ≤ 1099511627776) ⌝ ∗ ⌜ Below 1048576 (now corners) ⌝ }
-    ensures { λ r. ⌜ (r ≡ true → Matched (now (corners .entry)) top) × (r ≡ false → Unmatched (now (corners .entry))) ⌝ }
+    ensures { λ r. ⌜ (r ≡ true → Matched (now (corners .entry)) top)
+        × (r ≡ false → Unmatched (now (corners .entry))) ⌝ }
 {
     let mut words = [0u64; 61440];
     let mut ends = [0u64; 384];

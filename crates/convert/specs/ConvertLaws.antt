@@ -1,4 +1,5 @@
--- Theorems of the converter: the strict form "accepts exactly the lists on which both give equal kernels", there all three write the same, and a list whose exponents are above 0 is one of them. Assumes nothing.
+-- Theorems of the converter: the strict form "accepts exactly the lists on which both give equal kernels", there all
+-- three write the same, and a list whose exponents are above 0 is one of them. Assumes nothing.
 use mathlib.Core.Path.{_≡_, refl, sym, ap, _∙_}
 use mathlib.Core.Bool.{Bool, true, false, cond, and-eq-true-iff}
 use mathlib.Core.List.{List, [], _∷_, map}
@@ -33,7 +34,8 @@ same-self x = eq-eqb (toBits binary64 x) (toBits binary64 x) refl
 
 same-is : (x y : Float) → T (fits binary64 x) → T (fits binary64 y) → sameFloat x y ≡ true → x ≡ y
 same-is x y f g h =
-    sym (ofBits-toBits binary64 x f) ∙ ap (ofBits binary64) (eqb-true (toBits binary64 x) (toBits binary64 y) h) ∙ ofBits-toBits binary64 y g
+    sym (ofBits-toBits binary64 x f) ∙ ap (ofBits binary64) (eqb-true (toBits binary64 x) (toBits binary64 y) h)
+    ∙ ofBits-toBits binary64 y g
 
 -- a given exponent is of the format
 abbrev pub Formed : Exponent → Type 0
@@ -57,20 +59,24 @@ given-fits Missing d f g = g
 -- ---- one line
 
 -- both loaders' kernels differ in the exponent alone
-by-exponent : (d : Float) (f : FileKernel) → exponentOr (f .exponent) d ≡ givenOr (f .exponent) d → nativeOf d f ≡ sourceOf d f
+by-exponent : (d : Float) (f : FileKernel) → exponentOr (f .exponent) d ≡ givenOr (f .exponent) d
+    → nativeOf d f ≡ sourceOf d f
 unfolding nativeOf sourceOf fromFile
 by-exponent d f e =
     let n = nativeOf d f in
     (λ i. record { c = n .c; sigma = n .sigma; w = n .w; alpha = e i })
 
-pub alike-by-exponent : (d : Float) (f : FileKernel) → sameFloat (exponentOr (f .exponent) d) (givenOr (f .exponent) d) ≡ alike d f
+pub alike-by-exponent : (d : Float) (f : FileKernel)
+    → sameFloat (exponentOr (f .exponent) d) (givenOr (f .exponent) d) ≡ alike d f
 unfolding alike nativeOf sourceOf fromFile
 alike-by-exponent d f = sym (simp same-self)
 
-pub alike-equal : (d : Float) (f : FileKernel) → T (fits binary64 d) → Formed (f .exponent) → alike d f ≡ true → nativeOf d f ≡ sourceOf d f
+pub alike-equal : (d : Float) (f : FileKernel) → T (fits binary64 d) → Formed (f .exponent) → alike d f ≡ true
+    → nativeOf d f ≡ sourceOf d f
 alike-equal d f g h a =
     let e = f .exponent in
-    by-exponent d f (same-is (exponentOr e d) (givenOr e d) (or-fits e d h g) (given-fits e d h g) (alike-by-exponent d f ∙ a))
+    by-exponent d f (same-is (exponentOr e d) (givenOr e d) (or-fits e d h g) (given-fits e d h g)
+    (alike-by-exponent d f ∙ a))
 
 same-kernel : (k : Kernel) → sameKernel k k ≡ true
 same-kernel k = simp same-self
@@ -85,7 +91,8 @@ abbrev pub AllFormed : List FileKernel → Type 0
 AllFormed [] = Unit {0}
 AllFormed (f ∷ fs) = Formed (f .exponent) × AllFormed fs
 
-pub all-equal : (d : Float) (fs : List FileKernel) → T (fits binary64 d) → AllFormed fs → allAlike d fs ≡ true → map (nativeOf d) fs ≡ map (sourceOf d) fs
+pub all-equal : (d : Float) (fs : List FileKernel) → T (fits binary64 d) → AllFormed fs → allAlike d fs ≡ true
+    → map (nativeOf d) fs ≡ map (sourceOf d) fs
 all-equal d [] g h e = refl
 all-equal d (f ∷ fs) g h e =
     let b = and-eq-true-iff (alike d f) (allAlike d fs) .0 e in
@@ -102,7 +109,8 @@ othersOf (j ∷ js) = js
 pub all-alike : (d : Float) (fs : List FileKernel) → map (nativeOf d) fs ≡ map (sourceOf d) fs → allAlike d fs ≡ true
 all-alike d [] e = refl
 all-alike d (f ∷ fs) e =
-    and-eq-true-iff (alike d f) (allAlike d fs) .1 (equal-alike d f (ap (λ (l : List Kernel). firstOf l (nativeOf d f)) e), all-alike d fs (ap othersOf e))
+    and-eq-true-iff (alike d f) (allAlike d fs) .1
+    (equal-alike d f (ap (λ (l : List Kernel). firstOf l (nativeOf d f)) e), all-alike d fs (ap othersOf e))
 
 -- an exponent above 0, which both loaders keep, or a missing one, for which both take the default
 abbrev pub Above : Exponent → Type 0
@@ -123,7 +131,8 @@ above-equal d [] h = refl
 above-equal d (f ∷ fs) h = (λ i. by-exponent d f (above-same (f .exponent) d (h .0)) i ∷ above-equal d fs (h .1) i)
 
 -- every exponent that is read is of the format
-exponent-formed : (u t : Text) → Formed (toExponent (orAt u (mapped inl (read givenForm t)) (mapped inr (read missingForm t)) .val, tt))
+exponent-formed : (u t : Text) → Formed (toExponent
+    (orAt u (mapped inl (read givenForm t)) (mapped inr (read missingForm t)) .val, tt))
 unfolding float
 exponent-formed lost t = tt
 exponent-formed (left l) t = ofBits-fits binary64 (pattern t .val)
@@ -154,13 +163,15 @@ Equal s d = map (nativeOf d) (filed s) ≡ map (sourceOf d) (filed s)
 
 -- the strict form answers what both loaders answer, and leaves the run that both leave
 abbrev pub AsBoth : List ℕ → Float → List Float → Type 0
-AsBoth s d xs = (conversion s d Strict xs ≡ conversion s d Native xs) × (conversion s d Strict xs ≡ conversion s d Source xs)
+AsBoth s d xs =
+    (conversion s d Strict xs ≡ conversion s d Native xs) × (conversion s d Strict xs ≡ conversion s d Source xs)
 
 pub record StrictHolds (s : List ℕ) (d : Float) (xs : List Float) : Type 0 where
   -- equal kernels are accepted
   pub accepts : Equal s d → AsBoth s d xs
   -- others are refused, where the native loader refuses nothing
-  pub refuses : (Equal s d → ⊥) → conversionCheck s d Native (length xs) ≡ Passed → conversion s d Strict xs ≡ outcome (refused LoadersDiffer) xs
+  pub refuses : (Equal s d → ⊥) → conversionCheck s d Native (length xs) ≡ Passed
+      → conversion s d Strict xs ≡ outcome (refused LoadersDiffer) xs
   -- what is accepted is equal, and all three give the same run
   pub only-equal : conversion s d Strict xs .reply .refusal ≡ 0 → Equal s d × AsBoth s d xs
   -- a list with every exponent given and above 0 is accepted, whatever the default
@@ -181,21 +192,31 @@ module _ (s : List ℕ) (d : Float) (xs : List Float) where
         go true e = absurd (n (all-equal d (filed s) g (all-formed (length s) (left s)) e))
         go false e = refl
 
-    refused-21 : (Equal s d → ⊥) → conversionCheck s d Native (length xs) ≡ Passed → conversion s d Strict xs ≡ outcome (refused LoadersDiffer) xs
+    refused-21 : (Equal s d → ⊥) → conversionCheck s d Native (length xs) ≡ Passed
+        → conversion s d Strict xs ≡ outcome (refused LoadersDiffer) xs
     unfolding conversion
-    refused-21 n p = rw (not-alike n) (go (allLines s) (leb (6 * length (filed s)) (length xs)) (outcome (counted (length (filed s) ∷ [])) (laidFrom (map (loaded Strict d) (filed s)) 0 xs)) p)
+    refused-21 n p = rw (not-alike n) (go (allLines s) (leb (6 * length (filed s)) (length xs))
+        (outcome (counted (length (filed s) ∷ [])) (laidFrom (map (loaded Strict d) (filed s)) 0 xs)) p)
       where
-        go : (a b : Bool) (o : Outcome) → andThen (cond a Passed (Failed BadKernelLine)) (andThen (cond b Passed (Failed ShortList)) Passed) ≡ Passed
-            → guardedRun (andThen (cond a Passed (Failed BadKernelLine)) (andThen (cond b Passed (Failed ShortList)) (Failed LoadersDiffer))) xs o ≡ outcome (refused LoadersDiffer) xs
+        go : (a b : Bool) (o : Outcome) → andThen (cond a Passed (Failed BadKernelLine))
+            (andThen (cond b Passed (Failed ShortList)) Passed) ≡ Passed
+            → guardedRun (andThen (cond a Passed (Failed BadKernelLine))
+            (andThen (cond b Passed (Failed ShortList)) (Failed LoadersDiffer))) xs o
+            ≡ outcome (refused LoadersDiffer) xs
         go true true o p = refl
         go true false o p = absurd (let z : _≡_ {A = ℕ} 0 1 = cc in omega arith)
         go false b o p = absurd (let z : _≡_ {A = ℕ} 0 1 = cc in omega arith)
 
     equal-only : conversion s d Strict xs .reply .refusal ≡ 0 → Equal s d
     unfolding conversion
-    equal-only h = all-equal d (filed s) g (all-formed (length s) (left s)) (go (allLines s) (leb (6 * length (filed s)) (length xs)) (allAlike d (filed s)) (length (filed s)) (laidFrom (map (loaded Strict d) (filed s)) 0 xs) h)
+    equal-only h = all-equal d (filed s) g (all-formed (length s) (left s))
+        (go (allLines s) (leb (6 * length (filed s)) (length xs)) (allAlike d (filed s)) (length (filed s))
+        (laidFrom (map (loaded Strict d) (filed s)) 0 xs) h)
       where
-        go : (a b c : Bool) (n : ℕ) (ys : List Float) → guardedRun (andThen (cond a Passed (Failed BadKernelLine)) (andThen (cond b Passed (Failed ShortList)) (cond c Passed (Failed LoadersDiffer)))) xs (outcome (counted (n ∷ [])) ys) .reply .refusal ≡ 0 → c ≡ true
+        go : (a b c : Bool) (n : ℕ) (ys : List Float)
+            → guardedRun (andThen (cond a Passed (Failed BadKernelLine))
+            (andThen (cond b Passed (Failed ShortList)) (cond c Passed (Failed LoadersDiffer)))) xs
+            (outcome (counted (n ∷ [])) ys) .reply .refusal ≡ 0 → c ≡ true
         go true true true n ys h = refl
         go true true false n ys h = absurd (omega arith)
         go true false c n ys h = absurd (omega arith)

@@ -1,4 +1,5 @@
--- What 20 tells apart: bytes are read whole exactly where they spell lines, each float by any of its patterns; printed lines do. Assumes nothing.
+-- What 20 tells apart: bytes are read whole exactly where they spell lines, each float by any of its patterns; printed
+-- lines do. Assumes nothing.
 use mathlib.Core.Path.{_≡_, refl, sym, ap, subst, _∙_}
 use mathlib.Core.Bool.{true, false≢true}
 use mathlib.Core.List.{List, [], _∷_, _++_}
@@ -37,7 +38,8 @@ of-to-exponent (inl v) = refl
 of-to-exponent (inr v) = refl
 
 of-to : (v : Vals kernelForm) → ofFile (toFile v) ≡ v
-of-to v = (λ i. v .0 & v .1 .0 & v .1 .1 .0 & v .1 .1 .1 .0 & v .1 .1 .1 .1 .0 & of-to-exponent (v .1 .1 .1 .1 .1 .0) i & tt)
+of-to v =
+    (λ i. v .0 & v .1 .0 & v .1 .1 .0 & v .1 .1 .1 .0 & v .1 .1 .1 .1 .0 & of-to-exponent (v .1 .1 .1 .1 .1 .0) i & tt)
 
 -- ---- lines that are spelled, each float by any of its patterns
 
@@ -45,13 +47,16 @@ abbrev pub SpellsAll : List FileKernel → List ℕ → Type 0
 SpellsAll [] s = s ≡ []
 SpellsAll (f ∷ fs) s = (r : List ℕ) × Spells kernelForm (ofFile f) s r × SpellsAll fs r
 
-line-reads : (f : FileKernel) (l r : List ℕ) → Spells kernelForm (ofFile f) l r → fileLine (left l) ≡ record { val = f; text = left r }
+line-reads : (f : FileKernel) (l r : List ℕ) → Spells kernelForm (ofFile f) l r
+    → fileLine (left l) ≡ record { val = f; text = left r }
 unfolding fileLine
-line-reads f l r s = ap (map toFile) (reads kernelForm (ofFile f) l r tt s) ∙ (λ i. record { val = to-of f i; text = left r })
+line-reads f l r s = ap (map toFile) (reads kernelForm (ofFile f) l r tt s)
+    ∙ (λ i. record { val = to-of f i; text = left r })
 
 -- the form after its first word
 abbrev afterFirst : Form
-afterFirst = three (say ") (sigma " (real (say ") (w " (real (say ") (alpha " (either givenForm missingForm (say "))\n" end)))))))
+afterFirst = three (say ") (sigma " (real
+    (say ") (w " (real (say ") (alpha " (either givenForm missingForm (say "))\n" end)))))))
 
 -- a line has a byte
 not-nothing : (f : FileKernel) (r : List ℕ) → Spells kernelForm (ofFile f) [] r → ⊥
@@ -60,7 +65,8 @@ not-nothing f r s = let n = ap length (s .1) in absurd (omega (arith, n))
 shorter : (f : FileKernel) (l r : List ℕ) → Spells kernelForm (ofFile f) l r → suc (length r) ≤ length l
 shorter f l r s = omega (arith, ap length (s .1), at-least afterFirst (ofFile f) (s .0) r (s .2))
 
-lines-read : (most : ℕ) (fs : List FileKernel) (l : List ℕ) → length l ≤ most → SpellsAll fs l → fileLines most (left l) ≡ record { val = fs; text = left [] }
+lines-read : (most : ℕ) (fs : List FileKernel) (l : List ℕ) → length l ≤ most → SpellsAll fs l
+    → fileLines most (left l) ≡ record { val = fs; text = left [] }
 unfolding fileLines
 lines-read zero [] l n s = ap (λ (m : List ℕ). record { val = []; text = left m }) s
 lines-read zero (f ∷ fs) [] n s = absurd (not-nothing f (s .0) (s .1))
@@ -75,7 +81,8 @@ lines-read (suc most) (f ∷ fs) (b ∷ l) n s =
     ∙ (λ i. record { val = f ∷ i' i .val; text = i' i .text })
 
 -- they are read, whole
-pub file-reads : (fs : List FileKernel) (s : List ℕ) → SpellsAll fs s → fileLines (length s) (left s) ≡ record { val = fs; text = left [] }
+pub file-reads : (fs : List FileKernel) (s : List ℕ) → SpellsAll fs s
+    → fileLines (length s) (left s) ≡ record { val = fs; text = left [] }
 file-reads fs s h = lines-read (length s) fs s (le-refl (length s)) h
 
 -- ---- lines that are printed are spelled
@@ -100,19 +107,26 @@ unfolding fileLines
 lost-stays zero e = false≢true e
 lost-stays (suc most) e = false≢true e
 
-one-spells : (most : ℕ) (l : List ℕ) (t : Text) → read kernelForm (left l) .text ≡ t → ended (fileLines most t .text) ≡ true
+one-spells : (most : ℕ) (l : List ℕ) (t : Text) → read kernelForm (left l) .text ≡ t
+    → ended (fileLines most t .text) ≡ true
     → ((m : List ℕ) → ended (fileLines most (left m) .text) ≡ true → SpellsAll (fileLines most (left m) .val) m)
     → SpellsAll (toFile (read kernelForm (left l) .val) ∷ fileLines most t .val) l
 one-spells most l lost h e ih = absurd (lost-stays most e)
-one-spells most l (left r) h e ih =
-    (r, subst (λ (v : Vals kernelForm). Spells kernelForm v l r) (sym (of-to (read kernelForm (left l) .val))) (spells kernelForm l r tt h), ih r e)
+one-spells most l (left r) h e ih = (
+  r,
+  subst (λ (v : Vals kernelForm). Spells kernelForm v l r) (sym (of-to (read kernelForm (left l) .val)))
+      (spells kernelForm l r tt h),
+  ih r e,
+)
 
-lines-spell : (most : ℕ) (l : List ℕ) → ended (fileLines most (left l) .text) ≡ true → SpellsAll (fileLines most (left l) .val) l
+lines-spell : (most : ℕ) (l : List ℕ) → ended (fileLines most (left l) .text) ≡ true
+    → SpellsAll (fileLines most (left l) .val) l
 unfolding fileLines fileLine
 lines-spell zero [] e = refl
 lines-spell zero (b ∷ l) e = absurd (false≢true e)
 lines-spell (suc most) [] e = refl
-lines-spell (suc most) (b ∷ l) e = one-spells most (b ∷ l) (read kernelForm (left (b ∷ l)) .text) refl e (lines-spell most)
+lines-spell (suc most) (b ∷ l) e =
+    one-spells most (b ∷ l) (read kernelForm (left (b ∷ l)) .text) refl e (lines-spell most)
 
 pub file-spells : (s : List ℕ) → allLines s ≡ true → SpellsAll (filed s) s
 file-spells s e = lines-spell (length s) s e

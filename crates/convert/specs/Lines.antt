@@ -1,4 +1,5 @@
--- 02, L11: "one bracket line per kernel, (kernel (c h h h) (sigma h) (w h) (alpha h)), with (alpha none) for a missing exponent", "each ending in a newline". Definitions only.
+-- 02, L11: "one bracket line per kernel, (kernel (c h h h) (sigma h) (w h) (alpha h)), with (alpha none) for a missing
+-- exponent", "each ending in a newline". Definitions only.
 use Prim.Native.Nat.{ℕ, zero, suc}
 use mathlib.Core.Bool.{Bool, true, false}
 use mathlib.Core.List.{List, [], _∷_}
@@ -30,7 +31,8 @@ abbrev pub toExponent : Vals exponentForm → Exponent
 toExponent = choose toGiven toMissing
 
 abbrev pub kernelForm : Form
-kernelForm = say "(kernel (c " (three (say ") (sigma " (real (say ") (w " (real (say ") (alpha " (either givenForm missingForm (say "))\n" end))))))))
+kernelForm = say "(kernel (c " (three (say ") (sigma "
+    (real (say ") (w " (real (say ") (alpha " (either givenForm missingForm (say "))\n" end))))))))
 
 abbrev pub toFile : Vals kernelForm → FileKernel
 toFile v =
@@ -49,7 +51,8 @@ fileLine t = map toFile (read kernelForm t)
 
 -- ---- lines in a row
 
--- the lines up to the end of the text, or to the first that is not of the form, which leaves `lost`; no more than `most` are asked for
+-- the lines up to the end of the text, or to the first that is not of the form, which leaves `lost`; no more than
+-- `most` are asked for
 unfoldable pub fileLines : ℕ → Text → Got (List FileKernel)
 fileLines zero t = record { val = []; text = t }
 fileLines (suc most) lost = record { val = []; text = lost }

@@ -41,7 +41,8 @@ sameFloat x y = eqb (toBits binary64 x) (toBits binary64 y)
 
 abbrev pub sameKernel : Kernel → Kernel → Bool
 sameKernel j k =
-    sameFloat (getD (j .c) 0 nan) (getD (k .c) 0 nan) && (sameFloat (getD (j .c) 1 nan) (getD (k .c) 1 nan) && (sameFloat (getD (j .c) 2 nan) (getD (k .c) 2 nan)
+    sameFloat (getD (j .c) 0 nan) (getD (k .c) 0 nan)
+    && (sameFloat (getD (j .c) 1 nan) (getD (k .c) 1 nan) && (sameFloat (getD (j .c) 2 nan) (getD (k .c) 2 nan)
     && (sameFloat (j .sigma) (k .sigma) && (sameFloat (j .w) (k .w) && sameFloat (j .alpha) (k .alpha)))))
 
 unfoldable pub alike : Float → FileKernel → Bool

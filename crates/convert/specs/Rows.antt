@@ -1,4 +1,5 @@
--- What 02 and its readings say of the converter, row by row: which calls are refused, and exponents on which the loaders differ or agree. Assumes nothing.
+-- What 02 and its readings say of the converter, row by row: which calls are refused, and exponents on which the
+-- loaders differ or agree. Assumes nothing.
 use mathlib.Core.Path.{_≡_, refl, sym, _∙_}
 use mathlib.Core.Bool.{true, false}
 use mathlib.Core.List.{List, [], _∷_, map}
@@ -27,12 +28,15 @@ pub record Refusals (s : List ℕ) (d : Float) (xs : List Float) : Type 0 where
   -- "20 when a line isn't of this form, ahead of 9"
   pub twenty : (loader : Loader) → allLines s ≡ false → conversion s d loader xs ≡ outcome (refused BadKernelLine) xs
   -- 9, of six floats a line
-  pub nine : (loader : Loader) → allLines s ≡ true → length xs < 6 * length (filed s) → conversion s d loader xs ≡ outcome (refused ShortList) xs
+  pub nine : (loader : Loader) → allLines s ≡ true → length xs < 6 * length (filed s)
+      → conversion s d loader xs ≡ outcome (refused ShortList) xs
   -- no other of a named loader
   pub by-native : allLines s ≡ true → 6 * length (filed s) ≤ length xs
-      → conversion s d Native xs ≡ outcome (counted (length (filed s) ∷ [])) (laidFrom (map (nativeOf d) (filed s)) 0 xs)
+      → conversion s d Native xs ≡ outcome (counted (length (filed s) ∷ []))
+      (laidFrom (map (nativeOf d) (filed s)) 0 xs)
   pub by-source : allLines s ≡ true → 6 * length (filed s) ≤ length xs
-      → conversion s d Source xs ≡ outcome (counted (length (filed s) ∷ [])) (laidFrom (map (sourceOf d) (filed s)) 0 xs)
+      → conversion s d Source xs ≡ outcome (counted (length (filed s) ∷ []))
+      (laidFrom (map (sourceOf d) (filed s)) 0 xs)
 
 pub refusals : (s : List ℕ) (d : Float) (xs : List Float) → Refusals s d xs
 unfolding conversion loaded
@@ -46,7 +50,8 @@ refusals s d xs =
     }
 
 -- no line: no kernel, and the run as it was
-pub no-lines : (d : Float) (loader : Loader) (xs : List Float) → conversion [] d loader xs ≡ outcome (counted (0 ∷ [])) xs
+pub no-lines : (d : Float) (loader : Loader) (xs : List Float)
+    → conversion [] d loader xs ≡ outcome (counted (0 ∷ [])) xs
 unfolding conversion fileLines
 no-lines d Native xs = rw (le-leb 0 (length xs) (omega arith)) refl
 no-lines d Source xs = rw (le-leb 0 (length xs) (omega arith)) refl

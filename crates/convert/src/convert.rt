@@ -43,7 +43,8 @@ fn check_strict(loader: Loader, same: bool) -> Checked
 // Reads the first n lines once more and writes their kernels to the start of the run.
 fn write_lines(s: &[u8], default: f64, loader: Loader, n: usize, out: &mut [f64])
     requires { ⌜ 6 * n ≤ length (now out) ⌝ }
-    ensures { λ _. ⌜ now (out .exit) ≡ laidFrom (map (loaded loader default) (linesIn n (left (now (s .entry))))) 0 (now (out .entry)) ⌝ }
+    ensures { λ _. ⌜ now (out .exit) ≡ laidFrom (map (loaded loader default) (linesIn n (left (now (s .entry))))) 0
+        (now (out .entry)) ⌝ }
 {
     let mut at: usize = 0;
     let mut i: usize = 0;
@@ -59,7 +60,8 @@ fn write_lines(s: &[u8], default: f64, loader: Loader, n: usize, out: &mut [f64]
 // Writes the kernels of a file's lines, in metres, as a loader makes them, six floats each: 20, 9 or 21.
 // Words past them, and the whole run at a refusal, stay as they were.
 pub fn convert(s: &[u8], default: f64, loader: Loader, out: &mut [f64]) -> Converted
-    ensures { λ r. ⌜ outcome (convertedAs r) (now (out .exit)) ≡ conversion (now (s .entry)) default loader (now (out .entry)) ⌝ }
+    ensures { λ r. ⌜ outcome (convertedAs r) (now (out .exit))
+        ≡ conversion (now (s .entry)) default loader (now (out .entry)) ⌝ }
 {
     let scan = scan_lines(s, default);
     if !scan.whole {

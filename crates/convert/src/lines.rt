@@ -34,7 +34,8 @@ pub struct Scan {
 
 // h
 fn read_given(s: &[u8], at: usize) -> ReadExponent
-    ensures { λ r. ⌜ got (now (s .entry)) (r .exponent) (r .at) ≡ map toGiven (form givenForm (rest (now (s .entry)) at)) ⌝ }
+    ensures { λ r. ⌜ got (now (s .entry)) (r .exponent) (r .at)
+        ≡ map toGiven (form givenForm (rest (now (s .entry)) at)) ⌝ }
 {
     let a = read_float(s, at);
     ReadExponent {
@@ -45,7 +46,8 @@ fn read_given(s: &[u8], at: usize) -> ReadExponent
 
 // none
 fn read_missing(s: &[u8], at: usize) -> ReadExponent
-    ensures { λ r. ⌜ got (now (s .entry)) (r .exponent) (r .at) ≡ map toMissing (form missingForm (rest (now (s .entry)) at)) ⌝ }
+    ensures { λ r. ⌜ got (now (s .entry)) (r .exponent) (r .at)
+        ≡ map toMissing (form missingForm (rest (now (s .entry)) at)) ⌝ }
 {
     ReadExponent {
         exponent: Exponent::Missing,
@@ -55,14 +57,16 @@ fn read_missing(s: &[u8], at: usize) -> ReadExponent
 
 // The first of two exponents where it stands, else the second.
 fn first_exponent(s: &[u8], a: ReadExponent, b: ReadExponent) -> ReadExponent
-    ensures { λ r. ⌜ got (now (s .entry)) (r .exponent) (r .at) ≡ or (got (now (s .entry)) (a .exponent) (a .at)) (got (now (s .entry)) (b .exponent) (b .at)) ⌝ }
+    ensures { λ r. ⌜ got (now (s .entry)) (r .exponent) (r .at)
+        ≡ or (got (now (s .entry)) (a .exponent) (a .at)) (got (now (s .entry)) (b .exponent) (b .at)) ⌝ }
 {
     if a.at <= s.len() { a } else { b }
 }
 
 // h or none
 fn read_exponent(s: &[u8], at: usize) -> ReadExponent
-    ensures { λ r. ⌜ got (now (s .entry)) (r .exponent) (r .at) ≡ map toExponent (form exponentForm (rest (now (s .entry)) at)) ⌝ }
+    ensures { λ r. ⌜ got (now (s .entry)) (r .exponent) (r .at)
+        ≡ map toExponent (form exponentForm (rest (now (s .entry)) at)) ⌝ }
 {
     first_exponent(s, read_given(s, at), read_missing(s, at))
 }

@@ -24,7 +24,8 @@ baseAt k x =
 
 -- what one kernel adds; "its unit test is strict"
 unfoldable pub densityOf : Kernel → List Float → Float
-densityOf k x = cond (lt (abs (k .alpha ⊖ one)) stayLimit) (k .w ⊘ baseAt k x) (k .w ⊗ power (baseAt k x) (neg (k .alpha)))
+densityOf k x =
+    cond (lt (abs (k .alpha ⊖ one)) stayLimit) (k .w ⊘ baseAt k x) (k .w ⊗ power (baseAt k x) (neg (k .alpha)))
 
 -- the sum over kernels k 0 to k (n - 1), "start at +0 .. and run in list order"
 abbrev pub densityTo : (ℕ → Kernel) → List Float → ℕ → Float → Float

@@ -14,11 +14,13 @@ below-infinity (inf s) = refl
 below-infinity (fin s m e) = refl
 
 -- where there is a mass to scale, rho0's scale does not matter
-pub scaled-mass : (target bulk raw scale : Float) → scalable (targetOf (Mass target bulk)) raw ≡ true → appliedScale (Mass target bulk) raw scale ≡ targetOf (Mass target bulk) ⊘ raw
+pub scaled-mass : (target bulk raw scale : Float) → scalable (targetOf (Mass target bulk)) raw ≡ true
+    → appliedScale (Mass target bulk) raw scale ≡ targetOf (Mass target bulk) ⊘ raw
 unfolding appliedScale massScale
 scaled-mass target bulk raw scale h = rw h refl
 
 -- where there is none, the raw mass does not matter
-pub unscaled-mass : (target bulk raw scale : Float) → scalable (targetOf (Mass target bulk)) raw ≡ false → appliedScale (Mass target bulk) raw scale ≡ scale
+pub unscaled-mass : (target bulk raw scale : Float) → scalable (targetOf (Mass target bulk)) raw ≡ false
+    → appliedScale (Mass target bulk) raw scale ≡ scale
 unfolding appliedScale massScale
 unscaled-mass target bulk raw scale h = rw h refl

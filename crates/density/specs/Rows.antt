@@ -1,4 +1,5 @@
--- Theorems of the definitions: 01's bench row of the density, and what 01 says of masses and targets that are no numbers. Assumes nothing.
+-- Theorems of the definitions: 01's bench row of the density, and what 01 says of masses and targets that are no
+-- numbers. Assumes nothing.
 use mathlib.Core.Path.{_≡_, refl}
 use mathlib.Core.Bool.{Bool, true, and-false}
 use mathlib.Core.List.{List, [], _∷_}

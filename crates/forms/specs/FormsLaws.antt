@@ -1,4 +1,5 @@
--- A good line that is printed is parsed as itself, and what is parsed as a good line is its text, up to the patterns of a NaN. Assumes nothing.
+-- A good line that is printed is parsed as itself, and what is parsed as a good line is its text, up to the patterns of
+-- a NaN. Assumes nothing.
 use mathlib.Core.Path.{_≡_, refl, sym, subst, _∙_}
 use mathlib.Core.List.{List, [], _∷_, append-nil}
 use mathlib.Core.Logic.{_⊎_, inl, inr}
@@ -59,7 +60,8 @@ of-is v l g e = subst (λ (m : Line). (h : Good m) → ofLine m h ≡ v) (sym e)
 pub parse-print : (l : Line) (g : Good l) → Fit lineForm (ofLine l g) → parseLine (printLine l g) ≡ l
 unfolding parseLine
 parse-print l g h =
-    (λ i. ifEnded (back-whole lineForm (ofLine l g) tt h i .text) (toLine (back-whole lineForm (ofLine l g) tt h i .val))) ∙ to-of l g
+    (λ i. ifEnded (back-whole lineForm (ofLine l g) tt h i .text)
+    (toLine (back-whole lineForm (ofLine l g) tt h i .val))) ∙ to-of l g
 
 ended : (t : Text) (l : Line) → Good (ifEnded t l) → (t ≡ left []) × (ifEnded t l ≡ l)
 ended lost l g = absurd g
@@ -72,8 +74,11 @@ unfolding parseLine
 parse-spells s g =
     let x = read lineForm (left s) in
     let d = ended (x .text) (toLine (x .val)) g in
-    subst (λ (v : Vals lineForm). Spells lineForm v s []) (sym (of-is (x .val) (ifEnded (x .text) (toLine (x .val))) g (d .1))) (spells lineForm s [] tt (d .0))
+    subst (λ (v : Vals lineForm). Spells lineForm v s [])
+    (sym (of-is (x .val) (ifEnded (x .text) (toLine (x .val))) g (d .1))) (spells lineForm s [] tt (d .0))
 
 -- and is the line's text, unless a value of it is a NaN
-pub print-parse : (s : List ℕ) (g : Good (parseLine s)) → NoNan lineForm (ofLine (parseLine s) g) → s ≡ printLine (parseLine s) g
-print-parse s g n = spelled lineForm (ofLine (parseLine s) g) s [] n (parse-spells s g) ∙ append-nil (printLine (parseLine s) g)
+pub print-parse : (s : List ℕ) (g : Good (parseLine s)) → NoNan lineForm (ofLine (parseLine s) g)
+    → s ≡ printLine (parseLine s) g
+print-parse s g n =
+    spelled lineForm (ofLine (parseLine s) g) s [] n (parse-spells s g) ∙ append-nil (printLine (parseLine s) g)

@@ -1,6 +1,6 @@
-// The program's answers, each written as a line without its newline at a position of a run; each answers the position after it, and
-// leaves all other words as they were. These functions are internal (each has a `requires`): a line wants room for 256 bytes from its
-// position, and takes 255 at most.
+// The program's answers, each written as a line without its newline at a position of a run; each answers the position
+// after it, and leaves all other words as they were. These functions are internal (each has a `requires`): a line wants
+// room for 256 bytes from its position, and takes 255 at most.
 ghost use mathlib.Core.List.{_++_};
 ghost use Prim.Native.Nat.{_+_, _≤_};
 ghost use lib.ListN.{length};
@@ -88,7 +88,8 @@ pub fn write_reweigh(out: &mut [u8], at: usize, place: u32) -> usize
 fn write_three(out: &mut [u8], at: usize, p: &[u8], x: f64, y: f64, z: f64) -> usize
     requires { ⌜ at + length (now p) + 50 ≤ length (now out) ⌝ }
     ensures { λ r. ⌜ r ≤ at + length (now (p .entry)) + 50 ⌝ }
-    ensures { λ r. ⌜ Wrote (now (out .entry)) at (now (p .entry) ++ print (three end) (x & y & z & tt)) r (now (out .exit)) ⌝ }
+    ensures { λ r. ⌜ Wrote (now (out .entry)) at (now (p .entry) ++ print (three end) (x & y & z & tt)) r
+        (now (out .exit)) ⌝ }
 {
     let a = write_real(out, at, p, x);
     let b = write_real(out, a, b" ", y);
@@ -118,7 +119,8 @@ pub fn write_report(
 ) -> usize
     requires { ⌜ at + 256 ≤ length (now out) ⌝ }
     ensures { λ r. ⌜ r ≤ at + 255 ⌝ }
-    ensures { λ r. ⌜ Wrote (now (out .entry)) at (print reportAnswer (m .«raw_mass» & m .«rho0_scale» & m .«rho0_mass» & m .«applied_scale» & m .«applied_mass» & m .«target_mass» & m .volume & kernels & pieces & error & tt)) r (now (out .exit)) ⌝ }
+    ensures { λ r. ⌜ Wrote (now (out .entry)) at
+        (print reportAnswer (m .«raw_mass» & m .«rho0_scale» & m .«rho0_mass» & m .«applied_scale» & m .«applied_mass» & m .«target_mass» & m .volume & kernels & pieces & error & tt)) r (now (out .exit)) ⌝ }
 {
     let a = write_three(out, at, b"(report ", m.raw_mass, m.rho0_scale, m.rho0_mass);
     let b = write_three(out, a, b" ", m.applied_scale, m.applied_mass, m.target_mass);

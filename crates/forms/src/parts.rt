@@ -47,7 +47,8 @@ pub struct ReadThree {
 
 // h h h
 pub fn read_three(s: &[u8], at: usize) -> ReadThree
-    ensures { λ r. ⌜ got (now (s .entry)) (r .x & r .y & r .z & tt) (r .at) ≡ form (three end) (rest (now (s .entry)) at) ⌝ }
+    ensures { λ r. ⌜ got (now (s .entry)) (r .x & r .y & r .z & tt) (r .at)
+        ≡ form (three end) (rest (now (s .entry)) at) ⌝ }
 {
     let x = read_float(s, at);
     let y = read_float(s, read_bytes(s, x.at, b" "));
@@ -62,7 +63,8 @@ pub fn read_three(s: &[u8], at: usize) -> ReadThree
 
 // (open (radius h) (verts V) (faces F))
 pub fn opening(s: &[u8], at: usize) -> ReadOpen
-    ensures { λ r. ⌜ got (now (s .entry)) (r .radius & r .verts & r .faces & tt) (r .at) ≡ form openForm (rest (now (s .entry)) at) ⌝ }
+    ensures { λ r. ⌜ got (now (s .entry)) (r .radius & r .verts & r .faces & tt) (r .at)
+        ≡ form openForm (rest (now (s .entry)) at) ⌝ }
 {
     let r = read_float(s, read_bytes(s, at, b"(open (radius "));
     let v = read_u32(s, read_bytes(s, r.at, b") (verts "));
@@ -77,7 +79,8 @@ pub fn opening(s: &[u8], at: usize) -> ReadOpen
 
 // (vert h h h)
 pub fn vertex(s: &[u8], at: usize) -> ReadThree
-    ensures { λ r. ⌜ got (now (s .entry)) (r .x & r .y & r .z & tt) (r .at) ≡ form vertForm (rest (now (s .entry)) at) ⌝ }
+    ensures { λ r. ⌜ got (now (s .entry)) (r .x & r .y & r .z & tt) (r .at)
+        ≡ form vertForm (rest (now (s .entry)) at) ⌝ }
 {
     let p = read_three(s, read_bytes(s, at, b"(vert "));
     ReadThree {
@@ -90,7 +93,8 @@ pub fn vertex(s: &[u8], at: usize) -> ReadThree
 
 // (face N N N)
 pub fn face(s: &[u8], at: usize) -> ReadFace
-    ensures { λ r. ⌜ got (now (s .entry)) (r .a & r .b & r .c & tt) (r .at) ≡ form faceForm (rest (now (s .entry)) at) ⌝ }
+    ensures { λ r. ⌜ got (now (s .entry)) (r .a & r .b & r .c & tt) (r .at)
+        ≡ form faceForm (rest (now (s .entry)) at) ⌝ }
 {
     let a = read_u32(s, read_bytes(s, at, b"(face "));
     let b = read_u32(s, read_bytes(s, a.at, b" "));
@@ -105,7 +109,8 @@ pub fn face(s: &[u8], at: usize) -> ReadFace
 
 // (put P (c h h h) (sigma h) (w h) (alpha h
 pub fn put_start(s: &[u8], at: usize) -> ReadPut
-    ensures { λ r. ⌜ got (now (s .entry)) (r .place & r .x & r .y & r .z & r .sigma & r .w & r .alpha & tt) (r .at) ≡ form putStart (rest (now (s .entry)) at) ⌝ }
+    ensures { λ r. ⌜ got (now (s .entry)) (r .place & r .x & r .y & r .z & r .sigma & r .w & r .alpha & tt) (r .at)
+        ≡ form putStart (rest (now (s .entry)) at) ⌝ }
 {
     let p = read_u32(s, read_bytes(s, at, b"(put "));
     let c = read_three(s, read_bytes(s, p.at, b" (c "));

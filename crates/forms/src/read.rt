@@ -1,5 +1,5 @@
-// Each form of the program's lines as a token at a position, and the meaning of a whole line, which is read by the form that its first
-// word names. No function here has a `requires`.
+// Each form of the program's lines as a token at a position, and the meaning of a whole line, which is read by the form
+// that its first word names. No function here has a `requires`.
 ghost use mathlib.Core.Path.{_≡_};
 ghost use Rattle.text.specs.Text.{rest, got};
 ghost use Rattle.text.specs.Form.{end, map, or};
@@ -69,14 +69,16 @@ fn read_mass(s: &[u8], at: usize) -> ReadConvention
 
 // The first of two conventions where it stands, else the second.
 fn first_rule(s: &[u8], a: ReadConvention, b: ReadConvention) -> ReadConvention
-    ensures { λ r. ⌜ got (now (s .entry)) (r .rule) (r .at) ≡ or (got (now (s .entry)) (a .rule) (a .at)) (got (now (s .entry)) (b .rule) (b .at)) ⌝ }
+    ensures { λ r. ⌜ got (now (s .entry)) (r .rule) (r .at)
+        ≡ or (got (now (s .entry)) (a .rule) (a .at)) (got (now (s .entry)) (b .rule) (b .at)) ⌝ }
 {
     if a.at <= s.len() { a } else { b }
 }
 
 // A convention.
 pub fn read_convention(s: &[u8], at: usize) -> ReadConvention
-    ensures { λ r. ⌜ got (now (s .entry)) (r .rule) (r .at) ≡ map toConvention (form (convention end) (rest (now (s .entry)) at)) ⌝ }
+    ensures { λ r. ⌜ got (now (s .entry)) (r .rule) (r .at)
+        ≡ map toConvention (form (convention end) (rest (now (s .entry)) at)) ⌝ }
 {
     first_rule(
         s,
@@ -144,7 +146,8 @@ pub fn read_put(s: &[u8], at: usize) -> ReadLine
 
 // (clear P)
 pub fn read_clear(s: &[u8], at: usize) -> ReadLine
-    ensures { λ r. ⌜ got (now (s .entry)) (r .line) (r .at) ≡ map toClear (form clearForm (rest (now (s .entry)) at)) ⌝ }
+    ensures { λ r. ⌜ got (now (s .entry)) (r .line) (r .at)
+        ≡ map toClear (form clearForm (rest (now (s .entry)) at)) ⌝ }
 {
     let p = read_u32(s, read_bytes(s, at, b"(clear "));
     let call = Call::Clear(p.val);
@@ -156,7 +159,8 @@ pub fn read_clear(s: &[u8], at: usize) -> ReadLine
 
 // (reweigh P h)
 pub fn read_reweigh(s: &[u8], at: usize) -> ReadLine
-    ensures { λ r. ⌜ got (now (s .entry)) (r .line) (r .at) ≡ map toReweigh (form reweighForm (rest (now (s .entry)) at)) ⌝ }
+    ensures { λ r. ⌜ got (now (s .entry)) (r .line) (r .at)
+        ≡ map toReweigh (form reweighForm (rest (now (s .entry)) at)) ⌝ }
 {
     let p = read_u32(s, read_bytes(s, at, b"(reweigh "));
     let w = read_float(s, read_bytes(s, p.at, b" "));
@@ -169,7 +173,8 @@ pub fn read_reweigh(s: &[u8], at: usize) -> ReadLine
 
 // (advance N)
 pub fn read_advance(s: &[u8], at: usize) -> ReadLine
-    ensures { λ r. ⌜ got (now (s .entry)) (r .line) (r .at) ≡ map toAdvance (form advanceForm (rest (now (s .entry)) at)) ⌝ }
+    ensures { λ r. ⌜ got (now (s .entry)) (r .line) (r .at)
+        ≡ map toAdvance (form advanceForm (rest (now (s .entry)) at)) ⌝ }
 {
     let n = read_u64(s, read_bytes(s, at, b"(advance "));
     let call = Call::Advance(n.val);
@@ -181,7 +186,8 @@ pub fn read_advance(s: &[u8], at: usize) -> ReadLine
 
 // (density CONV h h h)
 pub fn read_density(s: &[u8], at: usize) -> ReadLine
-    ensures { λ r. ⌜ got (now (s .entry)) (r .line) (r .at) ≡ map toDensity (form densityForm (rest (now (s .entry)) at)) ⌝ }
+    ensures { λ r. ⌜ got (now (s .entry)) (r .line) (r .at)
+        ≡ map toDensity (form densityForm (rest (now (s .entry)) at)) ⌝ }
 {
     let c = read_convention(s, read_bytes(s, at, b"(density "));
     let rule = c.rule;
@@ -195,7 +201,8 @@ pub fn read_density(s: &[u8], at: usize) -> ReadLine
 
 // (report CONV)
 pub fn read_report(s: &[u8], at: usize) -> ReadLine
-    ensures { λ r. ⌜ got (now (s .entry)) (r .line) (r .at) ≡ map toReport (form reportForm (rest (now (s .entry)) at)) ⌝ }
+    ensures { λ r. ⌜ got (now (s .entry)) (r .line) (r .at)
+        ≡ map toReport (form reportForm (rest (now (s .entry)) at)) ⌝ }
 {
     let c = read_convention(s, read_bytes(s, at, b"(report "));
     let rule = c.rule;
@@ -213,7 +220,8 @@ fn begins(s: &[u8], word: &[u8]) -> bool
     read_bytes(s, 0, word) <= s.len()
 }
 
-// A line read by the form that its first word names; one that begins with no form's word is not of the last form either.
+// A line read by the form that its first word names; one that begins with no form's word is not of the last form
+// either.
 fn read_line(s: &[u8]) -> ReadLine
     ensures { λ r. ⌜ ifEnded (rest (now (s .entry)) (r .at)) (r .line) ≡ byWord (now (s .entry)) ⌝ }
 {

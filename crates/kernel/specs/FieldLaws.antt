@@ -14,7 +14,8 @@ use Rattle.mesh.specs.CheckLaws.{passed-sound}
 use Rattle.kernel.specs.Field.{fieldCheck}
 
 -- ---- a call that is not refused has a sound mesh
-pub passed-field : {n : ℕ} {corners : List ℕ} (kernels : List Float) → fieldCheck n corners kernels ≡ Passed → Sound n corners
+pub passed-field : {n : ℕ} {corners : List ℕ} (kernels : List Float) → fieldCheck n corners kernels ≡ Passed
+    → Sound n corners
 unfolding fieldCheck
 passed-field {n} {corners} kernels h = go (meshCheck n corners) refl h
   where

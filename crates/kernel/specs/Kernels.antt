@@ -1,4 +1,5 @@
--- 01, "A kernel arrives" and "The store": "Functions over several kernels take c, sigma, w, alpha, six floats each". Definitions only.
+-- 01, "A kernel arrives" and "The store": "Functions over several kernels take c, sigma, w, alpha, six floats each".
+-- Definitions only.
 use Prim.Native.Nat.{ℕ, _+_, _*_, _%_}
 use mathlib.Core.Bool.{cond}
 use mathlib.Core.List.{List, [], _∷_}

@@ -1,5 +1,5 @@
-// A field is a mesh with a list of kernels. What native's and source's volumes and masses share of it: Dunavant's rule, a kernel's
-// centre as a point, and the refusals. No function here has a `requires`.
+// A field is a mesh with a list of kernels. What native's and source's volumes and masses share of it: Dunavant's rule,
+// a kernel's centre as a point, and the refusals. No function here has a `requires`.
 ghost use mathlib.Core.Path.{_≡_};
 ghost use lib.ListN.{length};
 ghost use Rattle.kernel.specs.Field.{centreOf, fieldCheck};

@@ -48,8 +48,10 @@ fn low_quotient(t: f64, v: f64) -> f64
 // What the halvings start from, the radicands f of the first, and guesses for their roots, of which
 // nothing is promised. Where no radius is above 1 nothing is divided.
 fn as_given(t: &[f64], v: &mut [f64], f: &mut [f64], y: &mut [f64])
-    requires { ⌜ (length (now t) ≡ 28) × (length (now v) ≡ 28) × (length (now f) ≡ 28) × (length (now y) ≡ 28) × AllLow (now t) ⌝ }
-    ensures { λ _. ⌜ Each inverted (now (t .entry)) (now (v .exit)) × Each (λ s. radicand (inverted s)) (now (t .entry)) (now (f .exit)) ⌝ }
+    requires { ⌜ (length (now t) ≡ 28) × (length (now v) ≡ 28) × (length (now f) ≡ 28) × (length (now y) ≡ 28)
+        × AllLow (now t) ⌝ }
+    ensures { λ _. ⌜ Each inverted (now (t .entry)) (now (v .exit))
+        × Each (λ s. radicand (inverted s)) (now (t .entry)) (now (f .exit)) ⌝ }
 {
     for i in 0..28usize {
         let a = t[i];
@@ -63,7 +65,8 @@ fn as_given(t: &[f64], v: &mut [f64], f: &mut [f64], y: &mut [f64])
 // The same of any radii. In a loop of its own the division is written out 28 times, with branches.
 fn invert(t: &[f64], v: &mut [f64], f: &mut [f64], y: &mut [f64])
     requires { ⌜ (length (now t) ≡ 28) × (length (now v) ≡ 28) × (length (now f) ≡ 28) × (length (now y) ≡ 28) ⌝ }
-    ensures { λ _. ⌜ Each inverted (now (t .entry)) (now (v .exit)) × Each (λ s. radicand (inverted s)) (now (t .entry)) (now (f .exit)) ⌝ }
+    ensures { λ _. ⌜ Each inverted (now (t .entry)) (now (v .exit))
+        × Each (λ s. radicand (inverted s)) (now (t .entry)) (now (f .exit)) ⌝ }
 {
     for i in 0..28usize {
         let a = inverted(t[i]);
@@ -76,8 +79,10 @@ fn invert(t: &[f64], v: &mut [f64], f: &mut [f64], y: &mut [f64])
 
 // The same, by what `high` says of the radii.
 fn start(t: &[f64], high: u64, v: &mut [f64], f: &mut [f64], y: &mut [f64])
-    requires { ⌜ (length (now t) ≡ 28) × (length (now v) ≡ 28) × (length (now f) ≡ 28) × (length (now y) ≡ 28) × (high ≡ 0 → AllLow (now t)) ⌝ }
-    ensures { λ _. ⌜ Each inverted (now (t .entry)) (now (v .exit)) × Each (λ s. radicand (inverted s)) (now (t .entry)) (now (f .exit)) ⌝ }
+    requires { ⌜ (length (now t) ≡ 28) × (length (now v) ≡ 28) × (length (now f) ≡ 28) × (length (now y) ≡ 28)
+        × (high ≡ 0 → AllLow (now t)) ⌝ }
+    ensures { λ _. ⌜ Each inverted (now (t .entry)) (now (v .exit))
+        × Each (λ s. radicand (inverted s)) (now (t .entry)) (now (f .exit)) ⌝ }
 {
     if high == 0 {
         as_given(t, v, f, y);
@@ -101,7 +106,8 @@ fn guess_second(v: &[f64], f: &mut [f64], y: &mut [f64])
 
 // The tangents of the half angles, from the radicands f and guesses y, if the flag is 0.
 fn halve(f: &[f64], y: &[f64], v: &mut [f64]) -> u64
-    requires { ⌜ (length (now f) ≡ 28) × (length (now y) ≡ 28) × (length (now v) ≡ 28) × Radicands (now f) × Tangents (now v) ⌝ }
+    requires { ⌜ (length (now f) ≡ 28) × (length (now y) ≡ 28) × (length (now v) ≡ 28) × Radicands (now f)
+        × Tangents (now v) ⌝ }
     ensures { λ r. ⌜ Tangents (now (v .exit)) × (r ≡ 0 → Halves (now (v .entry)) (now (f .entry)) (now (v .exit))) ⌝ }
 {
     let mut coarse = 0u64;
@@ -117,7 +123,8 @@ fn halve(f: &[f64], y: &[f64], v: &mut [f64]) -> u64
 
 // A halving, by guesses that are made better first.
 fn halve_by(f: &[f64], y: &mut [f64], v: &mut [f64]) -> u64
-    requires { ⌜ (length (now f) ≡ 28) × (length (now y) ≡ 28) × (length (now v) ≡ 28) × Radicands (now f) × Tangents (now v) ⌝ }
+    requires { ⌜ (length (now f) ≡ 28) × (length (now y) ≡ 28) × (length (now v) ≡ 28) × Radicands (now f)
+        × Tangents (now v) ⌝ }
     ensures { λ r. ⌜ Tangents (now (v .exit)) × (r ≡ 0 → Halves (now (v .entry)) (now (f .entry)) (now (v .exit))) ⌝ }
 {
     sharpen_all(f, y, 7.8e-17);
@@ -168,7 +175,8 @@ fn quotients(t: &[f64], high: u64, v: &[f64], g: &mut [f64])
 // The factors of radii t of at least 0.1, none above 1 if `high` is 0, if the flag is 0; v is for the
 // tangents, f for the radicands, and g for guesses before it holds the factors.
 pub fn arcs(t: &[f64], high: u64, v: &mut [f64], f: &mut [f64], g: &mut [f64]) -> u64
-    requires { ⌜ (length (now t) ≡ 28) × (length (now v) ≡ 28) × (length (now f) ≡ 28) × (length (now g) ≡ 28) × AllLarge (now t) × (high ≡ 0 → AllLow (now t)) ⌝ }
+    requires { ⌜ (length (now t) ≡ 28) × (length (now v) ≡ 28) × (length (now f) ≡ 28) × (length (now g) ≡ 28)
+        × AllLarge (now t) × (high ≡ 0 → AllLow (now t)) ⌝ }
     ensures { λ r. ⌜ (r ≡ 0 → Each radialG (now (t .entry)) (now (g .exit))) ⌝ }
 {
     start(t, high, v, f, g);

@@ -38,7 +38,8 @@ fn staged(
     s: &mut [f64],
     g: &mut [f64],
 ) -> u64
-    requires { ⌜ (length (now x) ≡ 28) × (length (now t) ≡ 28) × (length (now u) ≡ 28) × (length (now v) ≡ 28) × (length (now f) ≡ 28) × (length (now s) ≡ 28) × (length (now g) ≡ 28) ⌝ }
+    requires { ⌜ (length (now x) ≡ 28) × (length (now t) ≡ 28) × (length (now u) ≡ 28) × (length (now v) ≡ 28)
+        × (length (now f) ≡ 28) × (length (now s) ≡ 28) × (length (now g) ≡ 28) ⌝ }
     ensures { λ r. ⌜ (r ≡ 0 → Each (factor sigma) (now (x .entry)) (now (g .exit))) ⌝ }
 {
     let found = radii_of(x, sigma, f, g, t);

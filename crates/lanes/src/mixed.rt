@@ -69,7 +69,8 @@ pub fn mixed(
     s: &mut [f64],
     g: &mut [f64],
 ) -> u64
-    requires { ⌜ (length (now t) ≡ 28) × (length (now u) ≡ 28) × (length (now v) ≡ 28) × (length (now f) ≡ 28) × (length (now s) ≡ 28) × (length (now g) ≡ 28) × SmallFactors (now t) (now g) × (high ≡ 0 → AllLow (now t)) ⌝ }
+    requires { ⌜ (length (now t) ≡ 28) × (length (now u) ≡ 28) × (length (now v) ≡ 28) × (length (now f) ≡ 28)
+        × (length (now s) ≡ 28) × (length (now g) ≡ 28) × SmallFactors (now t) (now g) × (high ≡ 0 → AllLow (now t)) ⌝ }
     ensures { λ r. ⌜ (r ≡ 0 → Each radialG (now (t .entry)) (now (g .exit))) ⌝ }
 {
     let sides = raise(t, u);

@@ -1,5 +1,5 @@
--- Words in which the places that fail a test are empty: the other places and the mesh are as they were, and what was sound
--- stays so. Assumes nothing.
+-- Words in which the places that fail a test are empty: the other places and the mesh are as they were, and what was
+-- sound stays so. Assumes nothing.
 use mathlib.Core.Path.{_≡_, refl, sym, ap, _∙_}
 use mathlib.Core.Bool.{Bool, true, false, _&&_, cond}
 use mathlib.Core.List.{List}
@@ -42,9 +42,12 @@ module _ (q : ℕ) (test : ℕ → Bool) (ws : List ℕ) (long : cornersFrom q �
   hiding-length zero h = refl
   hiding-length (suc k) h = go (test k) (hiding-length k (omega arith))
     where
-      go : (b : Bool) → length (hiding q test ws k) ≡ length ws → length (cond b (hiding q test ws k) (write (hiding q test ws k) (stateFrom q k) (replicate q 0))) ≡ length ws
+      go : (b : Bool) → length (hiding q test ws k) ≡ length ws
+          → length (cond b (hiding q test ws k) (write (hiding q test ws k) (stateFrom q k) (replicate q 0)))
+          ≡ length ws
       go true ih = ih
-      go false ih = let e = row-ends k h in length-write (hiding q test ws k) (stateFrom q k) (replicate q 0) (omega arith) ∙ ih
+      go false ih =
+          let e = row-ends k h in length-write (hiding q test ws k) (stateFrom q k) (replicate q 0) (omega arith) ∙ ih
 
   -- the words before the places, and those past the places that were looked at
   pub hiding-head : (k : ℕ) → k ≤ 32 → (n : ℕ) → n < 2 → getD (hiding q test ws k) n 0 ≡ getD ws n 0
@@ -52,7 +55,9 @@ module _ (q : ℕ) (test : ℕ → Bool) (ws : List ℕ) (long : cornersFrom q �
   hiding-head zero h n l = refl
   hiding-head (suc k) h n l = go (test k) (hiding-head k (omega arith) n l)
     where
-      go : (b : Bool) → getD (hiding q test ws k) n 0 ≡ getD ws n 0 → getD (cond b (hiding q test ws k) (write (hiding q test ws k) (stateFrom q k) (replicate q 0))) n 0 ≡ getD ws n 0
+      go : (b : Bool) → getD (hiding q test ws k) n 0 ≡ getD ws n 0
+          → getD (cond b (hiding q test ws k) (write (hiding q test ws k) (stateFrom q k) (replicate q 0))) n 0
+          ≡ getD ws n 0
       go true ih = ih
       go false ih =
           let e = row-ends k h in
@@ -62,10 +67,12 @@ module _ (q : ℕ) (test : ℕ → Bool) (ws : List ℕ) (long : cornersFrom q �
   pub hiding-rest : (k : ℕ) → k ≤ 32 → (n : ℕ) → stateFrom q k ≤ n → drop n (hiding q test ws k) ≡ drop n ws
   unfolding hiding
   hiding-rest zero h n l = refl
-  hiding-rest (suc k) h n l = let z = rw mul-suc at l in go (test k) (omega arith) (hiding-rest k (omega arith) n (omega arith))
+  hiding-rest (suc k) h n l =
+      let z = rw mul-suc at l in go (test k) (omega arith) (hiding-rest k (omega arith) n (omega arith))
     where
       go : (b : Bool) → stateFrom q k + q ≤ n → drop n (hiding q test ws k) ≡ drop n ws
-          → drop n (cond b (hiding q test ws k) (write (hiding q test ws k) (stateFrom q k) (replicate q 0))) ≡ drop n ws
+          → drop n (cond b (hiding q test ws k) (write (hiding q test ws k) (stateFrom q k) (replicate q 0)))
+          ≡ drop n ws
       go true z ih = ih
       go false z ih =
           let e = row-ends k h in
@@ -74,7 +81,8 @@ module _ (q : ℕ) (test : ℕ → Bool) (ws : List ℕ) (long : cornersFrom q �
           write-rest (hiding q test ws k) (stateFrom q k) (replicate q 0) n (omega arith) (omega arith) ∙ ih
 
   -- a word of a place below k: as it is where the place passes the test, else 0
-  pub hiding-at : (k : ℕ) → k ≤ 32 → (i j n : ℕ) → i < k → j < q → n ≡ stateFrom q i + j → getD (hiding q test ws k) n 0 ≡ cond (test i) (getD ws n 0) 0
+  pub hiding-at : (k : ℕ) → k ≤ 32 → (i j n : ℕ) → i < k → j < q → n ≡ stateFrom q i + j
+      → getD (hiding q test ws k) n 0 ≡ cond (test i) (getD ws n 0) 0
   unfolding hiding
   hiding-at zero h i j n l b e = absurd (omega arith)
   hiding-at (suc k) h i j n l b e = go (decLt i k) (test k) refl (λ (g : i < k). hiding-at k (omega arith) i j n g b e)
@@ -93,23 +101,30 @@ module _ (q : ℕ) (test : ℕ → Bool) (ws : List ℕ) (long : cornersFrom q �
       go (no g) true s ih =
           let o : i ≡ k = omega arith in
           let z : n ≡ n + 0 = omega arith in
-          rw (o, s, z) (sym (getD-drop n H 0 0) ∙ (ap (λ (r : List ℕ). getD r 0 0) (hiding-rest k (omega arith) n (rw (e, o) (omega arith))) ∙ getD-drop n ws 0 0))
+          rw (o, s, z) (sym (getD-drop n H 0 0)
+          ∙ (ap (λ (r : List ℕ). getD r 0 0) (hiding-rest k (omega arith) n (rw (e, o) (omega arith)))
+          ∙ getD-drop n ws 0 0))
       go (no g) false s ih =
           let o : i ≡ k = omega arith in
           let y = row-ends k h in
           let m = hiding-length k (omega arith) in
-          rw (e, o, s) (write-at H (stateFrom q k) (replicate q 0) j 0 (omega arith) (rw (length-replicate {A = ℕ} q 0) b) ∙ getD-replicate q j 0 0 b)
+          rw (e, o, s) (write-at H (stateFrom q k) (replicate q 0) j 0 (omega arith)
+          (rw (length-replicate {A = ℕ} q 0) b) ∙ getD-replicate q j 0 0 b)
 
   -- one place more, in the words up to the corners
-  pub shown-next : (k : ℕ) → k < 32 → test k ≡ true → take (cornersFrom q) (hiding q test ws k) ≡ take (cornersFrom q) (hiding q test ws (k + 1))
+  pub shown-next : (k : ℕ) → k < 32 → test k ≡ true
+      → take (cornersFrom q) (hiding q test ws k) ≡ take (cornersFrom q) (hiding q test ws (k + 1))
   unfolding hiding
   shown-next k h e = rw (add-one k, e) refl
 
-  pub hidden-next : (k : ℕ) → k < 32 → test k ≡ false → write (take (cornersFrom q) (hiding q test ws k)) (stateFrom q k) (replicate q 0) ≡ take (cornersFrom q) (hiding q test ws (k + 1))
+  pub hidden-next : (k : ℕ) → k < 32 → test k ≡ false
+      → write (take (cornersFrom q) (hiding q test ws k)) (stateFrom q k) (replicate q 0)
+      ≡ take (cornersFrom q) (hiding q test ws (k + 1))
   unfolding hiding
   hidden-next k h e =
       let m = hiding-length k (omega arith) in
-      rw (add-one k, e) (write-take (hiding q test ws k) (cornersFrom q) (stateFrom q k) (replicate q 0) (row-ends k h) (omega arith))
+      rw (add-one k, e) (write-take (hiding q test ws k) (cornersFrom q) (stateFrom q k) (replicate q 0) (row-ends k h)
+      (omega arith))
 
   -- nothing is hidden where every place passes
   pub hiding-none : (k : ℕ) → ((i : ℕ) → i < k → test i ≡ true) → hiding q test ws k ≡ ws
@@ -156,7 +171,8 @@ module _ (q : ℕ) (test : ℕ → Bool) (ws : List ℕ) (long : cornersFrom q �
         none true = refl
         none false = refl
 
-        go : (b : Bool) → ltb 3 q ≡ b → cond b (getD us (5 + q * i) 0) 0 ≡ cond (test i) (cond b (getD ws (5 + q * i) 0) 0) 0
+        go : (b : Bool) → ltb 3 q ≡ b → cond b (getD us (5 + q * i) 0) 0
+            ≡ cond (test i) (cond b (getD ws (5 + q * i) 0) 0) 0
         go true e = let z = ltb-true 3 q e in at 3 (5 + q * i) z (omega arith)
         go false e = sym (none (test i))
 
@@ -172,7 +188,8 @@ module _ (q : ℕ) (test : ℕ → Bool) (ws : List ℕ) (long : cornersFrom q �
         layer = λ i h. rw (hid-layer three i h) (low (layerOf q ws i) (test i) (w .layer i h));
       }
     where
-      ready : (i s n d : ℕ) (b : Bool) → i < 32 → Ready m i (s - 1) n d → Ready m i (cond b s 0 - 1) (cond b n 0) (cond b d 0)
+      ready : (i s n d : ℕ) (b : Bool) → i < 32 → Ready m i (s - 1) n d
+          → Ready m i (cond b s 0 - 1) (cond b n 0) (cond b d 0)
       ready i s n d true h r = r
       ready i s n d false h r = record { place = h; pieces = omega arith; fits = omega arith; part = λ l. absurd (omega arith); low = omega arith }
 
@@ -181,7 +198,8 @@ module _ (q : ℕ) (test : ℕ → Bool) (ws : List ℕ) (long : cornersFrom q �
       low l false h = omega arith
 
 -- ---- and the store is
-module _ (q : ℕ) (three : 3 ≤ q) (test : ℕ → Bool) (fs : List Float) (ws : List ℕ) (long : cornersFrom q ≤ length ws) where
+module _ (q : ℕ) (three : 3 ≤ q) (test : ℕ → Bool) (fs : List Float) (ws : List ℕ)
+    (long : cornersFrom q ≤ length ws) where
   abbrev vs : List ℕ
   vs = hiding q test ws placeLimit
 
@@ -203,7 +221,8 @@ module _ (q : ℕ) (three : 3 ≤ q) (test : ℕ → Bool) (fs : List Float) (ws
   as-sound : sound q ws ≡ true → sound q vs ≡ true
   unfolding sound
   as-sound e =
-      let r = both (leb (vertsOf ws) vertexLimit && leb (facesOf ws) faceLimit) (every (placeSoundAt q ws) placeLimit && allBelow (vertsOf ws) (cornersOf q ws)) e in
+      let r = both (leb (vertsOf ws) vertexLimit && leb (facesOf ws) faceLimit)
+      (every (placeSoundAt q ws) placeLimit && allBelow (vertsOf ws) (cornersOf q ws)) e in
       let t = both (every (placeSoundAt q ws) placeLimit) (allBelow (vertsOf ws) (cornersOf q ws)) (r .1) in
       let p = every-all (placeSoundAt q vs) 32 (λ i h. place-sound i h (every-at (placeSoundAt q ws) 32 i h (t .0))) in
       rw (p, hid-verts q test ws long, hid-faces q test ws long, hid-corners q test ws long, r .0, t .1) refl
@@ -212,7 +231,8 @@ module _ (q : ℕ) (three : 3 ≤ q) (test : ℕ → Bool) (fs : List Float) (ws
   unfolding storeCheck
   hid-sound e = go (longEnough q fs ws) (sound q ws) refl refl e
     where
-      go : (a b : Bool) → longEnough q fs ws ≡ a → sound q ws ≡ b → cond a (cond b Passed (Failed Unsound)) (Failed ShortStore) ≡ Passed
+      go : (a b : Bool) → longEnough q fs ws ≡ a → sound q ws ≡ b
+          → cond a (cond b Passed (Failed Unsound)) (Failed ShortStore) ≡ Passed
           → cond (longEnough q fs vs) (cond (sound q vs) Passed (Failed Unsound)) (Failed ShortStore) ≡ Passed
       go true true a b h = rw (as-long ∙ a, as-sound b) refl
       go true false a b h = absurd (let z : _≡_ {A = ℕ} 0 1 = cc in omega arith)

@@ -1,5 +1,5 @@
--- What a reading of a set of layers sees of the words: the places of the set as they are, each other place empty, and the
--- mesh. Assumes nothing.
+-- What a reading of a set of layers sees of the words: the places of the set as they are, each other place empty, and
+-- the mesh. Assumes nothing.
 use mathlib.Core.Path.{_≡_, refl}
 use mathlib.Core.Bool.{Bool, true, false, cond}
 use mathlib.Core.List.{List}
@@ -69,7 +69,8 @@ pub all-sixteen : (q : ℕ) (fs : List Float) (ws : List ℕ) → storeCheck q f
 unfolding inLayers
 all-sixteen q fs ws e =
     let w = fine q fs ws e .places in
-    hiding-none q (λ i. inSet allLayers (layerOf q ws i)) ws (w .long) 32 (λ i h. every-layer (layerOf q ws i) (w .layer i h))
+    hiding-none q (λ i. inSet allLayers (layerOf q ws i)) ws (w .long) 32
+    (λ i h. every-layer (layerOf q ws i) (w .layer i h))
 
 -- ---- the words up to the corners hold all of the places
 module _ (q : ℕ) (three : 3 ≤ q) (ws : List ℕ) (i : ℕ) (h : i < 32) where
@@ -88,7 +89,8 @@ module _ (q : ℕ) (three : 3 ≤ q) (ws : List ℕ) (i : ℕ) (h : i < 32) wher
   pub front-layer : layerOf q (take (cornersFrom q) ws) i ≡ layerOf q ws i
   front-layer = go (ltb 3 q) refl
     where
-      go : (b : Bool) → ltb 3 q ≡ b → cond b (getD (take (cornersFrom q) ws) (5 + q * i) 0) 0 ≡ cond b (getD ws (5 + q * i) 0) 0
+      go : (b : Bool) → ltb 3 q ≡ b → cond b (getD (take (cornersFrom q) ws) (5 + q * i) 0) 0
+          ≡ cond b (getD ws (5 + q * i) 0) 0
       go true e = let z = below 3 (ltb-true 3 q e) in getD-take (cornersFrom q) ws (5 + q * i) 0 (omega arith)
       go false e = refl
 
@@ -97,11 +99,13 @@ front-worded q three ws m w =
     record {
       long = let n = length-take-le (cornersFrom q) ws (w .long) in omega arith;
       few = w .few;
-      place = λ i h. rw (front-status q three ws i h, front-finished q three ws i h, front-done q three ws i h) (w .place i h);
+      place = λ i h. rw (front-status q three ws i h, front-finished q three ws i h, front-done q three ws i h)
+          (w .place i h);
       layer = λ i h. rw (front-layer q three ws i h) (w .layer i h);
     }
 
-pub front-left : (q : ℕ) → 3 ≤ q → (ws : List ℕ) (m k : ℕ) → k ≤ 32 → leftOf q (take (cornersFrom q) ws) m k ≡ leftOf q ws m k
+pub front-left : (q : ℕ) → 3 ≤ q → (ws : List ℕ) (m k : ℕ) → k ≤ 32
+    → leftOf q (take (cornersFrom q) ws) m k ≡ leftOf q ws m k
 unfolding leftOf
 front-left q three ws m zero h = refl
 front-left q three ws m (suc k) h =

@@ -9,7 +9,8 @@ use Rattle.layout.specs.Layout.{coordsFrom, cornersFrom, statusOf, finis
 
 -- the triangles of the mesh that the runs hold
 abbrev pub held : ℕ → List Float → List ℕ → ℕ → ℕ → ℕ → Triangle
-held q fs ws verts faces = triangleAt (take (3 * verts) (drop coordsFrom fs)) (take (3 * faces) (drop (cornersFrom q) ws))
+held q fs ws verts faces =
+    triangleAt (take (3 * verts) (drop coordsFrom fs)) (take (3 * faces) (drop (cornersFrom q) ws))
 
 -- ---- "left, the sum of need - p", where p = finished * F + done
 abbrev pub leftAt : ℕ → List ℕ → ℕ → ℕ → ℕ

@@ -15,15 +15,19 @@ use Rattle.layout.specs.SoundLaws.{Ready, Meshed}
 
 -- ---- the mesh that a store holds is one that `volume_from` takes
 pub mesh-ready : (fs : List Float) (ws : List ℕ) (vs ms : ℕ) → Meshed width fs ws vs ms → (d k : ℕ) → d + k ≤ ms
-    → (Sound (length (take (coordsFrom + 3 * vs - coordsFrom) (drop coordsFrom fs))) (take (cornersFrom width + 3 * ms - cornersFrom width) (drop (cornersFrom width) ws)))
-    × ((d ≤ d + k) × (3 * (d + k) ≤ length (take (cornersFrom width + 3 * ms - cornersFrom width) (drop (cornersFrom width) ws))))
+    → (Sound (length (take (coordsFrom + 3 * vs - coordsFrom) (drop coordsFrom fs)))
+    (take (cornersFrom width + 3 * ms - cornersFrom width) (drop (cornersFrom width) ws)))
+    × ((d ≤ d + k) × (3 * (d + k) ≤ length
+    (take (cornersFrom width + 3 * ms - cornersFrom width) (drop (cornersFrom width) ws))))
 mesh-ready fs ws vs ms h d k hk =
     let a = length-part ws (cornersFrom width) (3 * ms) (h .words) in
     let b = length-part fs coordsFrom (3 * vs) (h .floats) in (
       record {
         corner = λ j l.
-            let e : getD (take (cornersFrom width + 3 * ms - cornersFrom width) (drop (cornersFrom width) ws)) j 0 ≡ getD ws (cornersFrom width + j) 0
-            = getD-take (cornersFrom width + 3 * ms - cornersFrom width) (drop (cornersFrom width) ws) j 0 (omega arith) ∙ getD-drop (cornersFrom width) ws j 0 in
+            let e : getD (take (cornersFrom width + 3 * ms - cornersFrom width) (drop (cornersFrom width) ws)) j 0
+            ≡ getD ws (cornersFrom width + j) 0
+            = getD-take (cornersFrom width + 3 * ms - cornersFrom width) (drop (cornersFrom width) ws) j 0
+            (omega arith) ∙ getD-drop (cornersFrom width) ws j 0 in
             omega (arith, h .corners j (omega arith));
       },
       (omega arith, omega arith),
@@ -37,7 +41,8 @@ work-low : (q m d : ℕ) → 0 < q → d ≤ m → d ≤ q * m
 work-low zero m d h l = absurd (omega arith)
 work-low (suc q) m d h l = rw (suc-mul q m) (omega arith)
 
-pub left-term : (m i s n d q a b : ℕ) → Ready m i (s - 1) n d → m ≤ faceLimit → q ≡ s - 1 → a ≡ n → b ≡ d → a < q → ((q - a) * m ≤ 33554432) × (b ≤ (q - a) * m)
+pub left-term : (m i s n d q a b : ℕ) → Ready m i (s - 1) n d → m ≤ faceLimit → q ≡ s - 1 → a ≡ n → b ≡ d → a < q
+    → ((q - a) * m ≤ 33554432) × (b ≤ (q - a) * m)
 left-term m i s n d q a b r hm e f g h =
     let z = r .part (omega arith) in
     (work-bound (q - a) m (omega (arith, r)) hm, work-low (q - a) m b (omega arith) (omega arith))

@@ -57,9 +57,11 @@ pub record Ready (m i p fin dn : ℕ) : Type 0 where
 
 pub place-ready : (m i s n d : ℕ) → i < 32 → placeSound s n d m ≡ true → Ready m i (s - 1) n d
 unfolding placeSound
-place-ready m i s n d hi e = go (leb-true s 17 (both (leb s 17) _ e .0)) (eqb s 0) (eqb n (s - 1)) refl refl (both (leb s 17) _ e .1)
+place-ready m i s n d hi e =
+    go (leb-true s 17 (both (leb s 17) _ e .0)) (eqb s 0) (eqb n (s - 1)) refl refl (both (leb s 17) _ e .1)
   where
-    go : s ≤ 17 → (x y : Bool) → eqb s 0 ≡ x → eqb n (s - 1) ≡ y → cond x (eqb n 0 && eqb d 0) (leb n (s - 1) && cond y (eqb d 0) (ltb d m)) ≡ true → Ready m i (s - 1) n d
+    go : s ≤ 17 → (x y : Bool) → eqb s 0 ≡ x → eqb n (s - 1) ≡ y
+        → cond x (eqb n 0 && eqb d 0) (leb n (s - 1) && cond y (eqb d 0) (ltb d m)) ≡ true → Ready m i (s - 1) n d
     go few true y ex ey t =
         let z = both (eqb n 0) (eqb d 0) t in
         let s0 = eqb-true s 0 ex in
@@ -122,7 +124,8 @@ pub record Fine (q : ℕ) (fs : List Float) (ws : List ℕ) : Type 0 where
 module _ (q : ℕ) (fs : List Float) (ws : List ℕ) where
   pub long-words : longEnough q fs ws ≡ true → cornersFrom q + 3 * facesOf ws ≤ length ws
   unfolding longEnough
-  long-words a = leb-true (cornersFrom q + 3 * facesOf ws) (length ws) (both (leb (cornersFrom q + 3 * facesOf ws) (length ws)) _ a .0)
+  long-words a = leb-true (cornersFrom q + 3 * facesOf ws) (length ws)
+      (both (leb (cornersFrom q + 3 * facesOf ws) (length ws)) _ a .0)
 
   fine-sound : longEnough q fs ws ≡ true → sound q ws ≡ true → Fine q fs ws
   unfolding longEnough sound placeSoundAt
@@ -132,14 +135,16 @@ module _ (q : ℕ) (fs : List Float) (ws : List ℕ) where
       let s = both (leb (vertsOf ws) vertexLimit) (leb (facesOf ws) faceLimit) (r .0) in
       let t = both (every (placeSoundAt q ws) placeLimit) _ (r .1) in
       let k = long-words a in
-      let n : length (cornersOf q ws) ≡ 3 * facesOf ws = length-take-le (3 * facesOf ws) _ (rw length-drop (omega arith)) in
+      let n : length (cornersOf q ws) ≡ 3 * facesOf ws = length-take-le (3 * facesOf ws) _
+      (rw length-drop (omega arith)) in
       record {
         mesh = record {
           floats = leb-true (coordsFrom + 3 * vertsOf ws) (length fs) (l .1);
           words = k;
           verts = leb-true (vertsOf ws) vertexLimit (s .0);
           faces = leb-true (facesOf ws) faceLimit (s .1);
-          corners = λ j h. rw (getD-take, getD-drop) at (below-each (vertsOf ws) (cornersOf q ws) (t .1) j (omega arith));
+          corners =
+              λ j h. rw (getD-take, getD-drop) at (below-each (vertsOf ws) (cornersOf q ws) (t .1) j (omega arith));
         };
         places = record {
           long = omega arith;
@@ -159,7 +164,8 @@ module _ (q : ℕ) (fs : List Float) (ws : List ℕ) where
   unfolding storeCheck
   fine e = go (longEnough q fs ws) (sound q ws) refl refl e
     where
-      go : (a b : Bool) → longEnough q fs ws ≡ a → sound q ws ≡ b → cond a (cond b Passed (Failed Unsound)) (Failed ShortStore) ≡ Passed → Fine q fs ws
+      go : (a b : Bool) → longEnough q fs ws ≡ a → sound q ws ≡ b
+          → cond a (cond b Passed (Failed Unsound)) (Failed ShortStore) ≡ Passed → Fine q fs ws
       go true true a b h = fine-sound a b
       go true false a b h = absurd (let z : _≡_ {A = ℕ} 0 1 = cc in omega arith)
       go false t a b h = absurd (let z : _≡_ {A = ℕ} 0 1 = cc in omega arith)
@@ -180,4 +186,5 @@ module _ (q : ℕ) (fs : List Float) (ws : List ℕ) where
 
   pub filled-open : (i : ℕ) → filledCheck q fs ws i ≡ Passed → Open i
   unfolding filledCheck
-  filled-open i e = place-open i (passed-both (placeCheck q fs ws i) (cond (eqb (statusOf q ws i) 0) (Failed Vacant) Passed) e .0)
+  filled-open i e =
+      place-open i (passed-both (placeCheck q fs ws i) (cond (eqb (statusOf q ws i) 0) (Failed Vacant) Passed) e .0)

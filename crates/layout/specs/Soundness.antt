@@ -50,7 +50,8 @@ sound q ws =
     -- "corners < V"
     && allBelow (vertsOf ws) (cornersOf q ws))
 
--- rows 4 and 5, of every call on a store: "too short for them, or under 98 words [130 since 02's L5], is 4; any other fault in it .. is 5"
+-- rows 4 and 5, of every call on a store: "too short for them, or under 98 words [130 since 02's L5], is 4; any other
+-- fault in it .. is 5"
 unfoldable pub storeCheck : ℕ → List Float → List ℕ → Checked
 storeCheck q fs ws = cond (longEnough q fs ws) (cond (sound q ws) Passed (Failed Unsound)) (Failed ShortStore)
 

@@ -1,6 +1,7 @@
 -- 02, L3, one statement: `BillBefore`, at the end. "The bill is never below what puts of the same kernels charge or
--- what a list of them needs, whatever the radius." It speaks of the answers of the calls alone: of the bill, of the puts
--- and of a list. s is the store that an opening left, verts and faces are the counts of its mesh. Definitions only.
+-- what a list of them needs, whatever the radius." It speaks of the answers of the calls alone: of the bill, of the
+-- puts and of a list. s is the store that an opening left, verts and faces are the counts of its mesh. Definitions
+-- only.
 use mathlib.Core.Path.{_≡_}
 use mathlib.Core.Bool.{true}
 use mathlib.Core.Logic.{_⊎_}

@@ -64,8 +64,8 @@ pub record Read (q : ℕ) (mesh : Mesh) (m : Machine) (s : Store) (layers : ℕ)
   pub only-then : store q s (read layers r) .reply ≡ refused Unfinished
       → (layers < 2 ^ 16) × ((needs r ≡ true) × (0 < workSeen m layers))
   -- "Any other reading, its run long enough, answers and writes what demand 2's functions give, worked afresh on the
-  -- mesh opened and the kernels then in the machine's places", those that it sees; both give 9 where a list's run is too
-  -- short, and 14 of a track
+  -- mesh opened and the kernels then in the machine's places", those that it sees; both give 9 where a list's run is
+  -- too short, and 14 of a track
   pub afresh : layers < 2 ^ 16 → (store q s (read layers r) .reply ≡ refused Unfinished → ⊥)
       → (store q s (read layers r) .reply ≡ workedAfresh mesh (seenPlaces layers (m .places)) r .reply)
       × (store q s (read layers r) .out ≡ workedAfresh mesh (seenPlaces layers (m .places)) r .out)
@@ -89,8 +89,9 @@ pub record Partly
   pub one-of-sixteen : store q s (finished layers v) .reply ≡ refused NoLayer → 2 ^ 16 ≤ layers
   -- "It is never refused as unfinished", whatever the machine has left
   pub never : store q s (finished layers v) .reply ≡ refused Unfinished → ⊥
-  -- "demand 3 takes only those for it": it answers what demand 2's functions give, worked afresh on the mesh opened and the
-  -- kernels in those places of its layers that have nothing left, and beside it how many others of its layers are filled
+  -- "demand 3 takes only those for it": it answers what demand 2's functions give, worked afresh on the mesh opened and
+  -- the kernels in those places of its layers that have nothing left, and beside it how many others of its layers are
+  -- filled
   pub afresh : layers < 2 ^ 16
       → store q s (finished layers v) .reply ≡ finishedAfresh mesh (seenPlaces layers (m .places)) v
   -- "It equals the ordinary report of a store holding just those places"
@@ -108,9 +109,9 @@ pub record Post (q : ℕ) (mesh : Mesh) (m : Machine) (s : Store) (bs : List ℕ
   -- "It is given only when nothing is left to do, else 8"
   pub unfinished : 0 < workLeft m → store q s (page bs) .reply ≡ refused Unfinished
   pub only-then : store q s (page bs) .reply ≡ refused Unfinished → 0 < workLeft m
-  -- any other answers and writes what demand 2's functions give, worked afresh on the mesh opened and the kernels then in
-  -- the machine's places; both give 17 and 18. "demand 3 leaves out a page to which 17 applies and 8 doesn't": it is not
-  -- left out here
+  -- any other answers and writes what demand 2's functions give, worked afresh on the mesh opened and the kernels then
+  -- in the machine's places; both give 17 and 18. "demand 3 leaves out a page to which 17 applies and 8 doesn't": it is
+  -- not left out here
   pub afresh : (store q s (page bs) .reply ≡ refused Unfinished → ⊥)
       → (store q s (page bs) .reply ≡ pageAfresh mesh (m .places) bs .reply)
       × (store q s (page bs) .bytes ≡ pageAfresh mesh (m .places) bs .bytes)
@@ -142,8 +143,8 @@ pub record Decomposed (radius : Float) (ks : List Kernel) : Type 0 where
 
 -- ---- a list of calls, from the store s that an opening or a carry left and its machine m
 pub record Follows (q : ℕ) (exF : List Float) (exW : List ℕ) (m : Machine) (s : Store) (cs : List Call) : Type 0 where
-  -- "For every list of puts, clears, reweighs, advances and readings, refused ones among them", and of reports of what is
-  -- finished (02, L7), pages (02, L8) and squeezes: "Demand 3's list may hold it" (02, L12)
+  -- "For every list of puts, clears, reweighs, advances and readings, refused ones among them", and of reports of what
+  -- is finished (02, L7), pages (02, L8) and squeezes: "Demand 3's list may hold it" (02, L12)
   pub calls : Each q exF exW (m .mesh) m s cs
   -- the machine after the list, and so after each part of it: the pieces in its places, which the runs hold, are those
   -- of its kernels or came by a carry, and no place has more steps than its need
@@ -262,7 +263,8 @@ pub record Loaded (q : ℕ) (fs : List Float) (ws : List ℕ) (s : List ℕ) (d 
   pub reply : a .reply ≡ counted (d .verts ∷ d .faces ∷ length (d .puts) ∷ [])
   pub holds : leaving a ≡ holding q (scripted d) (excessF (d .coords) fs) (excessW q (d .corners) ws)
   -- the calls that the lines say, one by one, leave the same
-  pub by-calls : leaving a ≡ leaves q (leaving (openStep q fs ws (d .radius) (d .coords) (d .corners))) (map putCall (d .puts))
+  pub by-calls : leaving a ≡ leaves q (leaving (openStep q fs ws (d .radius) (d .coords) (d .corners)))
+      (map putCall (d .puts))
   pub every-list : (cs : List Call)
       → Follows q (excessF (d .coords) fs) (excessW q (d .corners) ws) (scripted d) (leaving a) cs
   pub unaltered : (cs : List Call) → heard q (leaving a) cs ≡ heard q (leaving a) (without cs)

@@ -101,20 +101,22 @@ readingOn m ks filled worst (list v out) =
 readingOn m ks filled worst (track v points out) =
     let count = length points / 3 in
     guardedRun (trackCheck (length points) (length out)) out
-    (outcome (counted (count ∷ [])) (write out 0 (along (λ x. valueOf (densitized (scaledList v m ks) x)) points count)))
+    (outcome (counted (count ∷ [])) (write out 0
+    (along (λ x. valueOf (densitized (scaledList v m ks) x)) points count)))
 
 unfoldable pub workedAfresh : Mesh → List Place → Reading → Outcome
 workedAfresh m ss r =
     let all = workAll (m .radius) ss in
     readingOn m (allPieces all) (length all) (worstFrom +0 all) r
 
--- ---- 02, L7: "It covers only the places whose steps are complete, and says how many filled places of its layers it passed
--- over": the report worked afresh on those of the places ss that have nothing left, and beside it how many have some
+-- ---- 02, L7: "It covers only the places whose steps are complete, and says how many filled places of its layers it
+-- passed over": the report worked afresh on those of the places ss that have nothing left, and beside it how many have
+-- some
 unfoldable pub finishedAfresh : Mesh → List Place → Convention → Answer
 finishedAfresh m ss v = beside (passedPlaces m ss) (workedAfresh m (completePlaces m ss) (report v) .reply)
 
--- ---- 02, L8, the wall page: "One line per filled place shows its number [..], its pieces [..] and its raw mass"; "The mass
--- is the place's own field mass": `kernel_field_mass` of its pieces alone. Place i, and the places from i on
+-- ---- 02, L8, the wall page: "One line per filled place shows its number [..], its pieces [..] and its raw mass"; "The
+-- mass is the place's own field mass": `kernel_field_mass` of its pieces alone. Place i, and the places from i on
 abbrev pub freshRow : Mesh → ℕ → Place → List Row
 freshRow m i s = map (λ a. row i (a .fit .count) (massOf m (piecesOf a))) (workPlace (m .radius) s)
 

@@ -1,5 +1,5 @@
--- 02, L10, on the machine's side: "opening, vertices, faces, then puts by rising place, with kept weights", from its mesh,
--- radius and places alone. Definitions only.
+-- 02, L10, on the machine's side: "opening, vertices, faces, then puts by rising place, with kept weights", from its
+-- mesh, radius and places alone. Definitions only.
 use mathlib.Core.List.{List, [], _∷_, _++_}
 use mathlib.Core.Logic.{inr}
 use Prim.Native.Nat.{ℕ, suc}

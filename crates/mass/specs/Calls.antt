@@ -1,4 +1,5 @@
--- What the calls on a mesh answer: 01's number of a refusal, the lowest that applies, or 0 and the values. Definitions only.
+-- What the calls on a mesh answer: 01's number of a refusal, the lowest that applies, or 0 and the values. Definitions
+-- only.
 use Prim.Native.Nat.{ℕ}
 use mathlib.Core.List.{List, [], _∷_}
 use lib.ListN.{length}
@@ -32,8 +33,10 @@ bodyVolumeCall xyz corners =
 
 unfoldable pub volumeCentroidCall : List Float → List ℕ → Answer
 volumeCentroidCall xyz corners =
-    answered (meshCheck (length xyz) corners) (pointValues (volumeCentroid (triangleAt xyz corners) (faceCount corners)))
+    answered (meshCheck (length xyz) corners)
+    (pointValues (volumeCentroid (triangleAt xyz corners) (faceCount corners)))
 
 unfoldable pub fieldMassCall : List Float → List ℕ → List Float → Answer
 fieldMassCall xyz corners kernels =
-    answered (fieldCheck (length xyz) corners kernels) (fieldMass (triangleAt xyz corners) (faceCount corners) kernels ∷ [])
+    answered (fieldCheck (length xyz) corners kernels)
+    (fieldMass (triangleAt xyz corners) (faceCount corners) kernels ∷ [])

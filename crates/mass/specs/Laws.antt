@@ -26,4 +26,5 @@ module _ {t u : ℕ → Triangle} {n : ℕ} (same : (f : ℕ) → f < n → t f 
   pub same-mass : (kernels : List Float) → fieldMass t n kernels ≡ fieldMass u n kernels
   unfolding fieldMass
   same-mass kernels =
-      times-same (λ i s h. let k = kernelAt kernels i in ap (λ (v : Float). s ⊕ k .w ⊗ v) (same-volume same (centreOf k) (k .sigma))) +0
+      times-same (λ i s h. let k = kernelAt kernels i in ap (λ (v : Float). s ⊕ k .w ⊗ v)
+      (same-volume same (centreOf k) (k .sigma))) +0

@@ -44,7 +44,8 @@ fn face_moment(acc: V3, t: Triangle) -> V3
 // The sums over all faces.
 fn moment_of(xyz: &[f64], faces: &[u32]) -> V3
     requires { ⌜ Sound (length (now xyz)) (now faces) ⌝ }
-    ensures { λ r. ⌜ r ≡ momentTo (triangleAt (now (xyz .entry)) (now (faces .entry))) (faceCount (now (faces .entry))) ⌝ }
+    ensures { λ r. ⌜ r ≡ momentTo (triangleAt (now (xyz .entry)) (now (faces .entry)))
+        (faceCount (now (faces .entry))) ⌝ }
 {
     let mut acc = ORIGIN;
     let mut f: usize = 0;
@@ -73,7 +74,8 @@ fn centred(a: V3, v: f64) -> V3
 // The centroid of the enclosed volume.
 pub fn centroid_of(xyz: &[f64], faces: &[u32]) -> V3
     requires { ⌜ Sound (length (now xyz)) (now faces) ⌝ }
-    ensures { λ r. ⌜ r ≡ volumeCentroid (triangleAt (now (xyz .entry)) (now (faces .entry))) (faceCount (now (faces .entry))) ⌝ }
+    ensures { λ r. ⌜ r ≡ volumeCentroid (triangleAt (now (xyz .entry)) (now (faces .entry)))
+        (faceCount (now (faces .entry))) ⌝ }
 {
     centred(moment_of(xyz, faces), body_volume_of(xyz, faces))
 }

@@ -11,7 +11,8 @@ use volume::faces::volume_of;
 // Weight times volume of each kernel, added up.
 pub fn field_mass_of(xyz: &[f64], faces: &[u32], kernels: &[f64]) -> f64
     requires { ⌜ Sound (length (now xyz)) (now faces) ⌝ }
-    ensures { λ r. ⌜ r ≡ fieldMass (triangleAt (now (xyz .entry)) (now (faces .entry))) (faceCount (now (faces .entry))) (now (kernels .entry)) ⌝ }
+    ensures { λ r. ⌜ r ≡ fieldMass (triangleAt (now (xyz .entry)) (now (faces .entry)))
+        (faceCount (now (faces .entry))) (now (kernels .entry)) ⌝ }
 {
     let mut total = 0.0;
     let mut i: usize = 0;

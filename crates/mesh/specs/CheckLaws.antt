@@ -21,7 +21,8 @@ unfolding allBelow
 below-snoc v [] k = and-true (ltb k v)
 below-snoc v (x ∷ ks) k = rw (below-snoc v ks k) (sym (and-assoc (ltb x v) (allBelow v ks) (ltb k v)))
 
-pub below-more : (v : ℕ) (ks : List ℕ) (i : ℕ) → i < length ks → allBelow v (take (i + 1) ks) ≡ (allBelow v (take i ks) && ltb (getD ks i 0) v)
+pub below-more : (v : ℕ) (ks : List ℕ) (i : ℕ) → i < length ks
+    → allBelow v (take (i + 1) ks) ≡ (allBelow v (take i ks) && ltb (getD ks i 0) v)
 below-more v ks i h = rw (add-one, take-suc ks i 0 h) (below-snoc v (take i ks) (getD ks i 0))
 
 -- what `allBelow` says of each word
@@ -29,7 +30,8 @@ pub below-each : (v : ℕ) (ks : List ℕ) → allBelow v ks ≡ true → (k : �
 unfolding allBelow
 below-each v [] h k l = absurd (not-suc-le-zero l)
 below-each v (x ∷ ks) h zero l = ltb-true x v (and-eq-true-iff (ltb x v) (allBelow v ks) .0 h .0)
-below-each v (x ∷ ks) h (suc k) l = below-each v ks (and-eq-true-iff (ltb x v) (allBelow v ks) .0 h .1) k (le-of-suc-le-suc l)
+below-each v (x ∷ ks) h (suc k) l =
+    below-each v ks (and-eq-true-iff (ltb x v) (allBelow v ks) .0 h .1) k (le-of-suc-le-suc l)
 
 -- a mesh that is not oversize has vertices in the limit
 pub in-limit : (n : ℕ) (ks : List ℕ) → oversize n ks ≡ false → n / 3 ≤ vertexLimit
@@ -44,7 +46,9 @@ pub passed-sound : {n : ℕ} {corners : List ℕ} → meshCheck n corners ≡ Pa
 unfolding meshCheck
 passed-sound {n} {corners} h = go (ragged n corners) (oversize n corners) (allBelow (n / 3) corners) refl h
   where
-    go : (a b d : Bool) → allBelow (n / 3) corners ≡ d → cond a (Failed Ragged) (cond b (Failed Oversize) (cond d Passed (Failed LooseCorner))) ≡ Passed → Sound n corners
+    go : (a b d : Bool) → allBelow (n / 3) corners ≡ d
+        → cond a (Failed Ragged) (cond b (Failed Oversize) (cond d Passed (Failed LooseCorner))) ≡ Passed
+        → Sound n corners
     go false false true e h = record { corner = λ k l. omega (arith, below-each (n / 3) corners e k l) }
     go false false false e h = let z : _≡_ {A = ℕ} 0 1 = cc in absurd (omega arith)
     go false true d e h = let z : _≡_ {A = ℕ} 0 1 = cc in absurd (omega arith)

@@ -1,5 +1,5 @@
--- Native mesh.rs: a mesh is a run of coordinates, three to a vertex, and a run of corners, three to a face. Definitions only.
--- What later definitions take of a mesh is its triangles, a function of the face's number, and their count.
+-- Native mesh.rs: a mesh is a run of coordinates, three to a vertex, and a run of corners, three to a face. Definitions
+-- only. What later definitions take of a mesh is its triangles, a function of the face's number, and their count.
 use Prim.Native.Nat.{ℕ, _+_, _*_, _/_, _≤_, _<_}
 use mathlib.Core.List.{List}
 use lib.ListN.{getD, length}

@@ -28,7 +28,8 @@ use Rattle.page.specs.Page.{spaces, right, wholeText, ending, placeLine,
 
 -- ---- lengths of texts
 pub right-length : (n : ℕ) (t : List ℕ) → length t ≤ n → length (right n t) ≡ n
-right-length n t h = length-append (spaces (n - length t)) t ∙ (let e = length-replicate {A = ℕ} (n - length t) 32 in omega arith)
+right-length n t h =
+    length-append (spaces (n - length t)) t ∙ (let e = length-replicate {A = ℕ} (n - length t) 32 in omega arith)
 
 pub whole-length : (v : ℤ) → natAbs v < 100000000000000000 → length (wholeText v) ≤ 20
 whole-length (pos n) h = rw (decimal-length n) (let d = digits-under 16 n h in omega arith)
@@ -68,11 +69,13 @@ line-length i n v hi hn hv =
     length-append (right 2 (decimalText i)) (32 ∷ (p ++ ending v)) ∙ omega arith
 
 row-length : (r : Row) → Fair r → length (placeLine (r .place) (r .pieces) (figure r)) ≡ 65
-row-length r g = line-length (r .place) (r .pieces) (figure r) (g .place) (g .pieces) (let m = figure-small r g in omega arith)
+row-length r g =
+    line-length (r .place) (r .pieces) (figure r) (g .place) (g .pieces) (let m = figure-small r g in omega arith)
 
 pub lines-length : (rs : List Row) → AllFair rs → length (linesOf rs) ≡ 65 * length rs
 lines-length [] g = refl
-lines-length (r ∷ rs) g = length-append (placeLine (r .place) (r .pieces) (figure r)) (linesOf rs) ∙ omega (arith, row-length r (g .0), lines-length rs (g .1))
+lines-length (r ∷ rs) g = length-append (placeLine (r .place) (r .pieces) (figure r)) (linesOf rs)
+    ∙ omega (arith, row-length r (g .0), lines-length rs (g .1))
 
 abs-add : (a b : ℤ) → natAbs (a +ℤ b) ≤ natAbs a + natAbs b
 abs-add (pos a) (pos b) = omega arith
@@ -100,7 +103,8 @@ pub page-length : (rs : List Row) → AllFair rs → length rs ≤ 32 → length
 unfolding pageOf
 page-length rs g h =
     let t = total-small rs g in
-    length-append (linesOf rs) (totalLine (totalOf rs)) ∙ omega (arith, lines-length rs g, total-length (totalOf rs) (omega arith))
+    length-append (linesOf rs) (totalLine (totalOf rs))
+    ∙ omega (arith, lines-length rs g, total-length (totalOf rs) (omega arith))
 
 -- ---- rows one after the other
 pub lines-append : (rs ss : List Row) → linesOf (rs ++ ss) ≡ linesOf rs ++ linesOf ss
@@ -111,7 +115,8 @@ lines-append (r ∷ rs) ss =
 
 pub total-append : (rs ss : List Row) → totalOf (rs ++ ss) ≡ totalOf rs +ℤ totalOf ss
 total-append [] ss = sym (+ℤ-idl (totalOf ss))
-total-append (r ∷ rs) ss = ap (λ (z : ℤ). figure r +ℤ z) (total-append rs ss) ∙ sym (+ℤ-assoc (figure r) (totalOf rs) (totalOf ss))
+total-append (r ∷ rs) ss =
+    ap (λ (z : ℤ). figure r +ℤ z) (total-append rs ss) ∙ sym (+ℤ-assoc (figure r) (totalOf rs) (totalOf ss))
 
 pub printable-append : (rs ss : List Row) → allPrintable (rs ++ ss) ≡ allPrintable rs && allPrintable ss
 printable-append [] ss = refl
@@ -153,17 +158,20 @@ module _ (q : ℕ) (fs : List Float) (ws : List ℕ) where
   pub rows-count : (k : ℕ) → length (heldRows q fs ws k) ≡ heldFilled q ws k
   unfolding heldRows heldFilled
   rows-count zero = refl
-  rows-count (suc k) = length-append (heldRows q fs ws k) (at k) ∙ (λ i. rows-count k i + row-count k (statusOf q ws k) i)
+  rows-count (suc k) =
+      length-append (heldRows q fs ws k) (at k) ∙ (λ i. rows-count k i + row-count k (statusOf q ws k) i)
 
   -- all of them can be printed: each can
   pub each-printable : (n k : ℕ) → k < n → allPrintable (heldRows q fs ws n) ≡ true → allPrintable (at k) ≡ true
   unfolding heldRows
   each-printable zero k h e = absurd (omega arith)
   each-printable (suc n) k h e =
-      let z = and-eq-true-iff (allPrintable (heldRows q fs ws n)) (allPrintable (at n)) .0 (sym (printable-append (heldRows q fs ws n) (at n)) ∙ e) in
+      let z = and-eq-true-iff (allPrintable (heldRows q fs ws n)) (allPrintable (at n)) .0
+      (sym (printable-append (heldRows q fs ws n) (at n)) ∙ e) in
       go z (λ (l : k < n). each-printable n k l (z .0)) (decLt k n)
     where
-      go : (allPrintable (heldRows q fs ws n) ≡ true) × (allPrintable (at n) ≡ true) → (k < n → allPrintable (at k) ≡ true) → Dec (k < n) → allPrintable (at k) ≡ true
+      go : (allPrintable (heldRows q fs ws n) ≡ true) × (allPrintable (at n) ≡ true)
+          → (k < n → allPrintable (at k) ≡ true) → Dec (k < n) → allPrintable (at k) ≡ true
       go z ih (yes l) = ih l
       go z ih (no l) = let w : k ≡ n = omega arith in rw w (z .1)
 
@@ -173,7 +181,8 @@ module _ (q : ℕ) (fs : List Float) (ws : List ℕ) where
       m : Float
       m = rawMass (heldAt fs k (s - 1))
 
-      go : (b : Bool) → allPrintable (cond b [] (row k (s - 1) m ∷ [])) ≡ true → AllFair (cond b [] (row k (s - 1) m ∷ []))
+      go : (b : Bool) → allPrintable (cond b [] (row k (s - 1) m ∷ [])) ≡ true
+          → AllFair (cond b [] (row k (s - 1) m ∷ []))
       go true f = tt
       go false f = (record { place = omega arith; pieces = omega arith; mass = and-eq-true-iff (printable m) true .0 f .0 }, tt)
 
@@ -182,15 +191,18 @@ module _ (q : ℕ) (fs : List Float) (ws : List ℕ) where
     unfolding heldRows
     rows-fair zero h e = tt
     rows-fair (suc n) h e =
-        let z = and-eq-true-iff (allPrintable (heldRows q fs ws n)) (allPrintable (at n)) .0 (sym (printable-append (heldRows q fs ws n) (at n)) ∙ e) in
-        fair-append (heldRows q fs ws n) (at n) (rows-fair n (omega arith) (z .0)) (row-fair n (statusOf q ws n) (omega arith) (w .place n (omega arith) .pieces) (z .1))
+        let z = and-eq-true-iff (allPrintable (heldRows q fs ws n)) (allPrintable (at n)) .0
+        (sym (printable-append (heldRows q fs ws n) (at n)) ∙ e) in
+        fair-append (heldRows q fs ws n) (at n) (rows-fair n (omega arith) (z .0))
+        (row-fair n (statusOf q ws n) (omega arith) (w .place n (omega arith) .pieces) (z .1))
 
   pub rows-mono : (k n : ℕ) → k ≤ n → length (heldRows q fs ws k) ≤ length (heldRows q fs ws n)
   unfolding heldRows
   rows-mono k zero h = let e : k ≡ 0 = omega arith in rw e (omega arith)
   rows-mono k (suc n) h = go (decLt k (suc n)) (λ (l : k ≤ n). rows-mono k n l)
     where
-      go : Dec (k < suc n) → (k ≤ n → length (heldRows q fs ws k) ≤ length (heldRows q fs ws n)) → length (heldRows q fs ws k) ≤ length (heldRows q fs ws n ++ at n)
+      go : Dec (k < suc n) → (k ≤ n → length (heldRows q fs ws k) ≤ length (heldRows q fs ws n))
+          → length (heldRows q fs ws k) ≤ length (heldRows q fs ws n ++ at n)
       go (yes l) ih = omega (arith, ih (omega arith), length-append (heldRows q fs ws n) (at n))
       go (no l) ih = let e : k ≡ suc n = omega arith in rw e (omega arith)
 
@@ -224,14 +236,16 @@ module _ (rs : List Row) (bs : List ℕ) where
   unfolding pageAnswer
   unprintable-is e = rw e
 
-  module _ (e : allPrintable rs ≡ true) (g : AllFair rs) (few : length rs ≤ 32) (n : ℕ) (h : n ≡ 65 * length rs + 65) where
+  module _ (e : allPrintable rs ≡ true) (g : AllFair rs) (few : length rs ≤ 32) (n : ℕ)
+      (h : n ≡ 65 * length rs + 65) where
     pub short-is : length bs < n → printout (refused ShortPage) bs ≡ pageAnswer rs bs
     unfolding pageAnswer
     short-is l =
         let k = page-length rs g few in
         rw (e, lt-leb (length (pageOf rs)) (length bs) (omega arith))
 
-    pub written-is : (bs′ : List ℕ) → n ≤ length bs → bs′ ≡ write bs 0 (pageOf rs) → printout (counted (n ∷ [])) bs′ ≡ pageAnswer rs bs
+    pub written-is : (bs′ : List ℕ) → n ≤ length bs → bs′ ≡ write bs 0 (pageOf rs)
+        → printout (counted (n ∷ [])) bs′ ≡ pageAnswer rs bs
     unfolding pageAnswer
     written-is bs′ l r =
         let k = page-length rs g few in

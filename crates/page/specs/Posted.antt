@@ -1,4 +1,5 @@
--- 02, L8, of any runs at all: what is read in a page that is given, and that a refused one stays as it was. Assumes nothing.
+-- 02, L8, of any runs at all: what is read in a page that is given, and that a refused one stays as it was. Assumes
+-- nothing.
 use mathlib.Core.Path.{_≡_, refl, sym, ap, subst, _∙_}
 use mathlib.Core.Bool.{Bool, true, false, cond}
 use mathlib.Core.List.{List, [], _∷_, _++_, map}
@@ -25,7 +26,8 @@ use Rattle.page.specs.PageLaws.{AllFair, done-passed, page-length, rows-
 use Rattle.page.specs.ReadBack.{Lines, exactly, readMass, readLines, shown, page-lines, page-back, total-back}
 
 not-zero : {P : Type 0} (e : Refusal) → number e ≡ 0 → P
-not-zero e h = absurd (let o : _≡_ {A = Bool} true false = sym (eq-eqb (number e) 0 h) ∙ never-zero e in let p : _≡_ {A = ℕ} 0 1 = cc in omega arith)
+not-zero e h = absurd (let o : _≡_ {A = Bool} true false = sym (eq-eqb (number e) 0 h)
+    ∙ never-zero e in let p : _≡_ {A = ℕ} 0 1 = cc in omega arith)
 
 module _ (q : ℕ) (fs : List Float) (ws bs : List ℕ) where
   -- the call, the filled places, how many bytes their page has, and those bytes
@@ -55,7 +57,9 @@ module _ (q : ℕ) (fs : List Float) (ws bs : List ℕ) where
 
   -- what follows where the checks of the store, of the masses and of the room end so
   abbrev so : Checked → Bool → Bool → Printout
-  so a b c = guardedBytes a bs (guardedBytes (andThen (cond b Passed (Failed NoFigure)) (cond c Passed (Failed ShortPage))) bs (printout (counted (length (pageOf rows) ∷ [])) (write bs 0 (pageOf rows))))
+  so a b c = guardedBytes a bs (guardedBytes
+      (andThen (cond b Passed (Failed NoFigure)) (cond c Passed (Failed ShortPage))) bs
+      (printout (counted (length (pageOf rows) ∷ [])) (write bs 0 (pageOf rows))))
 
   -- a page that is not refused passed all three
   record Good : Type 0 where
@@ -67,7 +71,8 @@ module _ (q : ℕ) (fs : List Float) (ws bs : List ℕ) where
   unfolding pageStep pageAnswer
   good h = go (doneCheck q fs ws) (allPrintable rows) (leb (length (pageOf rows)) (length bs)) refl refl refl h
     where
-      go : (a : Checked) (b c : Bool) → doneCheck q fs ws ≡ a → allPrintable rows ≡ b → leb (length (pageOf rows)) (length bs) ≡ c → so a b c .reply .refusal ≡ 0 → Good
+      go : (a : Checked) (b c : Bool) → doneCheck q fs ws ≡ a → allPrintable rows ≡ b
+          → leb (length (pageOf rows)) (length bs) ≡ c → so a b c .reply .refusal ≡ 0 → Good
       go (Failed e) b c x y z r = not-zero e r
       go Passed false c x y z r = absurd (omega arith)
       go Passed true false x y z r = absurd (omega arith)
@@ -82,13 +87,15 @@ module _ (q : ℕ) (fs : List Float) (ws bs : List ℕ) where
       let k = rows-count q fs ws placeLimit in
       let few : length rows ≤ 32 = rw k (filled-most q ws placeLimit) in
       let n : length (pageOf rows) ≡ size = page-length rows f few ∙ omega (arith, k) in
-      let w : wall ≡ pageOf rows = ap (λ (p : Printout). take size (p .bytes)) (g .is) ∙ rw (← n) (take-append-seam (pageOf rows) (drop (length (pageOf rows)) bs)) in
+      let w : wall ≡ pageOf rows = ap (λ (p : Printout). take size (p .bytes)) (g .is)
+      ∙ rw (← n) (take-append-seam (pageOf rows) (drop (length (pageOf rows)) bs)) in
       record {
         reply = ap (λ (p : Printout). p .reply) (g .is) ∙ rw n refl;
         lines = rw (w, ← k) (page-lines rows f few);
         places = rw (w, ← k) (page-back rows f);
         total = rw (w, ← k) (total-back rows f few);
-        rest = ap (λ (p : Printout). drop size (p .bytes)) (g .is) ∙ rw (← n) (drop-append-seam (pageOf rows) (drop (length (pageOf rows)) bs));
+        rest = ap (λ (p : Printout). drop size (p .bytes)) (g .is)
+            ∙ rw (← n) (drop-append-seam (pageOf rows) (drop (length (pageOf rows)) bs));
       }
 
   -- "a refused call changes nothing"

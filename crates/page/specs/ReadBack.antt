@@ -1,6 +1,6 @@
--- The page as it hangs on the wall: every line has 64 characters and a newline, and what stands in its columns, read by the
--- reader of crates/text, is each place's number, its pieces and its rounded mass, and in the last line the sum of those masses.
--- Assumes nothing.
+-- The page as it hangs on the wall: every line has 64 characters and a newline, and what stands in its columns, read by
+-- the reader of crates/text, is each place's number, its pieces and its rounded mass, and in the last line the sum of
+-- those masses. Assumes nothing.
 use mathlib.Core.Path.{_≡_, refl, sym, ap, subst, _∙_}
 use mathlib.Core.Bool.{Bool, true, false, cond}
 use mathlib.Core.List.{List, [], _∷_, _++_, map, append-assoc, append-nil}
@@ -102,7 +102,8 @@ glyph-low d = go (ltb d 10)
 visible-digits : (k n : ℕ) → Visible (digits 10 k n)
 unfolding digits
 visible-digits zero n = tt
-visible-digits (suc k) n = visible-append (digits 10 k (n / 10)) (glyph (n % 10) ∷ []) (visible-digits k (n / 10)) (let g = glyph-low (n % 10) in omega arith, tt)
+visible-digits (suc k) n = visible-append (digits 10 k (n / 10)) (glyph (n % 10) ∷ []) (visible-digits k (n / 10))
+    (let g = glyph-low (n % 10) in omega arith, tt)
 
 visible-decimal : (n : ℕ) → Visible (decimalText n)
 unfolding decimalText
@@ -153,14 +154,17 @@ plain-whole : (l : List ℕ) → Starts l → whole l ≡ told pos (count l)
 plain-whole l s = rw (s .is) (rw (ne-eqb (s .first) 45 (λ z. omega (arith, s .low))) refl)
 
 number-back : (n : ℕ) → n < 100000000000000000 → count (decimalText n) ≡ exactly n
-number-back n h = ap count (sym (append-nil (decimalText n))) ∙ decimal-back 18446744073709551615 n [] (omega arith) (omega arith) tt
+number-back n h =
+    ap count (sym (append-nil (decimalText n))) ∙ decimal-back 18446744073709551615 n [] (omega arith) (omega arith) tt
 
 text-back : (v : ℤ) → natAbs v < 100000000000000000 → whole (skip (wholeText v)) ≡ exactly v
-text-back (pos n) h = ap whole (plain-skip (decimalText n) (text-starts n)) ∙ plain-whole (decimalText n) (text-starts n) ∙ ap (told pos) (number-back n h)
+text-back (pos n) h = ap whole (plain-skip (decimalText n) (text-starts n))
+    ∙ plain-whole (decimalText n) (text-starts n) ∙ ap (told pos) (number-back n h)
 text-back (negsuc n) h = ap (told (λ m. negℤ (pos m))) (number-back (suc n) h)
 
 count-back : (n : ℕ) → n < 100 → count (skip (right 2 (decimalText n))) ≡ exactly n
-count-back n h = ap count (skip-spaces (2 - length (decimalText n)) (decimalText n) ∙ plain-skip (decimalText n) (text-starts n)) ∙ number-back n (omega arith)
+count-back n h = ap count (skip-spaces (2 - length (decimalText n)) (decimalText n)
+    ∙ plain-skip (decimalText n) (text-starts n)) ∙ number-back n (omega arith)
 
 whole-back : (v : ℤ) → natAbs v < 100000000000000000 → whole (skip (right 20 (wholeText v))) ≡ exactly v
 whole-back v h = ap whole (skip-spaces (20 - length (wholeText v)) (wholeText v)) ∙ text-back v h
@@ -173,12 +177,15 @@ cut a k p c u e f = rw (← e, ← f) (ap (take (length c)) (drop-append-seam p 
 ended : (p t : List ℕ) → length p ≡ 44 → length t ≡ 20 → Visible p → Visible t → Line (p ++ (t ++ (10 ∷ [])))
 ended p t a b u v = record { chars = p ++ t; text = sym (append-assoc p t (10 ∷ [])); wide = length-append p t ∙ omega arith; visible = visible-append p t u v }
 
-mass-back : (l p : List ℕ) (v : ℤ) → natAbs v < 100000000000000000 → l ≡ p ++ (right 20 (wholeText v) ++ (10 ∷ [])) → length p ≡ 44 → (t : List ℕ) → readMass (l ++ t) ≡ exactly v
+mass-back : (l p : List ℕ) (v : ℤ) → natAbs v < 100000000000000000 → l ≡ p ++ (right 20 (wholeText v) ++ (10 ∷ []))
+    → length p ≡ 44 → (t : List ℕ) → readMass (l ++ t) ≡ exactly v
 mass-back l p v h e a t =
     let c = right 20 (wholeText v) in
     let w = right-length 20 (wholeText v) (whole-length v h) in
-    let j : l ++ t ≡ p ++ (c ++ (10 ∷ t)) = ap (λ (x : List ℕ). x ++ t) e ∙ append-assoc p (c ++ (10 ∷ [])) t ∙ ap (λ (x : List ℕ). p ++ x) (append-assoc c (10 ∷ []) t) in
-    ap (λ (x : List ℕ). whole (skip (columns 45 64 x))) j ∙ ap (λ (x : List ℕ). whole (skip x)) (cut 44 20 p c (10 ∷ t) a w) ∙ whole-back v h
+    let j : l ++ t ≡ p ++ (c ++ (10 ∷ t)) = ap (λ (x : List ℕ). x ++ t) e ∙ append-assoc p (c ++ (10 ∷ [])) t
+    ∙ ap (λ (x : List ℕ). p ++ x) (append-assoc c (10 ∷ []) t) in
+    ap (λ (x : List ℕ). whole (skip (columns 45 64 x))) j
+    ∙ ap (λ (x : List ℕ). whole (skip x)) (cut 44 20 p c (10 ∷ t) a w) ∙ whole-back v h
 
 -- ---- a place's line
 module _ (i n : ℕ) (v : ℤ) (hi : i < 100) (hn : n < 100) (hv : natAbs v < 100000000000000000) where
@@ -211,19 +218,26 @@ module _ (i n : ℕ) (v : ℤ) (hi : i < 100) (hn : n < 100) (hv : natAbs v < 10
   place-line =
       subst Line (sym line-is)
       (ended front M front-wide (right-length 20 (wholeText v) (whole-length v hv))
-      (visible-append A (32 ∷ (B ++ spaces 39)) (visible-right 2 (decimalText i) (visible-decimal i)) (omega arith, visible-append B (spaces 39) (visible-right 2 (decimalText n) (visible-decimal n)) (visible-spaces 39)))
+      (visible-append A (32 ∷ (B ++ spaces 39)) (visible-right 2 (decimalText i) (visible-decimal i)) (
+        omega arith,
+        visible-append B (spaces 39) (visible-right 2 (decimalText n) (visible-decimal n))
+            (visible-spaces 39),
+      ))
       (visible-right 20 (wholeText v) (visible-whole v)))
 
   module _ (t : List ℕ) where
     at-place : columns 1 2 (placeLine i n v ++ t) ≡ A
     unfolding placeLine
-    at-place = ap (take 2) (append-assoc A (32 ∷ (B ++ ending v)) t) ∙ cut 0 2 [] A ((32 ∷ (B ++ ending v)) ++ t) refl (two-columns i hi)
+    at-place = ap (take 2) (append-assoc A (32 ∷ (B ++ ending v)) t)
+        ∙ cut 0 2 [] A ((32 ∷ (B ++ ending v)) ++ t) refl (two-columns i hi)
 
     at-pieces : columns 4 5 (placeLine i n v ++ t) ≡ B
     unfolding placeLine
     at-pieces =
         let w : length (A ++ (32 ∷ [])) ≡ 3 = length-append A (32 ∷ []) ∙ omega (arith, two-columns i hi) in
-        let j = append-assoc A (32 ∷ (B ++ ending v)) t ∙ ap (λ (l : List ℕ). A ++ (32 ∷ l)) (append-assoc B (ending v) t) ∙ sym (append-assoc A (32 ∷ []) (B ++ (ending v ++ t))) in
+        let j = append-assoc A (32 ∷ (B ++ ending v)) t
+        ∙ ap (λ (l : List ℕ). A ++ (32 ∷ l)) (append-assoc B (ending v) t)
+        ∙ sym (append-assoc A (32 ∷ []) (B ++ (ending v ++ t))) in
         ap (columns 4 5) j ∙ cut 3 2 (A ++ (32 ∷ [])) B (ending v ++ t) w (two-columns n hn)
 
     line-back : readLine (placeLine i n v ++ t) ≡ record { place = exactly i; pieces = exactly n; mass = exactly v }
@@ -267,7 +281,8 @@ rows-and [] g t h = subst (λ (l : List ℕ). Lines l 1) (append-nil t) (more h 
 rows-and (r ∷ rs) g t h =
     let l = placeLine (r .place) (r .pieces) (figure r) in
     subst (λ (x : List ℕ). Lines x (suc (suc (length rs)))) (sym (append-assoc l (linesOf rs) t))
-    (more (place-line (r .place) (r .pieces) (figure r) (g .0 .place) (g .0 .pieces) (row-small r (g .0))) (rows-and rs (g .1) t h))
+    (more (place-line (r .place) (r .pieces) (figure r) (g .0 .place) (g .0 .pieces) (row-small r (g .0)))
+    (rows-and rs (g .1) t h))
 
 rows-back : (rs : List Row) → AllFair rs → (t : List ℕ) → readLines (length rs) (linesOf rs ++ t) ≡ map shown rs
 rows-back [] g t = refl
@@ -289,7 +304,8 @@ unfolding pageOf
 page-back rs g = rows-back rs g (totalLine (totalOf rs))
 
 -- and the last line "the sum of the printed masses"
-pub total-back : (rs : List Row) → AllFair rs → length rs ≤ 32 → readMass (drop (65 * length rs) (pageOf rs)) ≡ exactly (totalOf rs)
+pub total-back : (rs : List Row) → AllFair rs → length rs ≤ 32
+    → readMass (drop (65 * length rs) (pageOf rs)) ≡ exactly (totalOf rs)
 unfolding pageOf
 total-back rs g h =
     let t = totalLine (totalOf rs) in

@@ -26,8 +26,11 @@ use readings::counts::count_filled;
 
 // Writes the page of a sound store whose masses can be printed.
 fn write_page(out: &mut [u8], floats: &[f64], words: &[u32], faces: usize)
-    requires { ⌜ coordsFrom ≤ length (now floats) ⌝ ∗ ⌜ Worded width (now words) faces ⌝ ∗ ⌜ (allPrintable (heldRows width (now floats) (now words) placeLimit) ≡ true) × (65 * length (heldRows width (now floats) (now words) placeLimit) + 65 ≤ length (now out)) ⌝ }
-    ensures { λ _. ⌜ now (out .exit) ≡ write (now (out .entry)) 0 (pageOf (heldRows width (now (floats .entry)) (now (words .entry)) placeLimit)) ⌝ }
+    requires { ⌜ coordsFrom ≤ length (now floats) ⌝ ∗ ⌜ Worded width (now words) faces ⌝
+        ∗ ⌜ (allPrintable (heldRows width (now floats) (now words) placeLimit) ≡ true)
+        × (65 * length (heldRows width (now floats) (now words) placeLimit) + 65 ≤ length (now out)) ⌝ }
+    ensures { λ _. ⌜ now (out .exit) ≡ write (now (out .entry)) 0
+        (pageOf (heldRows width (now (floats .entry)) (now (words .entry)) placeLimit)) ⌝ }
 {
     let mut s = Sums {
         at: 0,
@@ -45,7 +48,8 @@ fn write_page(out: &mut [u8], floats: &[f64], words: &[u32], faces: usize)
 // Refusal 17 or 18, or the page.
 fn page_of(floats: &[f64], words: &[u32], faces: usize, out: &mut [u8]) -> Printed
     requires { ⌜ coordsFrom ≤ length (now floats) ⌝ ∗ ⌜ Worded width (now words) faces ⌝ }
-    ensures { λ r. ⌜ printout (printedAs r) (now (out .exit)) ≡ pageAnswer (heldRows width (now (floats .entry)) (now (words .entry)) placeLimit) (now (out .entry)) ⌝ }
+    ensures { λ r. ⌜ printout (printedAs r) (now (out .exit))
+        ≡ pageAnswer (heldRows width (now (floats .entry)) (now (words .entry)) placeLimit) (now (out .entry)) ⌝ }
 {
     if !all_printable(floats, words, faces) {
         return Printed::Refused(Refusal::NoFigure);
@@ -74,7 +78,8 @@ fn check_done(floats: &[f64], words: &[u32]) -> Checked
 
 // Writes the page of a store whose work is done into lent bytes.
 pub fn page(floats: &[f64], words: &[u32], out: &mut [u8]) -> Printed
-    ensures { λ r. ⌜ printout (printedAs r) (now (out .exit)) ≡ pageStep width (now (floats .entry)) (now (words .entry)) (now (out .entry)) ⌝ }
+    ensures { λ r. ⌜ printout (printedAs r) (now (out .exit))
+        ≡ pageStep width (now (floats .entry)) (now (words .entry)) (now (out .entry)) ⌝ }
 {
     match check_done(floats, words) {
         Checked::Failed(r) => Printed::Refused(r),

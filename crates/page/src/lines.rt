@@ -50,7 +50,8 @@ fn write_minus(out: &mut [u8], at: usize, n: u64) -> usize
 // A whole number, right-aligned in 20 columns.
 fn write_whole(out: &mut [u8], at: usize, v: Whole) -> usize
     requires { ⌜ (at + 20 ≤ length (now out)) × (v .size < 100000000000000000) ⌝ }
-    ensures { λ r. ⌜ (r ≡ at + 20) × Wrote (now (out .entry)) at (right 20 (wholeText (signedWhole (v .minus) (v .size)))) r (now (out .exit)) ⌝ }
+    ensures { λ r. ⌜ (r ≡ at + 20) × Wrote (now (out .entry)) at
+        (right 20 (wholeText (signedWhole (v .minus) (v .size)))) r (now (out .exit)) ⌝ }
 {
     let size = v.size;
     let below = v.minus & (size > 0);
@@ -63,7 +64,8 @@ fn write_whole(out: &mut [u8], at: usize, v: Whole) -> usize
 // Columns 6 to 64 of a line, and its newline.
 fn write_ending(out: &mut [u8], at: usize, v: Whole) -> usize
     requires { ⌜ (at + 60 ≤ length (now out)) × (v .size < 100000000000000000) ⌝ }
-    ensures { λ r. ⌜ (r ≡ at + 60) × Wrote (now (out .entry)) at (ending (signedWhole (v .minus) (v .size))) r (now (out .exit)) ⌝ }
+    ensures { λ r. ⌜ (r ≡ at + 60) × Wrote (now (out .entry)) at (ending (signedWhole (v .minus) (v .size))) r
+        (now (out .exit)) ⌝ }
 {
     let a = write_spaces(out, at, 39);
     let b = write_whole(out, a, v);
@@ -73,7 +75,8 @@ fn write_ending(out: &mut [u8], at: usize, v: Whole) -> usize
 // A place's line.
 pub fn write_line(out: &mut [u8], at: usize, place: u64, pieces: u64, v: Whole) -> usize
     requires { ⌜ (at + 65 ≤ length (now out)) × (place < 100) × (pieces < 100) × (v .size < 100000000000000000) ⌝ }
-    ensures { λ r. ⌜ (r ≡ at + 65) × Wrote (now (out .entry)) at (placeLine place pieces (signedWhole (v .minus) (v .size))) r (now (out .exit)) ⌝ }
+    ensures { λ r. ⌜ (r ≡ at + 65) × Wrote (now (out .entry)) at
+        (placeLine place pieces (signedWhole (v .minus) (v .size))) r (now (out .exit)) ⌝ }
 {
     let a = write_right(out, at, 2, place);
     let b = write_bytes(out, a, b" ");
@@ -84,7 +87,8 @@ pub fn write_line(out: &mut [u8], at: usize, place: u64, pieces: u64, v: Whole) 
 // The last line.
 pub fn write_total(out: &mut [u8], at: usize, v: Whole) -> usize
     requires { ⌜ (at + 65 ≤ length (now out)) × (v .size < 100000000000000000) ⌝ }
-    ensures { λ r. ⌜ (r ≡ at + 65) × Wrote (now (out .entry)) at (totalLine (signedWhole (v .minus) (v .size))) r (now (out .exit)) ⌝ }
+    ensures { λ r. ⌜ (r ≡ at + 65) × Wrote (now (out .entry)) at (totalLine (signedWhole (v .minus) (v .size))) r
+        (now (out .exit)) ⌝ }
 {
     let a = write_bytes(out, at, b"TOTAL");
     write_ending(out, a, v)

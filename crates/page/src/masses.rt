@@ -55,7 +55,9 @@ pub struct Sums {
 // The sums with a mass more, the page written up to `at`.
 fn add(s: Sums, at: usize, v: Whole) -> Sums
     requires { ⌜ (v .size ≤ 1000000000000000) × (s .plus ≤ 31000000000000000) × (s .less ≤ 31000000000000000) ⌝ }
-    ensures { λ r. ⌜ (r .at ≡ at) × (pos (r .plus) -ℤ pos (r .less) ≡ (pos (s .plus) -ℤ pos (s .less)) +ℤ signedWhole (v .minus) (v .size)) × (r .plus ≤ s .plus + 1000000000000000) × (r .less ≤ s .less + 1000000000000000) ⌝ }
+    ensures { λ r. ⌜ (r .at ≡ at) × (pos (r .plus) -ℤ pos (r .less)
+        ≡ (pos (s .plus) -ℤ pos (s .less)) +ℤ signedWhole (v .minus) (v .size)) ×
+        (r .plus ≤ s .plus + 1000000000000000) × (r .less ≤ s .less + 1000000000000000) ⌝ }
 {
     let plus = s.plus;
     let less = s.less;
@@ -91,9 +93,16 @@ pub fn total(plus: u64, less: u64) -> Whole
 
 // The line of place i, if it is filled.
 pub fn place_line(out: &mut [u8], floats: &[f64], i: usize, status: u32, s: Sums) -> Sums
-    requires { ⌜ (coordsFrom ≤ length (now floats)) × (i < placeLimit) × (status - 1 ≤ pieceLimit) ⌝ ∗ ⌜ allPrintable (rowAt (now floats) i status) ≡ true ⌝ ∗ ⌜ (s .at + 65 * length (rowAt (now floats) i status) ≤ length (now out)) × (s .plus ≤ 31000000000000000) × (s .less ≤ 31000000000000000) ⌝ }
-    ensures { λ r. ⌜ (r .at ≡ s .at + 65 * length (rowAt (now (floats .entry)) i status)) × Wrote (now (out .entry)) (s .at) (linesOf (rowAt (now (floats .entry)) i status)) (r .at) (now (out .exit)) ⌝ }
-    ensures { λ r. ⌜ (pos (r .plus) -ℤ pos (r .less) ≡ (pos (s .plus) -ℤ pos (s .less)) +ℤ totalOf (rowAt (now (floats .entry)) i status)) × (r .plus ≤ s .plus + 1000000000000000) × (r .less ≤ s .less + 1000000000000000) ⌝ }
+    requires { ⌜ (coordsFrom ≤ length (now floats)) × (i < placeLimit) × (status - 1 ≤ pieceLimit) ⌝
+        ∗ ⌜ allPrintable (rowAt (now floats) i status) ≡ true ⌝
+        ∗ ⌜ (s .at + 65 * length (rowAt (now floats) i status) ≤ length (now out)) × (s .plus ≤ 31000000000000000)
+        × (s .less ≤ 31000000000000000) ⌝ }
+    ensures { λ r. ⌜ (r .at ≡ s .at + 65 * length (rowAt (now (floats .entry)) i status))
+        × Wrote (now (out .entry)) (s .at) (linesOf (rowAt (now (floats .entry)) i status)) (r .at)
+        (now (out .exit)) ⌝ }
+    ensures { λ r. ⌜ (pos (r .plus) -ℤ pos (r .less)
+        ≡ (pos (s .plus) -ℤ pos (s .less)) +ℤ totalOf (rowAt (now (floats .entry)) i status)) ×
+        (r .plus ≤ s .plus + 1000000000000000) × (r .less ≤ s .less + 1000000000000000) ⌝ }
 {
     if status == 0 {
         return s;

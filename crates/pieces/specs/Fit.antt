@@ -1,4 +1,5 @@
--- 01, "Pieces (`adaptive_cauchy_decompose`)": the fit of a kernel by kernels of exponent 1, in the Rust's order of operations. Definitions only.
+-- 01, "Pieces (`adaptive_cauchy_decompose`)": the fit of a kernel by kernels of exponent 1, in the Rust's order of
+-- operations. Definitions only.
 use Prim.Native.Nat.{ℕ, _-_, _/_}
 use mathlib.Core.Bool.{cond}
 use mathlib.Core.List.{List, []}
@@ -59,7 +60,8 @@ abbrev pub targetAt : ℕ → Float → Float → List Float → List Float
 targetAt terms wa target row = set row terms (getD row terms nan ⊕ wa ⊗ target)
 
 abbrev pub crossedRowAt : ℕ → List Float → Float → ℕ → Matrix → Matrix
-crossedRowAt terms basis target a m = set m a (targetAt terms (getD basis a nan) target (crossed terms basis (getD basis a nan) (getD m a [])))
+crossedRowAt terms basis target a m =
+    set m a (targetAt terms (getD basis a nan) target (crossed terms basis (getD basis a nan) (getD m a [])))
 
 -- every row with one sample more
 unfoldable pub sampled : ℕ → List Float → Float → Matrix → Matrix

@@ -1,4 +1,5 @@
--- 02, L4, "How a fit ended": what a decomposition passes on of the solver, and how an answer carries it. Definitions only.
+-- 02, L4, "How a fit ended": what a decomposition passes on of the solver, and how an answer carries it. Definitions
+-- only.
 use Prim.Native.Nat.{ℕ}
 use mathlib.Core.Bool.{cond}
 use lib.Ieee.{Float, ne}
@@ -20,7 +21,8 @@ endedFit (flat c) = Fallback c
 unfoldable pub fitOf : Kernel → Float → Fit
 fitOf k radius =
     cond (stays (k .alpha)) Kept
-    (cond (ne (k .alpha) (k .alpha)) NoExponent (endedFit (solvedBy (sizeOf (delta (k .alpha)) .terms) (curveOf k radius))))
+    (cond (ne (k .alpha) (k .alpha)) NoExponent
+    (endedFit (solvedBy (sizeOf (delta (k .alpha)) .terms) (curveOf k radius))))
 
 -- ---- in an answer: which of the four, 0 to 3 in their order, then column and pivot, 0 where it has none
 abbrev pub kindOf : Fit → ℕ

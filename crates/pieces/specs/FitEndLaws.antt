@@ -1,4 +1,6 @@
--- Theorems of how a fit ended: kept exactly where the kernel stays, no exponent exactly where alpha is a NaN, a fitted one's pivot a NaN or above 1e-18, a fallback's column among the terms; and what it does not depend on. Assumes nothing.
+-- Theorems of how a fit ended: kept exactly where the kernel stays, no exponent exactly where alpha is a NaN, a fitted
+-- one's pivot a NaN or above 1e-18, a fallback's column among the terms; and what it does not depend on. Assumes
+-- nothing.
 use mathlib.Core.Path.{_≡_, refl, sym, ap, subst}
 use mathlib.Core.Bool.{Bool, true, false, cond}
 use mathlib.Core.List.{List}
@@ -69,6 +71,7 @@ module _ (k : Kernel) (radius : Float) where
 
 -- a kernel of another centre and weight is fitted alike
 pub same-fit : (c c' : List Float) (sigma w w' alpha radius : Float)
-    → fitOf (record { c = c; sigma = sigma; w = w; alpha = alpha }) radius ≡ fitOf (record { c = c'; sigma = sigma; w = w'; alpha = alpha }) radius
+    → fitOf (record { c = c; sigma = sigma; w = w; alpha = alpha }) radius
+    ≡ fitOf (record { c = c'; sigma = sigma; w = w'; alpha = alpha }) radius
 unfolding fitOf
 same-fit c c' sigma w w' alpha radius = refl

@@ -1,4 +1,5 @@
--- Theorems of the fit: what its outer scales are, where the fallback stands, that the peak error is at least +0, and that it is 1 where the exponent is a NaN. Assumes nothing.
+-- Theorems of the fit: what its outer scales are, where the fallback stands, that the peak error is at least +0, and
+-- that it is 1 where the exponent is a NaN. Assumes nothing.
 use mathlib.Core.Path.{_≡_, refl}
 use mathlib.Core.Logic.{⊎-elim}
 use mathlib.Core.Bool.{Bool, true, false, cond, _||_}
@@ -52,7 +53,8 @@ unfolding le ofBits
 zero-least = refl
 
 -- "Peak error is never NaN nor below 0"
-pub error-least : (terms : ℕ) (scales coefs : List Float) (curve : Curve) → le +0 (peakError terms scales coefs curve) ≡ true
+pub error-least : (terms : ℕ) (scales coefs : List Float) (curve : Curve)
+    → le +0 (peakError terms scales coefs curve) ≡ true
 unfolding peakError times errorAt
 error-least terms scales coefs curve = go (curve .samples) 0 +0 zero-least
   where

@@ -34,7 +34,8 @@ fittedOne n e fit = record { refusal = 0; counts = n ∷ kindOf fit ∷ columnOf
 unfoldable pub decomposition : Kernel → Float → List Float → Outcome
 decomposition k radius xs =
     guardedRun (roomCheck (6 * decomposed k radius .count) (length xs)) xs
-    (outcome (fittedOne (decomposed k radius .count) (decomposed k radius .error) (fitOf k radius)) (laid 0 k (decomposed k radius) xs))
+    (outcome (fittedOne (decomposed k radius .count) (decomposed k radius .error) (fitOf k radius))
+    (laid 0 k (decomposed k radius) xs))
 
 -- 01's number and values for each case of the code's answer
 abbrev pub decomposedAs : Decomposed → Answer

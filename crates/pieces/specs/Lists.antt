@@ -31,7 +31,8 @@ greatestError ks radius (suc n) = greater (greatestError ks radius n) (piecesAt 
 -- each kernel's pieces behind those of the kernels before it; words past them as they were
 unfoldable pub spread : List Float → Float → ℕ → List Float → List Float
 spread ks radius zero xs = xs
-spread ks radius (suc n) xs = laid (pieceCount ks radius n) (kernelAt ks n) (piecesAt ks radius n) (spread ks radius n xs)
+spread ks radius (suc n) xs =
+    laid (pieceCount ks radius n) (kernelAt ks n) (piecesAt ks radius n) (spread ks radius n xs)
 
 -- ---- the answer
 

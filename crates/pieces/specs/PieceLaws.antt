@@ -1,4 +1,5 @@
--- Theorems of a kernel's pieces: how many there are, that the rest of their arrays is +0, that the peak error is at least +0, what they do not depend on, and what a NaN exponent gives. Assumes nothing.
+-- Theorems of a kernel's pieces: how many there are, that the rest of their arrays is +0, that the peak error is at
+-- least +0, what they do not depend on, and what a NaN exponent gives. Assumes nothing.
 use mathlib.Core.Path.{_≡_, refl, ap, _∙_}
 use mathlib.Core.Bool.{Bool, true, false, cond}
 use mathlib.Core.List.{List}
@@ -45,13 +46,18 @@ pub keep-count : (p : Pieces) (s k : Float) {i : ℕ} → p .count ≤ i → kee
 unfolding keep
 keep-count p s k {i} h = cond-of (λ (q : Pieces). q .count ≤ i + 1) (lt keepLimit (abs k)) (omega arith) (omega arith)
 
-kept-count : (terms : ℕ) (sigma : Float) (scales coefs : List Float) (p : Pieces) → p .count ≡ 0 → kept terms sigma scales coefs p .count ≤ terms
+kept-count : (terms : ℕ) (sigma : Float) (scales coefs : List Float) (p : Pieces) → p .count ≡ 0
+    → kept terms sigma scales coefs p .count ≤ terms
 unfolding kept times
 kept-count terms sigma scales coefs p h = omega (arith, go terms 0 0 p (omega arith))
   where
     go : (k i j : ℕ) (q : Pieces) → q .count ≤ j → times (keepAt sigma scales coefs) k i q .count ≤ j + k
     go zero i j q l = omega arith
-    go (suc k) i j q l = omega (arith, go k (suc i) (j + 1) (keepAt sigma scales coefs i q) (keep-count q (sigma ⊗ getD scales i nan) (getD coefs i nan) l))
+    go (suc k) i j q l = omega (
+      arith,
+      go k (suc i) (j + 1) (keepAt sigma scales coefs i q)
+          (keep-count q (sigma ⊗ getD scales i nan) (getD coefs i nan) l),
+    )
 
 -- a kernel's pieces by any scales, coefficients and error, whatever powers they were worked with
 abbrev pub fittedWith : Kernel → List Float → List Float → Float → Pieces
@@ -103,11 +109,13 @@ keep-clean p s k h =
     cond-of Clean (lt keepLimit (abs k))
     (record {
       no-sigma = λ i l b. set-below (p .sigma) (p .count) i s (omega arith) ∙ h .no-sigma i (omega arith) b;
-      no-coefficient = λ i l b. set-below (p .coefficient) (p .count) i k (omega arith) ∙ h .no-coefficient i (omega arith) b;
+      no-coefficient =
+          λ i l b. set-below (p .coefficient) (p .count) i k (omega arith) ∙ h .no-coefficient i (omega arith) b;
     })
     h
 
-kept-clean : (terms : ℕ) (sigma : Float) (scales coefs : List Float) (p : Pieces) → Clean p → Clean (kept terms sigma scales coefs p)
+kept-clean : (terms : ℕ) (sigma : Float) (scales coefs : List Float) (p : Pieces) → Clean p
+    → Clean (kept terms sigma scales coefs p)
 unfolding kept times
 kept-clean terms sigma scales coefs p h = go terms 0 p h
   where
@@ -134,7 +142,8 @@ keep-error : (p : Pieces) (s k : Float) → keep p s k .error ≡ p .error
 unfolding keep
 keep-error p s k = cond-of (λ (q : Pieces). q .error ≡ p .error) (lt keepLimit (abs k)) refl refl
 
-kept-error : (terms : ℕ) (sigma : Float) (scales coefs : List Float) (p : Pieces) → kept terms sigma scales coefs p .error ≡ p .error
+kept-error : (terms : ℕ) (sigma : Float) (scales coefs : List Float) (p : Pieces)
+    → kept terms sigma scales coefs p .error ≡ p .error
 unfolding kept times
 kept-error terms sigma scales coefs p = go terms 0 p
   where
@@ -146,7 +155,8 @@ kept-error terms sigma scales coefs p = go terms 0 p
 pub error-at-least-zero : (k : Kernel) (radius : Float) → le +0 (decomposed k radius .error) ≡ true
 unfolding decomposed fitted
 error-at-least-zero k radius =
-    cond-of (λ (p : Pieces). le +0 (p .error) ≡ true) (stays (k .alpha)) zero-least (rw kept-error (error-least _ _ _ _))
+    cond-of (λ (p : Pieces). le +0 (p .error) ≡ true) (stays (k .alpha)) zero-least
+    (rw kept-error (error-least _ _ _ _))
 
 -- ---- a kernel that stays has one piece, of its own sigma
 pub stays-itself : (k : Kernel) (radius : Float) → stays (k .alpha) ≡ true → decomposed k radius ≡ itself k
@@ -166,11 +176,13 @@ piece-stays alpha = go (stays alpha) refl
 
 -- a kernel of another centre and weight has the same pieces
 pub same-pieces : (c c' : List Float) (sigma w w' alpha radius : Float)
-    → decomposed (record { c = c; sigma = sigma; w = w; alpha = alpha }) radius ≡ decomposed (record { c = c'; sigma = sigma; w = w'; alpha = alpha }) radius
+    → decomposed (record { c = c; sigma = sigma; w = w; alpha = alpha }) radius
+    ≡ decomposed (record { c = c'; sigma = sigma; w = w'; alpha = alpha }) radius
 unfolding decomposed
 same-pieces c c' sigma w w' alpha radius = refl
 
 -- "NaN alpha gives no piece and error 1"
-pub nan-alpha : (c : List Float) (sigma w radius : Float) → decomposed (record { c = c; sigma = sigma; w = w; alpha = nan }) radius ≡ none one
+pub nan-alpha : (c : List Float) (sigma w radius : Float)
+    → decomposed (record { c = c; sigma = sigma; w = w; alpha = nan }) radius ≡ none one
 unfolding decomposed fitted kept scalesOf coefficientsOf eliminated answers table times abs sub le sizeOf lt ofBits
 nan-alpha c sigma w radius = ap none (error-one zeros zeros (log10 (greater one (sigma ⊗ greater one radius))))

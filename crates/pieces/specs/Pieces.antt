@@ -78,7 +78,8 @@ fitted terms curve sigma =
 
 -- a kernel's pieces on a body of this radius
 unfoldable pub decomposed : Kernel → Float → Pieces
-decomposed k radius = cond (stays (k .alpha)) (itself k) (fitted (sizeOf (delta (k .alpha)) .terms) (curveOf k radius) (k .sigma))
+decomposed k radius =
+    cond (stays (k .alpha)) (itself k) (fitted (sizeOf (delta (k .alpha)) .terms) (curveOf k radius) (k .sigma))
 
 -- the exponent of each piece: "alpha untouched" of a kernel that stays, else "alpha exactly 1"
 unfoldable pub pieceAlpha : Float → Float

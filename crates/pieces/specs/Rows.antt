@@ -38,7 +38,8 @@ justBelow-is = refl
 
 -- "alpha 1.0000000005 stays"
 pub near-stays : (c : List Float) (sigma w radius : Float)
-    → decomposed (record { c = c; sigma = sigma; w = w; alpha = near }) radius ≡ itself (record { c = c; sigma = sigma; w = w; alpha = near })
+    → decomposed (record { c = c; sigma = sigma; w = w; alpha = near }) radius
+    ≡ itself (record { c = c; sigma = sigma; w = w; alpha = near })
 unfolding decomposed abs sub ofBits le lt
 near-stays c sigma w radius = refl
 

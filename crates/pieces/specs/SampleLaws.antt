@@ -12,7 +12,8 @@ use Rattle.pieces.specs.Samples.{valueAt, Samples}
 use Rattle.pieces.specs.declared.points.Curve.{Curve}
 
 -- the two tables of a curve hold its samples
-pub holds : (curve : Curve) (us targets : List Float) → curve .samples ≤ 48 → us ≡ table (sampleOf curve) (curve .samples) (replicate 48 +0)
+pub holds : (curve : Curve) (us targets : List Float) → curve .samples ≤ 48
+    → us ≡ table (sampleOf curve) (curve .samples) (replicate 48 +0)
     → targets ≡ table (valueAt curve us) (curve .samples) (replicate 48 +0) → Samples curve us targets
 holds curve us targets h e₁ e₂ = record { point = point; value = value }
   where
@@ -20,4 +21,5 @@ holds curve us targets h e₁ e₂ = record { point = point; value = value }
     point j l = rw e₁ (tabled (sampleOf curve) nan (curve .samples) j (replicate 48 +0) l h)
 
     value : (j : ℕ) → j < curve .samples → getD targets j nan ≡ targetOf (curve .alpha) (sampleOf curve j)
-    value j l = rw e₂ (tabled (valueAt curve us) nan (curve .samples) j (replicate 48 +0) l h) ∙ ap (targetOf (curve .alpha)) (point j l)
+    value j l = rw e₂ (tabled (valueAt curve us) nan (curve .samples) j (replicate 48 +0) l h)
+        ∙ ap (targetOf (curve .alpha)) (point j l)

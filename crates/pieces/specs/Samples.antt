@@ -1,4 +1,5 @@
--- The samples of a curve as a fit keeps them: worked out once, for the normal equations and for the peak error. Definitions only.
+-- The samples of a curve as a fit keeps them: worked out once, for the normal equations and for the peak error.
+-- Definitions only.
 use Prim.Native.Nat.{ℕ, _<_}
 use mathlib.Core.Path.{_≡_}
 use mathlib.Core.List.{List}

@@ -51,7 +51,9 @@ fn has_room(kernels: &[f64], radius: f64, n: usize, room: usize) -> bool
 // Writes the pieces of the first n kernels to the start of a run.
 fn write_pieces(kernels: &[f64], radius: f64, n: usize, out: &mut [f64]) -> DecomposedList
     requires { ⌜ (6 * n ≤ length (now kernels)) × (6 * pieceCount (now kernels) radius n ≤ length (now out)) ⌝ }
-    ensures { λ r. ⌜ outcome (listedAs r) (now (out .exit)) ≡ outcome (fittedAll n (pieceCount (now (kernels .entry)) radius n) (greatestError (now (kernels .entry)) radius n)) (spread (now (kernels .entry)) radius n (now (out .entry))) ⌝ }
+    ensures { λ r. ⌜ outcome (listedAs r) (now (out .exit))
+        ≡ outcome (fittedAll n (pieceCount (now (kernels .entry)) radius n)
+        (greatestError (now (kernels .entry)) radius n)) (spread (now (kernels .entry)) radius n (now (out .entry))) ⌝ }
 {
     let mut pieces = 0;
     let mut error = 0.0;
@@ -74,7 +76,8 @@ fn write_pieces(kernels: &[f64], radius: f64, n: usize, out: &mut [f64]) -> Deco
 // Decomposes a list of kernels on a body of this radius and writes their pieces to the start of the run,
 // in the order of the list. Words past them, and the whole run at a refusal, stay as they were.
 pub fn decompose_list(kernels: &[f64], radius: f64, out: &mut [f64]) -> DecomposedList
-    ensures { λ r. ⌜ outcome (listedAs r) (now (out .exit)) ≡ listDecomposition (now (kernels .entry)) radius (now (out .entry)) ⌝ }
+    ensures { λ r. ⌜ outcome (listedAs r) (now (out .exit))
+        ≡ listDecomposition (now (kernels .entry)) radius (now (out .entry)) ⌝ }
 {
     let checked = check_list(kernels);
     match checked {

@@ -34,7 +34,8 @@ fn fill_basis(basis: &mut [f64; 16], terms: usize, scales: &[f64; 16], u: f64)
 // Adds one sample to a row, left and right side; wa is the value of the row's own term.
 fn add_row(row: &mut [f64; 17], terms: usize, basis: &[f64; 16], wa: f64, target: f64)
     requires { ⌜ terms ≤ 16 ⌝ }
-    ensures { λ _. ⌜ now (row .exit) ≡ targetAt terms wa target (crossed terms (now (basis .entry)) wa (now (row .entry))) ⌝ }
+    ensures { λ _. ⌜ now (row .exit) ≡ targetAt terms wa target
+        (crossed terms (now (basis .entry)) wa (now (row .entry))) ⌝ }
 {
     let mut b = 0;
     while b < terms {
@@ -59,7 +60,8 @@ fn add_sample(m: &mut [[f64; 17]; 16], terms: usize, basis: &[f64; 16], target: 
 // Adds the sample at u.
 fn add_sample_at(m: &mut [[f64; 17]; 16], terms: usize, scales: &[f64; 16], u: f64, target: f64)
     requires { ⌜ terms ≤ 16 ⌝ }
-    ensures { λ _. ⌜ now (m .exit) ≡ sampled terms (basisOf terms (now (scales .entry)) u zeros) target (now (m .entry)) ⌝ }
+    ensures { λ _. ⌜ now (m .exit) ≡ sampled terms (basisOf terms (now (scales .entry)) u zeros) target
+        (now (m .entry)) ⌝ }
 {
     let mut basis = [0.0; 16];
     fill_basis(&mut basis, terms, scales, u);
@@ -100,7 +102,8 @@ pub fn add_ridge(m: &mut [[f64; 17]; 16], terms: usize)
 // Solves the normal equations for the coefficients, and tells how; where that fails, one term stands for all.
 pub fn solve_for(coefficients: &mut [f64; 16], m: &mut [[f64; 17]; 16], terms: usize) -> Fit
     requires { ⌜ terms ≤ 16 ⌝ }
-    ensures { λ _. ⌜ now (coefficients .exit) ≡ coefficientsOf terms (now (coefficients .entry)) (eliminated terms (now (m .entry))) ⌝ }
+    ensures { λ _. ⌜ now (coefficients .exit)
+        ≡ coefficientsOf terms (now (coefficients .entry)) (eliminated terms (now (m .entry))) ⌝ }
     ensures { λ r. ⌜ r ≡ endedFit (eliminated terms (now (m .entry))) ⌝ }
 {
     let end = eliminate(m, terms);

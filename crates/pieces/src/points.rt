@@ -79,7 +79,8 @@ pub fn fill_points(us: &mut [f64; 48], curve: Curve)
 // Writes the kernel's own values at the points.
 pub fn fill_targets(targets: &mut [f64; 48], us: &[f64; 48], curve: Curve)
     requires { ⌜ curve .samples ≤ 48 ⌝ }
-    ensures { λ _. ⌜ now (targets .exit) ≡ table (valueAt curve (now (us .entry))) (curve .samples) (now (targets .entry)) ⌝ }
+    ensures { λ _. ⌜ now (targets .exit)
+        ≡ table (valueAt curve (now (us .entry))) (curve .samples) (now (targets .entry)) ⌝ }
 {
     let mut j = 0;
     while j < curve.samples {

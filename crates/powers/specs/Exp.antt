@@ -46,4 +46,5 @@ expAt y n = scale (expSum ((y ⊖ ofInt binary64 n) ⊗ ln2)) n
 
 -- "NaN gives NaN; y ≥ 1024 +inf; y < -1080 zero. Else n = greatest whole number ≤ the float y + 0.5"
 unfoldable pub exp : Float → Float
-exp y = cond (isNan y) nan (cond (le expTop y) (inf false) (cond (lt y (neg expBottom)) (bits 0) (expAt y (floor (y ⊕ half)))))
+exp y = cond (isNan y) nan (cond (le expTop y) (inf false)
+    (cond (lt y (neg expBottom)) (bits 0) (expAt y (floor (y ⊕ half)))))

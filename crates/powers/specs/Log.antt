@@ -6,7 +6,8 @@ use Rattle.base.specs.Loops.{down}
 use Rattle.base.specs.Floats.{_⊕_, _⊖_, _⊗_, _⊘_, bits, whole, unitsIn}
 use Rattle.base.specs.Constants.{half, one, two, twentyOne, rootTwo, log2e}
 
--- "b = m·2^e, 1 ≤ m < 2": e is place - 1074, since b is a whole number of units of 2^-1074, the highest digit of which stands at this place
+-- "b = m·2^e, 1 ≤ m < 2": e is place - 1074, since b is a whole number of units of 2^-1074, the highest digit of which
+-- stands at this place
 unfoldable pub placeOf : Float → ℕ
 placeOf b = size (unitsIn binary64 b) - 1
 
@@ -32,8 +33,10 @@ logAt m place = ofInt binary64 (minus place 1074) ⊕ logCore ((m ⊖ one) ⊘ (
 
 -- "if m > 1.4142135623730951, halve m, raise e by 1"
 unfoldable pub logPositive : Float → Float
-logPositive b = cond (lt rootTwo (mantissa b)) (logAt (mantissa b ⊗ half) (placeOf b + 1)) (logAt (mantissa b) (placeOf b))
+logPositive b =
+    cond (lt rootTwo (mantissa b)) (logAt (mantissa b ⊗ half) (placeOf b + 1)) (logAt (mantissa b) (placeOf b))
 
 -- "NaN or b < 0 gives NaN, zero -inf, +inf itself"
 unfoldable pub log : Float → Float
-log b = cond (isNan b || lt b (bits 0)) nan (cond (eq b (bits 0)) (inf true) (cond (eq b (inf false)) (inf false) (logPositive b)))
+log b = cond (isNan b || lt b (bits 0)) nan
+    (cond (eq b (bits 0)) (inf true) (cond (eq b (inf false)) (inf false) (logPositive b)))

@@ -20,12 +20,13 @@ tenSteps y = exp (y ⊗ log2ten)
 unfoldable pub wholeTen : ℕ → Float
 wholeTen k = whole (10 ^ k)
 
--- "whole y" from -22 to 22, -0 among them: in size y is its part before the point, and that is at most 22. No NaN and no infinity is.
+-- "whole y" from -22 to 22, -0 among them: in size y is its part before the point, and that is at most 22. No NaN and
+-- no infinity is.
 unfoldable pub smallWhole : Float → Bool
 smallWhole y = leb (cut y) 22 && eq (abs y) (whole (cut y))
 
--- T(y), which stands for `10.0_f64.powf(y)`. 02, L2: "For whole y from 0 to 22, T(y) becomes the float 10^y. .. For whole y from -22 to -1 it
--- becomes 1 divided by the float 10^(-y). Other arguments keep 01's steps."
+-- T(y), which stands for `10.0_f64.powf(y)`. 02, L2: "For whole y from 0 to 22, T(y) becomes the float 10^y. .. For
+-- whole y from -22 to -1 it becomes 1 divided by the float 10^(-y). Other arguments keep 01's steps."
 unfoldable pub tenTo : Float → Float
 tenTo y = cond (smallWhole y) (cond (lt y +0) (one ⊘ wholeTen (cut y)) (wholeTen (cut y))) (tenSteps y)
 

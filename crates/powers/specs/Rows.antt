@@ -1,5 +1,5 @@
--- Rows of 01's bench table on powers, by computation, and the ends of the range. The values come from 01's formulas, worked out in IEEE floats and exact fractions apart from these definitions.
--- Assumes nothing.
+-- Rows of 01's bench table on powers, by computation, and the ends of the range. The values come from 01's formulas,
+-- worked out in IEEE floats and exact fractions apart from these definitions. Assumes nothing.
 use mathlib.Core.Path.{_≡_, refl}
 use mathlib.Core.Bool.{true, false}
 use Prim.Native.Nat.{ℕ}

@@ -1,4 +1,5 @@
--- 01, "Remainder", program `bench`: what the code does with a byte of its input. Definitions only; Bench.antt says what comes of them.
+-- 01, "Remainder", program `bench`: what the code does with a byte of its input. Definitions only; Bench.antt says what
+-- comes of them.
 use Prim.Native.Nat.{ℕ, _+_}
 use mathlib.Core.Path.{_≡_}
 use mathlib.Core.Bool.{cond}
@@ -31,8 +32,8 @@ pub record Fed : Type 0 where
   pub next : Held
   pub text : List ℕ
 
--- what a function does that holds a session s and n bytes of a line: it is f's, so that s′ and n′ bytes are held afterwards, and f's text
--- is written from the start of out, up to k
+-- what a function does that holds a session s and n bytes of a line: it is f's, so that s′ and n′ bytes are held
+-- afterwards, and f's text is written from the start of out, up to k
 abbrev pub Feeds : (Held → Fed) → Session → List ℕ → ℕ → Session → List ℕ → ℕ → List ℕ → ℕ → List ℕ → Type 0
 Feeds f s line n s′ line′ n′ out k out′ =
     let r = f (heldWith s line n) in

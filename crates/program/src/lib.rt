@@ -73,7 +73,8 @@ fn end_line(
 // A byte more of a line.
 fn keep(st: State, b: u8, line: &mut [u8; 256]) -> State
     ensures { λ r. ⌜ (r .opening ≡ st .opening) × (r .wrote ≡ 0) ⌝ }
-    ensures { λ r. ⌜ (now (line .exit) ≡ lineWith (now (line .entry)) (st .count) b) × (r .count ≡ countWith (st .count)) ⌝ }
+    ensures { λ r. ⌜ (now (line .exit) ≡ lineWith (now (line .entry)) (st .count) b)
+        × (r .count ≡ countWith (st .count)) ⌝ }
 {
     let opening = st.opening;
     let n = st.count;

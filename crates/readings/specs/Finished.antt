@@ -11,8 +11,8 @@ use Rattle.layout.specs.Soundness.{storeCheck}
 use Rattle.layout.specs.Layers.{layersCheck, hiding, inLayers}
 use Rattle.readings.specs.Readings.{report, answerOf, heldFilled, heldSeen}
 
--- "the places whose steps are complete": every piece of place i is finished. So it is of a place without pieces, and of any
--- place of a mesh without faces
+-- "the places whose steps are complete": every piece of place i is finished. So it is of a place without pieces, and of
+-- any place of a mesh without faces
 unfoldable pub completeAt : ℕ → List ℕ → ℕ → Bool
 completeAt q ws i = eqb (finishedOf q ws i) (statusOf q ws i - 1)
 
@@ -29,7 +29,8 @@ passedOver q layers ws =
 abbrev pub beside : ℕ → Answer → Answer
 beside n a = record { refusal = a .refusal; counts = a .counts ++ (n ∷ []); floats = a .floats }
 
--- "It equals the ordinary report of a store holding just those places"; "It is never refused as unfinished": 4, 5 and 16
+-- "It equals the ordinary report of a store holding just those places"; "It is never refused as unfinished": 4, 5 and
+-- 16
 unfoldable pub finishedStep : ℕ → List Float → List ℕ → ℕ → Convention → Answer
 finishedStep q fs ws layers v =
     granted (andThen (storeCheck q fs ws) (layersCheck layers))

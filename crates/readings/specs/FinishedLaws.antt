@@ -26,12 +26,14 @@ use Rattle.readings.specs.Seeing.{shown, showing}
 use Rattle.readings.specs.SeenLaws.{same-held, same-filled, same-worst}
 
 -- where some places are emptied, no more are filled
-pub fewer-filled : (q : ℕ) (us ws : List ℕ) (test : ℕ → Bool) (k : ℕ) → ((i : ℕ) → i < k → statusOf q us i ≡ cond (test i) (statusOf q ws i) 0)
+pub fewer-filled : (q : ℕ) (us ws : List ℕ) (test : ℕ → Bool) (k : ℕ)
+    → ((i : ℕ) → i < k → statusOf q us i ≡ cond (test i) (statusOf q ws i) 0)
     → heldFilled q us k ≤ heldFilled q ws k
 unfolding heldFilled
 fewer-filled q us ws test zero h = omega arith
 fewer-filled q us ws test (suc k) h =
-    rw (h k (omega arith)) (go (heldFilled q us k) (heldFilled q ws k) (statusOf q ws k) (test k) (fewer-filled q us ws test k (λ i l. h i (omega arith))))
+    rw (h k (omega arith)) (go (heldFilled q us k) (heldFilled q ws k) (statusOf q ws k) (test k)
+    (fewer-filled q us ws test k (λ i l. h i (omega arith))))
   where
     go : (a b s : ℕ) (t : Bool) → a ≤ b → a + cond (eqb (cond t s 0) 0) 0 1 ≤ b + cond (eqb s 0) 0 1
     go a b s true l = omega arith
@@ -64,7 +66,8 @@ module _ (q : ℕ) (three : 3 ≤ q) (layers : ℕ) (ws : List ℕ) (long : corn
   unfolding completeIn
   complete-corners = hid-corners q (completeAt q ws) S long-seen ∙ seen-corners q layers ws long
 
-  pub complete-body : (fs : List Float) → bodyVolume (held q fs C (vertsOf C) (facesOf C)) (facesOf C) ≡ bodyVolume (held q fs ws (vertsOf ws) (facesOf ws)) (facesOf ws)
+  pub complete-body : (fs : List Float) → bodyVolume (held q fs C (vertsOf C) (facesOf C)) (facesOf C)
+      ≡ bodyVolume (held q fs ws (vertsOf ws) (facesOf ws)) (facesOf ws)
   complete-body fs = rw (complete-verts, complete-faces, complete-corners) refl
 
   -- a place that is complete is as its layers show it, each other one empty
@@ -84,7 +87,8 @@ module _ (q : ℕ) (three : 3 ≤ q) (layers : ℕ) (ws : List ℕ) (long : corn
   unfolding showing
   at-once i h =
       complete-status i h
-      ∙ (rw (seen-status q layers ws long three i h) (go (completeAt q ws i) (inSet layers (layerOf q ws i)) (statusOf q ws i))
+      ∙ (rw (seen-status q layers ws long three i h)
+      (go (completeAt q ws i) (inSet layers (layerOf q ws i)) (statusOf q ws i))
       ∙ sym (front-status q three T i h ∙ hid-status q (λ i. shown q layers true ws i) ws long three i h))
     where
       go : (a b : Bool) (s : ℕ) → cond a (cond b s 0) 0 ≡ cond (a && b) s 0
@@ -98,14 +102,16 @@ module _ (q : ℕ) (three : 3 ≤ q) (layers : ℕ) (ws : List ℕ) (long : corn
   filled-seen = same-filled q [] (take (cornersFrom q) S) S 32 (λ i h. front-status q three S i h)
 
   pub seen-at-once : (fs : List Float)
-      → heldSeen q fs C ≡ seenBy q fs (take (cornersFrom q) T) (bodyVolume (held q fs ws (vertsOf ws) (facesOf ws)) (facesOf ws))
+      → heldSeen q fs C ≡ seenBy q fs (take (cornersFrom q) T)
+      (bodyVolume (held q fs ws (vertsOf ws) (facesOf ws)) (facesOf ws))
   unfolding heldSeen
   seen-at-once fs =
       let t = take (cornersFrom q) T in
       rw (complete-body fs, same-held q fs C t 32 at-once, same-filled q fs C t 32 at-once, same-worst q fs C t 32 at-once) refl
 
 -- the words that are covered are those of a store whose places are sound
-pub complete-ready : (layers : ℕ) (ws t : List ℕ) (m : ℕ) → t ≡ take (cornersFrom width) (showing width layers true ws) → Worded width ws m → Worded width t m
+pub complete-ready : (layers : ℕ) (ws t : List ℕ) (m : ℕ) → t ≡ take (cornersFrom width) (showing width layers true ws)
+    → Worded width ws m → Worded width t m
 unfolding showing
 complete-ready layers ws t m e w =
     rw e
@@ -114,25 +120,33 @@ complete-ready layers ws t m e w =
 
 -- ---- the call's two answers, and the subtraction that it makes
 module _ (fs : List Float) (ws : List ℕ) (layers : ℕ) where
-  pub covered-fewer : (s t : List ℕ) → cornersFrom width ≤ length ws → s ≡ take (cornersFrom width) (inLayers width layers ws) → t ≡ take (cornersFrom width) (showing width layers true ws)
+  pub covered-fewer : (s t : List ℕ) → cornersFrom width ≤ length ws
+      → s ≡ take (cornersFrom width) (inLayers width layers ws)
+      → t ≡ take (cornersFrom width) (showing width layers true ws)
       → heldFilled width t placeLimit ≤ heldFilled width s placeLimit
   covered-fewer s t long d e =
-      rw (d, e, filled-at-once width (omega arith) layers ws long, filled-seen width (omega arith) layers ws long) (filled-complete width (omega arith) layers ws long)
+      rw (d, e, filled-at-once width (omega arith) layers ws long, filled-seen width (omega arith) layers ws long)
+      (filled-complete width (omega arith) layers ws long)
 
-  pub passed-is : (s t : List ℕ) → cornersFrom width ≤ length ws → s ≡ take (cornersFrom width) (inLayers width layers ws) → t ≡ take (cornersFrom width) (showing width layers true ws)
+  pub passed-is : (s t : List ℕ) → cornersFrom width ≤ length ws
+      → s ≡ take (cornersFrom width) (inLayers width layers ws)
+      → t ≡ take (cornersFrom width) (showing width layers true ws)
       → heldFilled width s placeLimit - heldFilled width t placeLimit ≡ passedOver width layers ws
   unfolding passedOver
   passed-is s t long d e =
       rw (d, e, filled-at-once width (omega arith) layers ws long, filled-seen width (omega arith) layers ws long) refl
 
-  pub finished-refused : (v : Convention) (r : Refusal) → andThen (storeCheck width fs ws) (layersCheck layers) ≡ Failed r → refused r ≡ finishedStep width fs ws layers v
+  pub finished-refused : (v : Convention) (r : Refusal)
+      → andThen (storeCheck width fs ws) (layersCheck layers) ≡ Failed r → refused r ≡ finishedStep width fs ws layers v
   unfolding finishedStep
   finished-refused v r h = rw h refl
 
-  pub finished-told : (v : Convention) → andThen (storeCheck width fs ws) (layersCheck layers) ≡ Passed → cornersFrom width ≤ length ws
+  pub finished-told : (v : Convention) → andThen (storeCheck width fs ws) (layersCheck layers) ≡ Passed
+      → cornersFrom width ≤ length ws
       → (t : List ℕ) → t ≡ take (cornersFrom width) (showing width layers true ws)
       → (n : ℕ) → n ≡ passedOver width layers ws
-      → (a : Answer) → outcome a [] ≡ answerOf (report v) (seenBy width fs t (bodyVolume (held width fs ws (vertsOf ws) (facesOf ws)) (facesOf ws)))
+      → (a : Answer) → outcome a [] ≡ answerOf (report v)
+      (seenBy width fs t (bodyVolume (held width fs ws (vertsOf ws) (facesOf ws)) (facesOf ws)))
       → beside n a ≡ finishedStep width fs ws layers v
   unfolding finishedStep
   finished-told v h long t e n p a g =

@@ -30,14 +30,16 @@ use Rattle.readings.specs.SeenLaws.{seen-body}
 
 -- ---- "with all sixteen it reads as before": as 01's reading, which knows of no layers
 pub reads-as-before : (q : ℕ) (fs : List Float) (ws : List ℕ) (r : Reading)
-    → readStep q fs ws allLayers r ≡ guardedRead (storeCheck q fs ws) r (readingOf r (leftOf q ws (facesOf ws) placeLimit) (heldSeen q fs ws))
+    → readStep q fs ws allLayers r ≡ guardedRead (storeCheck q fs ws) r
+    (readingOf r (leftOf q ws (facesOf ws) placeLimit) (heldSeen q fs ws))
 unfolding readStep layersCheck
 reads-as-before q fs ws r = go (storeCheck q fs ws) refl
   where
     before : List ℕ → Outcome
     before us = readingOf r (leftOf q us (facesOf us) placeLimit) (heldSeen q fs us)
 
-    go : (a : Checked) → storeCheck q fs ws ≡ a → guardedRead (andThen a Passed) r (before (inLayers q allLayers ws)) ≡ guardedRead a r (before ws)
+    go : (a : Checked) → storeCheck q fs ws ≡ a
+        → guardedRead (andThen a Passed) r (before (inLayers q allLayers ws)) ≡ guardedRead a r (before ws)
     go Passed e = ap before (all-sixteen q fs ws e)
     go (Failed x) e = refl
 
@@ -61,7 +63,8 @@ module _ (q : ℕ) (fs : List Float) (ws : List ℕ) where
   none-left : (m k : ℕ) → ((i : ℕ) → i < k → statusOf q ws i ≡ 0) → leftOf q ws m k ≡ 0
   unfolding leftOf
   none-left m zero h = refl
-  none-left m (suc k) h = rw (none-left m k (λ i l. h i (omega arith)), h k (omega arith), zero-sub, zero-mul, zero-sub) refl
+  none-left m (suc k) h =
+      rw (none-left m k (λ i l. h i (omega arith)), h k (omega arith), zero-sub, zero-mul, zero-sub) refl
 
 -- ---- a reading of no layer of a sound store sees no piece and is never unfinished; the volume is the whole mesh's
 module _ (q : ℕ) (three : 3 ≤ q) (fs : List Float) (ws : List ℕ) (ok : storeCheck q fs ws ≡ Passed) where
@@ -84,17 +87,21 @@ module _ (q : ℕ) (three : 3 ≤ q) (fs : List Float) (ws : List ℕ) (ok : sto
   unfolding readStep layersCheck
   no-layer r = rw (ok, none-left q fs S (facesOf S) 32 all-empty, none-seen) (go (needsWork r))
     where
-      go : (b : Bool) → cond (b && false) (refusing r Unfinished) (answerOf r (seeing [] body 0 +0)) ≡ answerOf r (seeing [] body 0 +0)
+      go : (b : Bool) → cond (b && false) (refusing r Unfinished) (answerOf r (seeing [] body 0 +0))
+          ≡ answerOf r (seeing [] body 0 +0)
       go true = refl
       go false = refl
 
-  pub no-layer-density : (v : Convention) (x : List Float) → readStep q fs ws 0 (density v x) ≡ outcome (accepted (+0 ∷ [])) []
+  pub no-layer-density : (v : Convention) (x : List Float)
+      → readStep q fs ws 0 (density v x) ≡ outcome (accepted (+0 ∷ [])) []
   unfolding densityAt densitizeOf times
   no-layer-density v x = no-layer (density v x)
 
-  pub no-layer-list : (v : Convention) (out : List Float) → readStep q fs ws 0 (list v out) ≡ outcome (counted (0 ∷ [])) out
+  pub no-layer-list : (v : Convention) (out : List Float)
+      → readStep q fs ws 0 (list v out) ≡ outcome (counted (0 ∷ [])) out
   no-layer-list v out = no-layer (list v out) ∙ rw (le-leb 0 (length out) (omega arith), write-none out 0) refl
 
-  pub no-layer-report : (v : Convention) → readStep q fs ws 0 (report v) ≡ outcome (reported (reportOf v +0 +0 body) 0 0 +0) []
+  pub no-layer-report : (v : Convention)
+      → readStep q fs ws 0 (report v) ≡ outcome (reported (reportOf v +0 +0 body) 0 0 +0) []
   unfolding rawMass densityAt densitizeOf times
   no-layer-report v = no-layer (report v)

@@ -17,9 +17,11 @@ use Rattle.readings.specs.Counts.{heldPieces}
 abbrev pub rescaledSixes : Float → List Part → List Float
 rescaledSixes s ps = sixes (map (rescaled s) (map bare ps))
 
-rescaled-append : (s : Float) (ps qs : List Part) → rescaledSixes s (ps ++ qs) ≡ rescaledSixes s ps ++ rescaledSixes s qs
+rescaled-append : (s : Float) (ps qs : List Part)
+    → rescaledSixes s (ps ++ qs) ≡ rescaledSixes s ps ++ rescaledSixes s qs
 rescaled-append s [] qs = refl
-rescaled-append s (p ∷ ps) qs = ap (λ (l : List Float). six (rescaled s (bare p)) ++ l) (rescaled-append s ps qs) ∙ sym (append-assoc (six (rescaled s (bare p))) (rescaledSixes s ps) (rescaledSixes s qs))
+rescaled-append s (p ∷ ps) qs = ap (λ (l : List Float). six (rescaled s (bare p)) ++ l) (rescaled-append s ps qs)
+    ∙ sym (append-assoc (six (rescaled s (bare p))) (rescaledSixes s ps) (rescaledSixes s qs))
 
 pub rescaled-length : (s : Float) (ps : List Part) → length (rescaledSixes s ps) ≡ 6 * length ps
 rescaled-length s [] = refl
@@ -32,7 +34,8 @@ at-length fs i (suc n) = length-append (heldAt fs i n) (heldPart fs i n ∷ []) 
 pub all-length : (q : ℕ) (fs : List Float) (ws : List ℕ) (k : ℕ) → length (heldAll q fs ws k) ≡ heldPieces q ws k
 unfolding heldAll heldPieces
 all-length q fs ws zero = refl
-all-length q fs ws (suc k) = length-append (heldAll q fs ws k) (heldAt fs k (statusOf q ws k - 1)) ∙ omega (arith, all-length q fs ws k, at-length fs k (statusOf q ws k - 1))
+all-length q fs ws (suc k) = length-append (heldAll q fs ws k) (heldAt fs k (statusOf q ws k - 1))
+    ∙ omega (arith, all-length q fs ws k, at-length fs k (statusOf q ws k - 1))
 
 -- ---- the run as far as it is written: vs from `at` on
 pub record Listed (l : List Float) (at : ℕ) (vs f : List Float) : Type 0 where
@@ -42,25 +45,36 @@ pub record Listed (l : List Float) (at : ℕ) (vs f : List Float) : Type 0 where
 pub none-listed : (l : List Float) (at : ℕ) → Listed l at [] l
 none-listed l at = record { long = refl; same = sym (write-none l at) }
 
-list-more : (l : List Float) (at : ℕ) (vs us f f′ : List Float) (to : ℕ) → Listed l at vs f → to ≡ at + length vs → to + length us ≤ length l → f′ ≡ write f to us → Listed l at (vs ++ us) f′
+list-more : (l : List Float) (at : ℕ) (vs us f f′ : List Float) (to : ℕ) → Listed l at vs f → to ≡ at + length vs
+    → to + length us ≤ length l → f′ ≡ write f to us → Listed l at (vs ++ us) f′
 list-more l at vs us f f′ to g e b r =
     record {
       long = ap length r ∙ (length-write f to us (omega (arith, g .long)) ∙ g .long);
-      same = r ∙ (ap (λ (t : List Float). write t to us) (g .same) ∙ (ap (λ (n : ℕ). write (write l at vs) n us) e ∙ write-more l at vs us (omega arith)));
+      same = r ∙ (ap (λ (t : List Float). write t to us) (g .same)
+          ∙ (ap (λ (n : ℕ). write (write l at vs) n us) e ∙ write-more l at vs us (omega arith)));
     }
 
 -- one piece more of place i
-pub piece-listed : (l : List Float) (at : ℕ) (s : Float) (fs : List Float) (i j : ℕ) (f f′ : List Float) → Listed l at (rescaledSixes s (heldAt fs i j)) f → at + 6 * j + 6 ≤ length l
-    → f′ ≡ write f (at + 6 * j) (six (rescaled s (bare (heldPart fs i j)))) → Listed l at (rescaledSixes s (heldAt fs i (j + 1))) f′
+pub piece-listed : (l : List Float) (at : ℕ) (s : Float) (fs : List Float) (i j : ℕ) (f f′ : List Float)
+    → Listed l at (rescaledSixes s (heldAt fs i j)) f → at + 6 * j + 6 ≤ length l
+    → f′ ≡ write f (at + 6 * j) (six (rescaled s (bare (heldPart fs i j))))
+    → Listed l at (rescaledSixes s (heldAt fs i (j + 1))) f′
 piece-listed l at s fs i j f f′ g b r =
     let n = rescaled-length s (heldAt fs i j) in
     let m = at-length fs i j in
-    let e : rescaledSixes s (heldAt fs i (j + 1)) ≡ rescaledSixes s (heldAt fs i j) ++ rescaledSixes s (heldPart fs i j ∷ []) = ap (λ (t : ℕ). rescaledSixes s (heldAt fs i t)) (add-one j) ∙ rescaled-append s (heldAt fs i j) (heldPart fs i j ∷ []) in
-    rw e (list-more l at (rescaledSixes s (heldAt fs i j)) (six (rescaled s (bare (heldPart fs i j)))) f f′ (at + 6 * j) g (omega arith) (omega arith) r)
+    let e : rescaledSixes s (heldAt fs i (j + 1))
+    ≡ rescaledSixes s (heldAt fs i j) ++ rescaledSixes s (heldPart fs i j ∷ []) = ap
+    (λ (t : ℕ). rescaledSixes s (heldAt fs i t)) (add-one j)
+    ∙ rescaled-append s (heldAt fs i j) (heldPart fs i j ∷ []) in
+    rw e (list-more l at (rescaledSixes s (heldAt fs i j)) (six (rescaled s (bare (heldPart fs i j)))) f f′
+    (at + 6 * j) g (omega arith) (omega arith) r)
 
 -- one place more
-pub place-listed : (l : List Float) (s : Float) (q : ℕ) (fs : List Float) (ws : List ℕ) (k : ℕ) (f f′ : List Float) → Listed l 0 (rescaledSixes s (heldAll q fs ws k)) f
-    → 6 * heldPieces q ws (k + 1) ≤ length l → f′ ≡ write f (6 * heldPieces q ws k) (rescaledSixes s (heldAt fs k (statusOf q ws k - 1))) → Listed l 0 (rescaledSixes s (heldAll q fs ws (k + 1))) f′
+pub place-listed : (l : List Float) (s : Float) (q : ℕ) (fs : List Float) (ws : List ℕ) (k : ℕ) (f f′ : List Float)
+    → Listed l 0 (rescaledSixes s (heldAll q fs ws k)) f
+    → 6 * heldPieces q ws (k + 1) ≤ length l
+    → f′ ≡ write f (6 * heldPieces q ws k) (rescaledSixes s (heldAt fs k (statusOf q ws k - 1)))
+    → Listed l 0 (rescaledSixes s (heldAll q fs ws (k + 1))) f′
 unfolding heldAll heldPieces
 place-listed l s q fs ws k f f′ g b r =
     let n = rescaled-length s (heldAll q fs ws k) in
@@ -68,21 +82,29 @@ place-listed l s q fs ws k f f′ g b r =
     let x = rescaled-length s (heldAt fs k (statusOf q ws k - 1)) in
     let y = at-length fs k (statusOf q ws k - 1) in
     let z : heldPieces q ws (k + 1) ≡ heldPieces q ws k + (statusOf q ws k - 1) = ap (heldPieces q ws) (add-one k) in
-    let e : rescaledSixes s (heldAll q fs ws (k + 1)) ≡ rescaledSixes s (heldAll q fs ws k) ++ rescaledSixes s (heldAt fs k (statusOf q ws k - 1)) = ap (λ (t : ℕ). rescaledSixes s (heldAll q fs ws t)) (add-one k) ∙ rescaled-append s (heldAll q fs ws k) (heldAt fs k (statusOf q ws k - 1)) in
-    rw e (list-more l 0 (rescaledSixes s (heldAll q fs ws k)) (rescaledSixes s (heldAt fs k (statusOf q ws k - 1))) f f′ (6 * heldPieces q ws k) g (omega arith) (omega arith) r)
+    let e : rescaledSixes s (heldAll q fs ws (k + 1))
+    ≡ rescaledSixes s (heldAll q fs ws k)
+    ++ rescaledSixes s (heldAt fs k (statusOf q ws k - 1)) = ap (λ (t : ℕ). rescaledSixes s (heldAll q fs ws t))
+    (add-one k) ∙ rescaled-append s (heldAll q fs ws k) (heldAt fs k (statusOf q ws k - 1)) in
+    rw e (list-more l 0 (rescaledSixes s (heldAll q fs ws k))
+    (rescaledSixes s (heldAt fs k (statusOf q ws k - 1))) f f′ (6 * heldPieces q ws k) g (omega arith)
+    (omega arith) r)
 
 pub count-mono : (q : ℕ) (ws : List ℕ) (k n : ℕ) → k ≤ n → heldPieces q ws k ≤ heldPieces q ws n
 unfolding heldPieces
 count-mono q ws k zero h = let e : k ≡ 0 = omega arith in rw e (omega arith)
 count-mono q ws k (suc n) h = go (decLt k (suc n)) (λ (l : k ≤ n). count-mono q ws k n l)
   where
-    go : Dec (k < suc n) → (k ≤ n → heldPieces q ws k ≤ heldPieces q ws n) → heldPieces q ws k ≤ heldPieces q ws n + (statusOf q ws n - 1)
+    go : Dec (k < suc n) → (k ≤ n → heldPieces q ws k ≤ heldPieces q ws n)
+        → heldPieces q ws k ≤ heldPieces q ws n + (statusOf q ws n - 1)
     go (yes l) ih = omega (arith, ih (omega arith))
     go (no l) ih = let e : k ≡ suc n = omega arith in rw e (omega arith)
 
 pub set6-write : (l : List Float) (i : ℕ) (a b c d e f : Float) → i + 6 ≤ length l
-    → set (set (set (set (set (set l i a) (i + 1) b) (i + 2) c) (i + 3) d) (i + 4) e) (i + 5) f ≡ write l i (a ∷ b ∷ c ∷ d ∷ e ∷ f ∷ [])
-set6-write l i a b c d e f h = rw (add-one, add-two, add-three, add-four, add-five) (sets-write (a ∷ b ∷ c ∷ d ∷ e ∷ f ∷ []) l i h)
+    → set (set (set (set (set (set l i a) (i + 1) b) (i + 2) c) (i + 3) d) (i + 4) e) (i + 5) f
+    ≡ write l i (a ∷ b ∷ c ∷ d ∷ e ∷ f ∷ [])
+set6-write l i a b c d e f h =
+    rw (add-one, add-two, add-three, add-four, add-five) (sets-write (a ∷ b ∷ c ∷ d ∷ e ∷ f ∷ []) l i h)
 
 pub count-next : (q : ℕ) (ws : List ℕ) (k : ℕ) → heldPieces q ws (k + 1) ≡ heldPieces q ws k + (statusOf q ws k - 1)
 unfolding heldPieces

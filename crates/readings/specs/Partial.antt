@@ -32,11 +32,16 @@ use Rattle.readings.specs.Layered.{reads-as-before}
 use Rattle.readings.specs.FinishedLaws.{long-seen, complete-faces, complete-body, complete-status, complete-finished}
 
 -- ---- work left, place by place
-none-left : (q : ℕ) (ws : List ℕ) (m k : ℕ) → ((i : ℕ) → i < k → statusOf q ws i - 1 ≤ finishedOf q ws i) → leftOf q ws m k ≡ 0
+none-left : (q : ℕ) (ws : List ℕ) (m k : ℕ) → ((i : ℕ) → i < k → statusOf q ws i - 1 ≤ finishedOf q ws i)
+    → leftOf q ws m k ≡ 0
 unfolding leftOf
 none-left q ws m zero h = refl
 none-left q ws m (suc k) h =
-    rw (none-left q ws m k (λ i l. h i (omega arith)), ← left-none m (statusOf q ws k) (finishedOf q ws k) (doneOf q ws k) (h k (omega arith))) refl
+    rw (
+      none-left q ws m k (λ i l. h i (omega arith)),
+      ← left-none m (statusOf q ws k) (finishedOf q ws k)
+          (doneOf q ws k) (h k (omega arith)),
+    ) refl
 
 each-left : (q : ℕ) (ws : List ℕ) (m k : ℕ) → leftOf q ws m k ≡ 0 → (i : ℕ) → i < k → leftAt q ws m i ≡ 0
 unfolding leftOf
@@ -89,7 +94,8 @@ module _ (q : ℕ) (three : 3 ≤ q) (fs : List Float) (ws : List ℕ) (layers :
 
     -- "It equals the ordinary report of a store holding just those places"
     pub report-of-those : layers < 65536
-        → finishedStep q fs ws layers v ≡ beside (passedOver q layers ws) (readStep q fs covered allLayers (report v) .reply)
+        → finishedStep q fs ws layers v ≡ beside (passedOver q layers ws)
+        (readStep q fs covered allLayers (report v) .reply)
     unfolding finishedStep layersCheck
     report-of-those h =
         rw (ok, lt-ltb layers 65536 h, reads-as-before q fs covered (report v), covered-sound, covered-left) refl
@@ -108,7 +114,8 @@ module _ (q : ℕ) (three : 3 ≤ q) (fs : List Float) (ws : List ℕ) (layers :
           ∙ go (statusOf q ws i) (finishedOf q ws i) (inSet layers (layerOf q ws i)) (completeAt q ws i) refl
           (seen-status q layers ws long three i h) (seen-finished q layers ws long three i h) z
         where
-          go : (s n : ℕ) (b c : Bool) → eqb n (s - 1) ≡ c → statusOf q seen i ≡ cond b s 0 → finishedOf q seen i ≡ cond b n 0 → finishedOf q seen i ≡ statusOf q seen i - 1
+          go : (s n : ℕ) (b c : Bool) → eqb n (s - 1) ≡ c → statusOf q seen i ≡ cond b s 0
+              → finishedOf q seen i ≡ cond b n 0 → finishedOf q seen i ≡ statusOf q seen i - 1
               → cond c (statusOf q seen i) 0 ≡ statusOf q seen i
           go s n b true e x y z = refl
           go s n true false e x y z = absurd (eqb-false n (s - 1) e (omega arith))
@@ -124,7 +131,8 @@ module _ (q : ℕ) (three : 3 ≤ q) (fs : List Float) (ws : List ℕ) (layers :
       none-passed = rw (same-filled q fs covered seen 32 all-covered) (omega arith)
 
       -- then it is their ordinary report and passes over none
-      pub report-of-all : layers < 65536 → finishedStep q fs ws layers v ≡ beside 0 (readStep q fs ws layers (report v) .reply)
+      pub report-of-all : layers < 65536
+          → finishedStep q fs ws layers v ≡ beside 0 (readStep q fs ws layers (report v) .reply)
       unfolding finishedStep readStep layersCheck
       report-of-all h = rw (ok, lt-ltb layers 65536 h, none, none-passed, all-seen) refl
 
@@ -134,8 +142,10 @@ module _ (q : ℕ) (three : 3 ≤ q) (fs : List Float) (ws : List ℕ) (layers :
   never-unfinished = go (longEnough q fs ws) (sound q ws) (ltb layers 65536)
     where
       go : (a b c : Bool)
-          → granted (andThen (cond a (cond b Passed (Failed Unsound)) (Failed ShortStore)) (cond c Passed (Failed NoLayer)))
-          (beside (passedOver q layers ws) (answerOf (report v) (heldSeen q fs covered) .reply)) .refusal ≡ number Unfinished → ⊥
+          → granted (andThen (cond a (cond b Passed (Failed Unsound)) (Failed ShortStore))
+          (cond c Passed (Failed NoLayer)))
+          (beside (passedOver q layers ws) (answerOf (report v) (heldSeen q fs covered) .reply)) .refusal
+          ≡ number Unfinished → ⊥
       go true true true e = omega arith
       go true true false e = omega arith
       go true false c e = omega arith

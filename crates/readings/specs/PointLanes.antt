@@ -35,7 +35,8 @@ Added n k xs ys zs before after = Lanes n (λ i r. r ≡ getD before i nan ⊕ d
 
 -- what two kernels add, one after the other
 abbrev pub BothAdded : ℕ → Kernel → Kernel → List Float → List Float → List Float → List Float → List Float → Type 0
-BothAdded n k l xs ys zs before after = Lanes n (λ i r. r ≡ getD before i nan ⊕ densityOf k (lane xs ys zs i) ⊕ densityOf l (lane xs ys zs i)) after
+BothAdded n k l xs ys zs before after =
+    Lanes n (λ i r. r ≡ getD before i nan ⊕ densityOf k (lane xs ys zs i) ⊕ densityOf l (lane xs ys zs i)) after
 
 abbrev pub Summed : ℕ → (List Float → Float) → List Float → List Float → List Float → List Float → Type 0
 Summed n f xs ys zs rs = Lanes n (λ i r. r ≡ f (lane xs ys zs i)) rs

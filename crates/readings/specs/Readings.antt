@@ -1,4 +1,5 @@
--- 01, "The store": "Readings (density, report, list) take filled places in order", which pieces, which scale, and what is made of them; 02, L1, the track. Definitions only.
+-- 01, "The store": "Readings (density, report, list) take filled places in order", which pieces, which scale, and what
+-- is made of them; 02, L1, the track. Definitions only.
 use mathlib.Core.Bool.{Bool, true, false, _&&_, cond}
 use mathlib.Core.List.{List, [], _∷_, _++_, map}
 use Prim.Native.Nat.{ℕ, zero, suc, _+_, _*_, _-_, _/_, _%_}
@@ -124,24 +125,29 @@ listing s ks out =
     guardedRun (roomCheck (6 * length ks) (length out)) out
     (outcome (counted (length ks ∷ [])) (write out 0 (sixes (map (rescaled s) ks))))
 
--- 02: "14 when the track has more than 4,096 points, its coordinate count isn't a multiple of 3, or the run is too short"; of the counts of floats
+-- 02: "14 when the track has more than 4,096 points, its coordinate count isn't a multiple of 3, or the run is too
+-- short"; of the counts of floats
 abbrev pub trackLimit : ℕ
 trackLimit = 4096
 
 unfoldable pub trackCheck : ℕ → ℕ → Checked
-trackCheck coords room = cond (eqb (coords % 3) 0 && leb (coords / 3) trackLimit && leb (coords / 3) room) Passed (Failed BadTrack)
+trackCheck coords room =
+    cond (eqb (coords % 3) 0 && leb (coords / 3) trackLimit && leb (coords / 3) room) Passed (Failed BadTrack)
 
--- "takes the points, one convention and a lent run for the densities, in point order"; "The scale and the rescaled weights are worked once for the track"
+-- "takes the points, one convention and a lent run for the densities, in point order"; "The scale and the rescaled
+-- weights are worked once for the track"
 abbrev pub tracking : Float → List Kernel → List Float → List Float → Outcome
 tracking s ks points out =
     guardedRun (trackCheck (length points) (length out)) out
-    (outcome (counted (length points / 3 ∷ [])) (write out 0 (along (densityAt (map (rescaled s) ks)) points (length points / 3))))
+    (outcome (counted (length points / 3 ∷ []))
+    (write out 0 (along (densityAt (map (rescaled s) ks)) points (length points / 3))))
 
 abbrev pub answerOf : Reading → Seen → Outcome
 answerOf (density v x) s =
     outcome (accepted (densityAt (map (rescaled (applied v (s .parts))) (map bare (s .parts))) x ∷ [])) []
 answerOf (report v) s =
-    outcome (reported (reportOf v (rawMass (s .parts)) (densityAt (map bare (s .parts)) origin) (s .body)) (s .filled) (length (s .parts)) (s .worst)) []
+    outcome (reported (reportOf v (rawMass (s .parts)) (densityAt (map bare (s .parts)) origin) (s .body)) (s .filled)
+    (length (s .parts)) (s .worst)) []
 answerOf (list v out) s = listing (applied v (s .parts)) (map bare (s .parts)) out
 answerOf (track v points out) s = tracking (applied v (s .parts)) (map bare (s .parts)) points out
 
@@ -156,8 +162,8 @@ refusing (track v points out) r = outcome (refused r) out
 abbrev pub readingOf : Reading → ℕ → Seen → Outcome
 readingOf r left s = cond (needsWork r && ltb 0 left) (refusing r Unfinished) (answerOf r s)
 
--- ---- as a store's runs hold it: "Readings use pieces and volumes as the store holds them; a piece's alpha is the kernel's if that kernel stays, else 1,
--- and its weight is w times the coefficient"
+-- ---- as a store's runs hold it: "Readings use pieces and volumes as the store holds them; a piece's alpha is the
+-- kernel's if that kernel stays, else 1, and its weight is w times the coefficient"
 abbrev pub heldPart : List Float → ℕ → ℕ → Part
 heldPart fs i j =
     record {
@@ -181,7 +187,8 @@ heldFilled q ws (suc k) = heldFilled q ws k + cond (eqb (statusOf q ws k) 0) 0 1
 -- "greatest error (+0 with no place filled)"
 unfoldable pub heldWorst : ℕ → List Float → List ℕ → ℕ → Float
 heldWorst q fs ws zero = +0
-heldWorst q fs ws (suc k) = cond (eqb (statusOf q ws k) 0) (heldWorst q fs ws k) (greater (heldWorst q fs ws k) (errorOf fs k))
+heldWorst q fs ws (suc k) =
+    cond (eqb (statusOf q ws k) 0) (heldWorst q fs ws k) (greater (heldWorst q fs ws k) (errorOf fs k))
 
 -- all places, in a mesh of the volume `body`
 abbrev pub seenBy : ℕ → List Float → List ℕ → Float → Seen

@@ -1,4 +1,5 @@
--- The readings' sums are what `densitize` and `kernel_field_mass` give on the list of the pieces, six floats each. Assumes nothing.
+-- The readings' sums are what `densitize` and `kernel_field_mass` give on the list of the pieces, six floats each.
+-- Assumes nothing.
 use mathlib.Core.Path.{_≡_, refl, sym, ap, _∙_}
 use mathlib.Core.List.{List, [], _∷_, _++_, map, append-nil}
 use Prim.Native.Nat.{ℕ, zero, suc, _+_, _*_, _/_, _%_, _<_}
@@ -27,7 +28,8 @@ pub sixes-length : (ks : List Kernel) → length (sixes ks) ≡ 6 * length ks
 sixes-length [] = refl
 sixes-length (k ∷ ks) = omega (arith, sixes-length ks)
 
-pub next-kernel : (a b c d e f : Float) (xs : List Float) (i : ℕ) → kernelAt (a ∷ b ∷ c ∷ d ∷ e ∷ f ∷ xs) (suc i) ≡ kernelAt xs i
+pub next-kernel : (a b c d e f : Float) (xs : List Float) (i : ℕ)
+    → kernelAt (a ∷ b ∷ c ∷ d ∷ e ∷ f ∷ xs) (suc i) ≡ kernelAt xs i
 unfolding kernelAt
 next-kernel a b c d e f xs i =
     let n0 : 6 * suc i ≡ suc (suc (suc (suc (suc (suc (6 * i)))))) = omega arith in
@@ -39,11 +41,13 @@ next-kernel a b c d e f xs i =
     rw (n1, n2, n3, n4, n5, n0) refl
 
 -- kernel i of such a list, whatever follows the list
-pub at-laid : (ks : List Kernel) (rest : List Float) (i : ℕ) → i < length ks → kernelAt (sixes ks ++ rest) i ≡ whole (getD ks i noKernel)
+pub at-laid : (ks : List Kernel) (rest : List Float) (i : ℕ) → i < length ks
+    → kernelAt (sixes ks ++ rest) i ≡ whole (getD ks i noKernel)
 unfolding kernelAt
 at-laid [] rest i h = absurd (omega arith)
 at-laid (k ∷ ks) rest zero h = refl
-at-laid (k ∷ ks) rest (suc i) h = next-kernel (getD (k .c) 0 nan) (getD (k .c) 1 nan) (getD (k .c) 2 nan) (k .sigma) (k .w) (k .alpha) (sixes ks ++ rest) i ∙ at-laid ks rest i (omega arith)
+at-laid (k ∷ ks) rest (suc i) h = next-kernel (getD (k .c) 0 nan) (getD (k .c) 1 nan) (getD (k .c) 2 nan) (k .sigma)
+    (k .w) (k .alpha) (sixes ks ++ rest) i ∙ at-laid ks rest i (omega arith)
 
 pub at-whole : (ks : List Kernel) (i : ℕ) → i < length ks → kernelAt (sixes ks) i ≡ whole (getD ks i noKernel)
 at-whole ks i h = ap (λ (l : List Float). kernelAt l i) (sym (append-nil (sixes ks))) ∙ at-laid ks [] i h
@@ -72,28 +76,36 @@ density-whole : (k : Kernel) (x : List Float) → densityOf (whole k) x ≡ dens
 unfolding densityOf baseAt
 density-whole k x = refl
 
-pub laid-density : (ks : List Kernel) (rest x : List Float) → densitizeOf (kernelAt (sixes ks ++ rest)) (length ks) x ≡ densityAt ks x
+pub laid-density : (ks : List Kernel) (rest x : List Float)
+    → densitizeOf (kernelAt (sixes ks ++ rest)) (length ks) x ≡ densityAt ks x
 unfolding densityAt densitizeOf
 laid-density ks rest x =
-    times-same (λ i s h. ap (λ (r : Float). s ⊕ r) (ap (λ (k : Kernel). densityOf k x) (at-laid ks rest i h) ∙ density-whole (getD ks i noKernel) x)) +0
+    times-same (λ i s h. ap (λ (r : Float). s ⊕ r)
+    (ap (λ (k : Kernel). densityOf k x) (at-laid ks rest i h) ∙ density-whole (getD ks i noKernel) x)) +0
 
-pub densitized-on : (ks : List Kernel) (x : List Float) → densitized (sixes ks) x ≡ accepted (densityAt (map whole ks) x ∷ [])
+pub densitized-on : (ks : List Kernel) (x : List Float)
+    → densitized (sixes ks) x ≡ accepted (densityAt (map whole ks) x ∷ [])
 unfolding densitized
 densitized-on ks x =
     let ws = map whole ks in
     rw (← sixes-whole ks, list-sound ws, count-of ws)
-    (ap (λ (r : Float). accepted (r ∷ [])) (ap (λ (l : List Float). densitizeOf (kernelAt l) (length ws) x) (sym (append-nil (sixes ws))) ∙ laid-density ws [] x))
+    (ap (λ (r : Float). accepted (r ∷ []))
+    (ap (λ (l : List Float). densitizeOf (kernelAt l) (length ws) x) (sym (append-nil (sixes ws)))
+    ∙ laid-density ws [] x))
 
 -- ---- `kernel_field_mass`
 abbrev pub sized : (ℕ → Triangle) → ℕ → Kernel → Part
 sized t n k = record { kernel = whole k; volume = kernelVolume t n (centreOf k) (k .sigma) }
 
-part-at : (t : ℕ → Triangle) (n : ℕ) (ks : List Kernel) (i : ℕ) → i < length ks → getD (map (sized t n) ks) i noPart ≡ sized t n (kernelAt (sixes ks) i)
+part-at : (t : ℕ → Triangle) (n : ℕ) (ks : List Kernel) (i : ℕ) → i < length ks
+    → getD (map (sized t n) ks) i noPart ≡ sized t n (kernelAt (sixes ks) i)
 unfolding kernelAt centreOf
 part-at t n [] i h = absurd (omega arith)
 part-at t n (k ∷ ks) zero h = refl
 part-at t n (k ∷ ks) (suc i) h =
-    part-at t n ks i (omega arith) ∙ ap (sized t n) (sym (next-kernel (getD (k .c) 0 nan) (getD (k .c) 1 nan) (getD (k .c) 2 nan) (k .sigma) (k .w) (k .alpha) (sixes ks) i))
+    part-at t n ks i (omega arith) ∙ ap (sized t n)
+    (sym (next-kernel (getD (k .c) 0 nan) (getD (k .c) 1 nan) (getD (k .c) 2 nan) (k .sigma) (k .w) (k .alpha)
+    (sixes ks) i))
 
 pub mass-on : (t : ℕ → Triangle) (n : ℕ) (ks : List Kernel) → rawMass (map (sized t n) ks) ≡ fieldMass t n (sixes ks)
 unfolding rawMass fieldMass

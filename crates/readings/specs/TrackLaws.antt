@@ -40,7 +40,8 @@ pub trackable : (coords room : ℕ) → trackCheck coords room ≡ Passed → Tr
 unfolding trackCheck
 trackable coords room h = go (eqb (coords % 3) 0) refl (leb (coords / 3) trackLimit) refl (leb (coords / 3) room) refl h
   where
-    go : (a : Bool) → eqb (coords % 3) 0 ≡ a → (b : Bool) → leb (coords / 3) trackLimit ≡ b → (c : Bool) → leb (coords / 3) room ≡ c
+    go : (a : Bool) → eqb (coords % 3) 0 ≡ a → (b : Bool) → leb (coords / 3) trackLimit ≡ b → (c : Bool)
+        → leb (coords / 3) room ≡ c
         → cond (a && b && c) Passed (Failed BadTrack) ≡ Passed → Trackable coords room
     go true p true q true r h = record { threes = eqb-true (coords % 3) 0 p; few = leb-true (coords / 3) trackLimit q; fits = leb-true (coords / 3) room r }
     go false p b q c r h = absurd (let o : _≡_ {A = ℕ} 0 1 = cc in omega arith)
@@ -49,9 +50,11 @@ trackable coords room h = go (eqb (coords % 3) 0) refl (leb (coords / 3) trackLi
 
 -- ---- a track's two answers
 module _ (s : Float) (ks : List Kernel) (points out : List Float) where
-  pub track-in : (out′ : List Float) → trackCheck (length points) (length out) ≡ Passed → out′ ≡ write out 0 (along (densityAt (map (rescaled s) ks)) points (length points / 3))
+  pub track-in : (out′ : List Float) → trackCheck (length points) (length out) ≡ Passed
+      → out′ ≡ write out 0 (along (densityAt (map (rescaled s) ks)) points (length points / 3))
       → outcome (counted (length points / 3 ∷ [])) out′ ≡ tracking s ks points out
   track-in out′ h e = rw (h, e) refl
 
-  pub track-out : (r : Refusal) → trackCheck (length points) (length out) ≡ Failed r → outcome (refused r) out ≡ tracking s ks points out
+  pub track-out : (r : Refusal) → trackCheck (length points) (length out) ≡ Failed r
+      → outcome (refused r) out ≡ tracking s ks points out
   track-out r h = rw h refl

@@ -30,14 +30,16 @@ use Rattle.readings.specs.Readings.{density, track, byMass, bare, rescal
 -- the words written, and those past them
 front : (vs l : List Float) (i : ℕ) (d : Float) → i < length vs → getD (write l 0 vs) i d ≡ getD vs i d
 unfolding write
-front vs l i d h = sym (getD-take (length vs) (vs ++ drop (length vs) l) i d h) ∙ ap (λ (r : List Float). getD r i d) (take-append-seam vs (drop (length vs) l))
+front vs l i d h = sym (getD-take (length vs) (vs ++ drop (length vs) l) i d h)
+    ∙ ap (λ (r : List Float). getD r i d) (take-append-seam vs (drop (length vs) l))
 
 past : (vs l : List Float) → drop (length vs) (write l 0 vs) ≡ drop (length vs) l
 unfolding write
 past vs l = drop-append-seam vs (drop (length vs) l)
 
 not-zero : {P : Type 0} (e : Refusal) → number e ≡ 0 → P
-not-zero e h = absurd (let o : _≡_ {A = Bool} true false = sym (eq-eqb (number e) 0 h) ∙ never-zero e in let p : _≡_ {A = ℕ} 0 1 = cc in omega arith)
+not-zero e h = absurd (let o : _≡_ {A = Bool} true false = sym (eq-eqb (number e) 0 h)
+    ∙ never-zero e in let p : _≡_ {A = ℕ} 0 1 = cc in omega arith)
 
 -- "A track of no points .. succeeds where no refusal before 14 applies"
 pub no-points : (room : ℕ) → trackCheck 0 room ≡ Passed
@@ -59,23 +61,32 @@ module _ (q : ℕ) (fs : List Float) (ws : List ℕ) (layers : ℕ) (v : Convent
   W = write out 0 (along F points (length points / 3))
 
   abbrev one : Checked → Bool → List Float → Outcome
-  one a b x = guardedRead a (density v x) (cond b (refusing (density v x) Unfinished) (outcome (accepted (F x ∷ [])) []))
+  one a b x =
+      guardedRead a (density v x) (cond b (refusing (density v x) Unfinished) (outcome (accepted (F x ∷ [])) []))
 
   abbrev all : Checked → Bool → Checked → Outcome
-  all a b c = guardedRead a (track v points out) (cond b (refusing (track v points out) Unfinished) (guardedRun c out (outcome (counted (length points / 3 ∷ [])) W)))
+  all a b c = guardedRead a (track v points out)
+      (cond b (refusing (track v points out) Unfinished)
+      (guardedRun c out (outcome (counted (length points / 3 ∷ [])) W)))
 
   abbrev got : Outcome
   got = readStep q fs ws layers (track v points out)
 
-  -- where the track is not refused, the density reading at each of its points is not, and answers the word that is written there
-  pub each-point : (i : ℕ) → i < length points / 3 → got .reply .refusal ≡ 0 → readStep q fs ws layers (density v (pointAt points i)) ≡ outcome (accepted (getD (got .out) i nan ∷ [])) []
+  -- where the track is not refused, the density reading at each of its points is not, and answers the word that is
+  -- written there
+  pub each-point : (i : ℕ) → i < length points / 3 → got .reply .refusal ≡ 0
+      → readStep q fs ws layers (density v (pointAt points i)) ≡ outcome (accepted (getD (got .out) i nan ∷ [])) []
   unfolding readStep
-  each-point i l = go C (byMass v && ltb 0 (leftOf q S (facesOf S) placeLimit)) (trackCheck (length points) (length out))
+  each-point i l =
+      go C (byMass v && ltb 0 (leftOf q S (facesOf S) placeLimit)) (trackCheck (length points) (length out))
     where
       word : getD W i nan ≡ F (pointAt points i)
-      word = front (along F points (length points / 3)) out i nan (rw (stretch-length F points 0 (length points / 3)) l) ∙ (stretch-at F points 0 (length points / 3) i nan l ∙ ap (λ (n : ℕ). F (pointAt points n)) (zero-add i))
+      word = front (along F points (length points / 3)) out i nan
+          (rw (stretch-length F points 0 (length points / 3)) l)
+          ∙ (stretch-at F points 0 (length points / 3) i nan l ∙ ap (λ (n : ℕ). F (pointAt points n)) (zero-add i))
 
-      go : (a : Checked) (b : Bool) (c : Checked) → all a b c .reply .refusal ≡ 0 → one a b (pointAt points i) ≡ outcome (accepted (getD (all a b c .out) i nan ∷ [])) []
+      go : (a : Checked) (b : Bool) (c : Checked) → all a b c .reply .refusal ≡ 0
+          → one a b (pointAt points i) ≡ outcome (accepted (getD (all a b c .out) i nan ∷ [])) []
       go (Failed e) b c h = not-zero e h
       go Passed true c h = absurd (omega arith)
       go Passed false (Failed e) h = not-zero e h
@@ -86,20 +97,25 @@ module _ (q : ℕ) (fs : List Float) (ws : List ℕ) (layers : ℕ) (v : Convent
   unfolding readStep
   rest-stays = go C (byMass v && ltb 0 (leftOf q S (facesOf S) placeLimit)) (trackCheck (length points) (length out))
     where
-      go : (a : Checked) (b : Bool) (c : Checked) → drop (length points / 3) (all a b c .out) ≡ drop (length points / 3) out
+      go : (a : Checked) (b : Bool) (c : Checked)
+          → drop (length points / 3) (all a b c .out) ≡ drop (length points / 3) out
       go (Failed e) b c = refl
       go Passed true c = refl
       go Passed false (Failed e) = refl
       go Passed false Passed =
           let n = stretch-length F points 0 (length points / 3) in
-          ap (λ (k : ℕ). drop k W) (sym n) ∙ (past (along F points (length points / 3)) out ∙ ap (λ (k : ℕ). drop k out) n)
+          ap (λ (k : ℕ). drop k W) (sym n)
+          ∙ (past (along F points (length points / 3)) out ∙ ap (λ (k : ℕ). drop k out) n)
 
   -- "for 8 a track counts as a density": where the density reading is refused, the track is refused alike
-  pub refused-alike : (x : List Float) → (readStep q fs ws layers (density v x) .reply .refusal ≡ 0 → ⊥) → got .reply ≡ readStep q fs ws layers (density v x) .reply
+  pub refused-alike : (x : List Float) → (readStep q fs ws layers (density v x) .reply .refusal ≡ 0 → ⊥)
+      → got .reply ≡ readStep q fs ws layers (density v x) .reply
   unfolding readStep
-  refused-alike x = go C (byMass v && ltb 0 (leftOf q S (facesOf S) placeLimit)) (trackCheck (length points) (length out))
+  refused-alike x =
+      go C (byMass v && ltb 0 (leftOf q S (facesOf S) placeLimit)) (trackCheck (length points) (length out))
     where
-      go : (a : Checked) (b : Bool) (c : Checked) → (one a b x .reply .refusal ≡ 0 → ⊥) → all a b c .reply ≡ one a b x .reply
+      go : (a : Checked) (b : Bool) (c : Checked) → (one a b x .reply .refusal ≡ 0 → ⊥)
+          → all a b c .reply ≡ one a b x .reply
       go (Failed e) b c h = refl
       go Passed true c h = refl
       go Passed false c h = absurd (h refl)

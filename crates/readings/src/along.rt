@@ -1,7 +1,7 @@
 // The density of a list of kernels along a track of points: up to 64 points at once stand in arrays, so that they are
 // worked side by side, and each point's sum runs over the kernels in list order.
-// Internal: a function with a `requires` is called by proved code alone. A `length` of 64 stands where a proof must carry an
-// array's length.
+// Internal: a function with a `requires` is called by proved code alone. A `length` of 64 stands where a proof must
+// carry an array's length.
 ghost use mathlib.Core.Path.{_≡_};
 ghost use mathlib.Core.Bool.{true};
 ghost use Prim.Native.Nat.{_+_, _*_, _≤_, min};
@@ -51,7 +51,8 @@ fn is_unit(k: Kernel) -> bool
 // Adds a kernel that passes the strict test to m sums.
 fn add_unit(k: Kernel, m: usize, x: &[f64; 64], y: &[f64; 64], z: &[f64; 64], rho: &mut [f64; 64])
     requires { ⌜ (lt (abs (k .alpha ⊖ one)) stayLimit ≡ true) × (m ≤ 64) × (length (now rho) ≡ 64) ⌝ }
-    ensures { λ _. ⌜ Added m k (now (x .entry)) (now (y .entry)) (now (z .entry)) (now (rho .entry)) (now (rho .exit)) ⌝ }
+    ensures { λ _. ⌜ Added m k (now (x .entry)) (now (y .entry)) (now (z .entry)) (now (rho .entry))
+        (now (rho .exit)) ⌝ }
 {
     let c = k.c;
     let cx = c[0];
@@ -67,7 +68,8 @@ fn add_unit(k: Kernel, m: usize, x: &[f64; 64], y: &[f64; 64], z: &[f64; 64], rh
 // Adds any kernel to m sums, point by point.
 fn add_any(k: Kernel, m: usize, x: &[f64; 64], y: &[f64; 64], z: &[f64; 64], rho: &mut [f64; 64])
     requires { ⌜ (m ≤ 64) × (length (now rho) ≡ 64) ⌝ }
-    ensures { λ _. ⌜ Added m k (now (x .entry)) (now (y .entry)) (now (z .entry)) (now (rho .entry)) (now (rho .exit)) ⌝ }
+    ensures { λ _. ⌜ Added m k (now (x .entry)) (now (y .entry)) (now (z .entry)) (now (rho .entry))
+        (now (rho .exit)) ⌝ }
 {
     for i in 0..m {
         rho[i] = rho[i] + density_of(k, [x[i], y[i], z[i]]);
@@ -77,7 +79,8 @@ fn add_any(k: Kernel, m: usize, x: &[f64; 64], y: &[f64; 64], z: &[f64; 64], rho
 // Adds a kernel to m sums.
 fn add_kernel(k: Kernel, m: usize, x: &[f64; 64], y: &[f64; 64], z: &[f64; 64], rho: &mut [f64; 64])
     requires { ⌜ (m ≤ 64) × (length (now rho) ≡ 64) ⌝ }
-    ensures { λ _. ⌜ Added m k (now (x .entry)) (now (y .entry)) (now (z .entry)) (now (rho .entry)) (now (rho .exit)) ⌝ }
+    ensures { λ _. ⌜ Added m k (now (x .entry)) (now (y .entry)) (now (z .entry)) (now (rho .entry))
+        (now (rho .exit)) ⌝ }
 {
     if is_unit(k) {
         add_unit(k, m, x, y, z, rho);
@@ -97,8 +100,10 @@ fn add_units(
     z: &[f64; 64],
     rho: &mut [f64; 64],
 )
-    requires { ⌜ (lt (abs (k .alpha ⊖ one)) stayLimit ≡ true) × (lt (abs (l .alpha ⊖ one)) stayLimit ≡ true) × (m ≤ 64) × (length (now rho) ≡ 64) ⌝ }
-    ensures { λ _. ⌜ BothAdded m k l (now (x .entry)) (now (y .entry)) (now (z .entry)) (now (rho .entry)) (now (rho .exit)) ⌝ }
+    requires { ⌜ (lt (abs (k .alpha ⊖ one)) stayLimit ≡ true) × (lt (abs (l .alpha ⊖ one)) stayLimit ≡ true) × (m ≤ 64)
+        × (length (now rho) ≡ 64) ⌝ }
+    ensures { λ _. ⌜ BothAdded m k l (now (x .entry)) (now (y .entry)) (now (z .entry)) (now (rho .entry))
+        (now (rho .exit)) ⌝ }
 {
     let c = k.c;
     let cx = c[0];
@@ -132,7 +137,8 @@ fn add_both(
     rho: &mut [f64; 64],
 )
     requires { ⌜ (m ≤ 64) × (length (now rho) ≡ 64) ⌝ }
-    ensures { λ _. ⌜ BothAdded m k l (now (x .entry)) (now (y .entry)) (now (z .entry)) (now (rho .entry)) (now (rho .exit)) ⌝ }
+    ensures { λ _. ⌜ BothAdded m k l (now (x .entry)) (now (y .entry)) (now (z .entry)) (now (rho .entry))
+        (now (rho .exit)) ⌝ }
 {
     let units = is_unit(k) & is_unit(l);
     if units {
@@ -154,7 +160,8 @@ fn add_pairs(
     rho: &mut [f64; 64],
 )
     requires { ⌜ (12 * pairs ≤ length (now kernels)) × (m ≤ 64) × Zeros m (now rho) ⌝ }
-    ensures { λ _. ⌜ Summed m (densitizeOf (kernelAt (now (kernels .entry))) (2 * pairs)) (now (x .entry)) (now (y .entry)) (now (z .entry)) (now (rho .exit)) ⌝ }
+    ensures { λ _. ⌜ Summed m (densitizeOf (kernelAt (now (kernels .entry))) (2 * pairs)) (now (x .entry))
+        (now (y .entry)) (now (z .entry)) (now (rho .exit)) ⌝ }
 {
     let mut j: usize = 0;
     while j < pairs {
@@ -176,7 +183,8 @@ fn add_all(
     rho: &mut [f64; 64],
 )
     requires { ⌜ (6 * n ≤ length (now kernels)) × (m ≤ 64) × Zeros m (now rho) ⌝ }
-    ensures { λ _. ⌜ Summed m (densitizeOf (kernelAt (now (kernels .entry))) n) (now (x .entry)) (now (y .entry)) (now (z .entry)) (now (rho .exit)) ⌝ }
+    ensures { λ _. ⌜ Summed m (densitizeOf (kernelAt (now (kernels .entry))) n) (now (x .entry)) (now (y .entry))
+        (now (z .entry)) (now (rho .exit)) ⌝ }
 {
     let pairs = n / 2;
     add_pairs(kernels, pairs, m, x, y, z, rho);
@@ -187,8 +195,10 @@ fn add_all(
 
 // Writes the densities at the m points from `at` on.
 fn block(kernels: &[f64], n: usize, points: &[f64], at: usize, m: usize, out: &mut [f64])
-    requires { ⌜ (6 * n ≤ length (now kernels)) × (m ≤ 64) × (3 * (at + m) ≤ length (now points)) × (at + m ≤ length (now out)) ⌝ }
-    ensures { λ _. ⌜ now (out .exit) ≡ write (now (out .entry)) at (stretch (densitizeOf (kernelAt (now (kernels .entry))) n) (now (points .entry)) at m) ⌝ }
+    requires { ⌜ (6 * n ≤ length (now kernels)) × (m ≤ 64) × (3 * (at + m) ≤ length (now points))
+        × (at + m ≤ length (now out)) ⌝ }
+    ensures { λ _. ⌜ now (out .exit) ≡ write (now (out .entry)) at
+        (stretch (densitizeOf (kernelAt (now (kernels .entry))) n) (now (points .entry)) at m) ⌝ }
 {
     let mut x = [0.0; 64];
     let mut y = [0.0; 64];
@@ -215,7 +225,8 @@ fn share(left: usize) -> usize
 // Writes the density of the first n kernels of a list at each of the first `count` points.
 pub fn densities(kernels: &[f64], n: usize, points: &[f64], count: usize, out: &mut [f64])
     requires { ⌜ (6 * n ≤ length (now kernels)) × (3 * count ≤ length (now points)) × (count ≤ length (now out)) ⌝ }
-    ensures { λ _. ⌜ now (out .exit) ≡ write (now (out .entry)) 0 (along (densitizeOf (kernelAt (now (kernels .entry))) n) (now (points .entry)) count) ⌝ }
+    ensures { λ _. ⌜ now (out .exit) ≡ write (now (out .entry)) 0
+        (along (densitizeOf (kernelAt (now (kernels .entry))) n) (now (points .entry)) count) ⌝ }
 {
     let mut at: usize = 0;
     while at < count {

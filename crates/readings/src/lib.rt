@@ -1,4 +1,5 @@
-// The readings of a store: density, report, list and track, and the report of what is finished. No exported reading has a `requires`, and none changes the store.
+// The readings of a store: density, report, list and track, and the report of what is finished. No exported reading has
+// a `requires`, and none changes the store.
 pub mod along;
 pub mod at_point;
 pub mod counts;

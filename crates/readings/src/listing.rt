@@ -35,7 +35,9 @@ fn list_pieces(
     out: &mut [f64],
 ) -> ListRead
     requires { ⌜ coordsFrom ≤ length (now floats) ⌝ ∗ ⌜ Worded width (now words) faces ⌝ }
-    ensures { λ r. ⌜ outcome (listRead r) (now (out .exit)) ≡ Readings.listing (applied v (heldAll width (now (floats .entry)) (now (words .entry)) placeLimit)) (map bare (heldAll width (now (floats .entry)) (now (words .entry)) placeLimit)) (now (out .entry)) ⌝ }
+    ensures { λ r. ⌜ outcome (listRead r) (now (out .exit))
+        ≡ Readings.listing (applied v (heldAll width (now (floats .entry)) (now (words .entry)) placeLimit))
+        (map bare (heldAll width (now (floats .entry)) (now (words .entry)) placeLimit)) (now (out .entry)) ⌝ }
 {
     let count = count_pieces(words, faces);
     if 6 * count <= out.len() {

@@ -32,8 +32,10 @@ fn write_six(out: &mut [f64], at: usize, k: Kernel)
 
 // The first `count` pieces of place i, by a scale.
 fn place_list(out: &mut [f64], at: usize, floats: &[f64], i: usize, count: usize, s: f64)
-    requires { ⌜ (coordsFrom ≤ length (now floats)) × (i < placeLimit) × (count ≤ pieceLimit) × (at + 6 * count ≤ length (now out)) ⌝ }
-    ensures { λ _. ⌜ now (out .exit) ≡ write (now (out .entry)) at (rescaledSixes s (heldAt (now (floats .entry)) i count)) ⌝ }
+    requires { ⌜ (coordsFrom ≤ length (now floats)) × (i < placeLimit) × (count ≤ pieceLimit)
+        × (at + 6 * count ≤ length (now out)) ⌝ }
+    ensures { λ _. ⌜ now (out .exit) ≡ write (now (out .entry)) at
+        (rescaledSixes s (heldAt (now (floats .entry)) i count)) ⌝ }
 {
     let mut j: usize = 0;
     while j < count {
@@ -45,8 +47,10 @@ fn place_list(out: &mut [f64], at: usize, floats: &[f64], i: usize, count: usize
 
 // The pieces of all places, by a scale.
 pub fn write_list(out: &mut [f64], floats: &[f64], words: &[u32], faces: usize, s: f64)
-    requires { ⌜ coordsFrom ≤ length (now floats) ⌝ ∗ ⌜ Worded width (now words) faces ⌝ ∗ ⌜ 6 * heldPieces width (now words) placeLimit ≤ length (now out) ⌝ }
-    ensures { λ _. ⌜ now (out .exit) ≡ write (now (out .entry)) 0 (rescaledSixes s (heldAll width (now (floats .entry)) (now (words .entry)) placeLimit)) ⌝ }
+    requires { ⌜ coordsFrom ≤ length (now floats) ⌝ ∗ ⌜ Worded width (now words) faces ⌝
+        ∗ ⌜ 6 * heldPieces width (now words) placeLimit ≤ length (now out) ⌝ }
+    ensures { λ _. ⌜ now (out .exit) ≡ write (now (out .entry)) 0
+        (rescaledSixes s (heldAll width (now (floats .entry)) (now (words .entry)) placeLimit)) ⌝ }
 {
     let mut at: usize = 0;
     let mut i: usize = 0;

@@ -54,7 +54,8 @@ fn complete(words: &[u32], i: usize) -> bool
     word(words, FINISHED + row) == pieces(words[STATE + row])
 }
 
-// Whether a reading sees place i: its layer is in the set and, where only complete places are wanted, it has no step left.
+// Whether a reading sees place i: its layer is in the set and, where only complete places are wanted, it has no step
+// left.
 fn shows(words: &[u32], layers: u32, only: bool, i: usize) -> bool
     requires { ⌜ cornersFrom width ≤ length (now words) ⌝
         ∗ ⌜ (i < placeLimit) × (layerOf width (now words) i < layerLimit) ⌝ }
@@ -81,8 +82,8 @@ fn look(seen: &mut [u32], words: &[u32], layers: u32, only: bool, i: usize)
     zero_words(seen, STATE + WIDTH * i, WIDTH);
 }
 
-// The words of a sound store up to the corners, with the places that the reading does not see empty. The other functions of
-// a reading go over these words, so that they know of no layers.
+// The words of a sound store up to the corners, with the places that the reading does not see empty. The other
+// functions of a reading go over these words, so that they know of no layers.
 fn places(words: &[u32], layers: u32, only: bool, faces: usize) -> [u32; 130]
     requires { ⌜ Worded width (now words) faces ⌝ }
     ensures { λ r. ⌜ r ≡ take (cornersFrom width) (showing width layers only (now (words .entry))) ⌝ }

@@ -79,7 +79,8 @@ fn scale_by_rho0(bulk: f64, floats: &[f64], words: &[u32], faces: usize) -> f64
 // The scale by mass. The density at the origin is summed only where there is no mass to scale.
 fn scale_by_mass(target: f64, bulk: f64, floats: &[f64], words: &[u32], faces: usize) -> f64
     requires { ⌜ coordsFrom ≤ length (now floats) ⌝ ∗ ⌜ Worded width (now words) faces ⌝ }
-    ensures { λ r. ⌜ r ≡ applied (Mass target bulk) (heldAll width (now (floats .entry)) (now (words .entry)) placeLimit) ⌝ }
+    ensures { λ r. ⌜ r ≡ applied (Mass target bulk)
+        (heldAll width (now (floats .entry)) (now (words .entry)) placeLimit) ⌝ }
 {
     let aim = target_of(Convention::Mass(target, bulk));
     let mass = raw_mass(floats, words, faces);

@@ -36,7 +36,8 @@ fn place_density(floats: &[f64], i: usize, count: usize, s: f64, x: [f64; 3], st
 // The density at x of all pieces, by a scale.
 pub fn density_sum(floats: &[f64], words: &[u32], faces: usize, s: f64, x: [f64; 3]) -> f64
     requires { ⌜ coordsFrom ≤ length (now floats) ⌝ ∗ ⌜ Worded width (now words) faces ⌝ }
-    ensures { λ r. ⌜ r ≡ fold (scaledStep s x) (heldAll width (now (floats .entry)) (now (words .entry)) placeLimit) +0 ⌝ }
+    ensures { λ r. ⌜ r ≡ fold (scaledStep s x)
+        (heldAll width (now (floats .entry)) (now (words .entry)) placeLimit) +0 ⌝ }
 {
     let mut rho = 0.0;
     let mut i: usize = 0;

@@ -53,8 +53,10 @@ fn side_by_side(
     count: usize,
     out: &mut [f64],
 )
-    requires { ⌜ coordsFrom ≤ length (now floats) ⌝ ∗ ⌜ Worded width (now words) faces ⌝ ∗ ⌜ (3 * count ≤ length (now points)) × (count ≤ length (now out)) ⌝ }
-    ensures { λ _. ⌜ now (out .exit) ≡ write (now (out .entry)) 0 (along (densityAt (map (rescaled s) (map bare (heldAll width (now (floats .entry)) (now (words .entry)) placeLimit)))) (now (points .entry)) count) ⌝ }
+    requires { ⌜ coordsFrom ≤ length (now floats) ⌝ ∗ ⌜ Worded width (now words) faces ⌝
+        ∗ ⌜ (3 * count ≤ length (now points)) × (count ≤ length (now out)) ⌝ }
+    ensures { λ _. ⌜ now (out .exit) ≡ write (now (out .entry)) 0
+        (along (densityAt (map (rescaled s) (map bare (heldAll width (now (floats .entry)) (now (words .entry)) placeLimit)))) (now (points .entry)) count) ⌝ }
 {
     let n = count_pieces(words, faces);
     let mut kernels = [0.0; 3072];
@@ -72,8 +74,10 @@ fn one_by_one(
     count: usize,
     out: &mut [f64],
 )
-    requires { ⌜ coordsFrom ≤ length (now floats) ⌝ ∗ ⌜ Worded width (now words) faces ⌝ ∗ ⌜ (3 * count ≤ length (now points)) × (count ≤ length (now out)) ⌝ }
-    ensures { λ _. ⌜ now (out .exit) ≡ write (now (out .entry)) 0 (along (densityAt (map (rescaled s) (map bare (heldAll width (now (floats .entry)) (now (words .entry)) placeLimit)))) (now (points .entry)) count) ⌝ }
+    requires { ⌜ coordsFrom ≤ length (now floats) ⌝ ∗ ⌜ Worded width (now words) faces ⌝
+        ∗ ⌜ (3 * count ≤ length (now points)) × (count ≤ length (now out)) ⌝ }
+    ensures { λ _. ⌜ now (out .exit) ≡ write (now (out .entry)) 0
+        (along (densityAt (map (rescaled s) (map bare (heldAll width (now (floats .entry)) (now (words .entry)) placeLimit)))) (now (points .entry)) count) ⌝ }
 {
     let mut i: usize = 0;
     while i < count {
@@ -89,7 +93,8 @@ fn one_by_one(
     }
 }
 
-// Writes the densities at the first `count` points, by a scale. For a few of them it does not pay to lay the pieces down.
+// Writes the densities at the first `count` points, by a scale. For a few of them it does not pay to lay the pieces
+// down.
 fn trace(
     floats: &[f64],
     words: &[u32],
@@ -99,8 +104,10 @@ fn trace(
     count: usize,
     out: &mut [f64],
 )
-    requires { ⌜ coordsFrom ≤ length (now floats) ⌝ ∗ ⌜ Worded width (now words) faces ⌝ ∗ ⌜ (3 * count ≤ length (now points)) × (count ≤ length (now out)) ⌝ }
-    ensures { λ _. ⌜ now (out .exit) ≡ write (now (out .entry)) 0 (along (densityAt (map (rescaled s) (map bare (heldAll width (now (floats .entry)) (now (words .entry)) placeLimit)))) (now (points .entry)) count) ⌝ }
+    requires { ⌜ coordsFrom ≤ length (now floats) ⌝ ∗ ⌜ Worded width (now words) faces ⌝
+        ∗ ⌜ (3 * count ≤ length (now points)) × (count ≤ length (now out)) ⌝ }
+    ensures { λ _. ⌜ now (out .exit) ≡ write (now (out .entry)) 0
+        (along (densityAt (map (rescaled s) (map bare (heldAll width (now (floats .entry)) (now (words .entry)) placeLimit)))) (now (points .entry)) count) ⌝ }
 {
     if count < 8 {
         one_by_one(floats, words, faces, s, points, count, out);
@@ -119,7 +126,9 @@ fn track_points(
     out: &mut [f64],
 ) -> TrackRead
     requires { ⌜ coordsFrom ≤ length (now floats) ⌝ ∗ ⌜ Worded width (now words) faces ⌝ }
-    ensures { λ r. ⌜ outcome (trackRead r) (now (out .exit)) ≡ Readings.tracking s (map bare (heldAll width (now (floats .entry)) (now (words .entry)) placeLimit)) (now (points .entry)) (now (out .entry)) ⌝ }
+    ensures { λ r. ⌜ outcome (trackRead r) (now (out .exit))
+        ≡ Readings.tracking s (map bare (heldAll width (now (floats .entry)) (now (words .entry)) placeLimit))
+        (now (points .entry)) (now (out .entry)) ⌝ }
 {
     match check_track(points.len(), out.len()) {
         Checked::Failed(r) => TrackRead::Refused(r),

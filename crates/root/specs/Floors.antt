@@ -1,4 +1,5 @@
--- The whole root of a natural number: `floorRoot` is it, there is one, and how it goes with a factor that is a square. Assumes nothing.
+-- The whole root of a natural number: `floorRoot` is it, there is one, and how it goes with a factor that is a square.
+-- Assumes nothing.
 use mathlib.Core.Path.{_≡_, sym, ap, _∙_, subst}
 use Prim.Native.Nat.{ℕ, zero, suc, _+_, _-_, _*_, _/_, _^_, _≤_, _<_, zero-le}
 use native.Mathlib.Nat.{le-trans, le-of-eq, le-of-lt, lt-of-lt-of-le, lt-of-le-of-lt, lt-of-not-le, not-le-of-lt, mul-assoc, mul-left-comm, mul-add, add-mul, mul-one, one-mul, mul-le-mul, mul-le-mul-left, mul-le-mul-right, mul-lt-mul-of-pos-right, mul-pos, pow-suc, pow-le-pow-left}
@@ -12,7 +13,9 @@ use Rattle.root.specs.Root.{rootIn, floorRoot, Floor}
 -- ---- squares
 pub sq-suc : (q : ℕ) → (q + 1) * (q + 1) ≡ q * q + (2 * q + 1)
 sq-suc q =
-    let a : (q + 1) * (q + 1) ≡ q * q + q + (q + 1) = mul-add (q + 1) q 1 ∙ ap (λ (x : ℕ). x + (q + 1) * 1) (add-mul q 1 q ∙ ap (λ (x : ℕ). q * q + x) (one-mul q)) ∙ ap (λ (x : ℕ). q * q + q + x) (mul-one (q + 1)) in
+    let a : (q + 1) * (q + 1) ≡ q * q + q + (q + 1) = mul-add (q + 1) q 1
+    ∙ ap (λ (x : ℕ). x + (q + 1) * 1) (add-mul q 1 q ∙ ap (λ (x : ℕ). q * q + x) (one-mul q))
+    ∙ ap (λ (x : ℕ). q * q + q + x) (mul-one (q + 1)) in
     omega arith
 
 pub sq-twice : (q : ℕ) → 2 * q * (2 * q) ≡ 4 * (q * q)
@@ -42,7 +45,8 @@ of-floor {n} {q} {r} h =
 up-to : (a b : ℕ) → a < b + 1 → a ≤ b
 up-to a b h = omega arith
 
-next-digit : (n s : ℕ) → IsRoot (n / 4) s → (b : Bool) → (T b → (2 * s + 1) * (2 * s + 1) ≤ n) → (T (not b) → n < (2 * s + 1) * (2 * s + 1)) → IsRoot n (cond b (2 * s + 1) (2 * s))
+next-digit : (n s : ℕ) → IsRoot (n / 4) s → (b : Bool) → (T b → (2 * s + 1) * (2 * s + 1) ≤ n)
+    → (T (not b) → n < (2 * s + 1) * (2 * s + 1)) → IsRoot n (cond b (2 * s + 1) (2 * s))
 next-digit n s ih true h k =
     let l = ih .least in
     let m = ih .most in
@@ -67,7 +71,9 @@ unfolding rootIn
 rootIn-is zero n h = none n h
 rootIn-is (suc d) n h =
     let s = rootIn d (n / 4) in
-    next-digit n s (rootIn-is d (n / 4) (quarter n (4 ^ d) (subst (λ (x : ℕ). n < x) (pow-suc 4 d) h))) (leb ((2 * s + 1) * (2 * s + 1)) n) (leb→le ((2 * s + 1) * (2 * s + 1)) n) (nleb→lt ((2 * s + 1) * (2 * s + 1)) n)
+    next-digit n s (rootIn-is d (n / 4) (quarter n (4 ^ d) (subst (λ (x : ℕ). n < x) (pow-suc 4 d) h)))
+    (leb ((2 * s + 1) * (2 * s + 1)) n) (leb→le ((2 * s + 1) * (2 * s + 1)) n)
+    (nleb→lt ((2 * s + 1) * (2 * s + 1)) n)
 
 pub floorRoot-is : (n : ℕ) → IsRoot n (floorRoot n)
 unfolding floorRoot
@@ -76,7 +82,9 @@ floorRoot-is n = rootIn-is (size n) n (lt-of-lt-of-le (size-lt n) (pow-le-pow-le
 -- ---- with a factor that is the square of p: the root of f * p * p lies from q * p up to (q + 1) * p
 module _ (f q p Q : ℕ) (P : 0 < p) (h : IsRoot f q) (k : IsRoot (f * (p * p)) Q) where
   pub from : q * p ≤ Q
-  from = up-to (q * p) Q (sq-back (lt-of-le-of-lt (le-trans (le-of-eq (sq-mul q p)) (mul-le-mul-right (p * p) (h .least))) (k .most)))
+  from = up-to (q * p) Q (sq-back (lt-of-le-of-lt
+      (le-trans (le-of-eq (sq-mul q p)) (mul-le-mul-right (p * p) (h .least))) (k .most)))
 
   pub upto : Q < (q + 1) * p
-  upto = sq-back (lt-of-le-of-lt (k .least) (lt-of-lt-of-le (mul-lt-mul-of-pos-right (h .most) (mul-pos P P)) (le-of-eq (sym (sq-mul (q + 1) p)))))
+  upto = sq-back (lt-of-le-of-lt (k .least)
+      (lt-of-lt-of-le (mul-lt-mul-of-pos-right (h .most) (mul-pos P P)) (le-of-eq (sym (sq-mul (q + 1) p)))))

@@ -1,5 +1,6 @@
--- IEEE 754's words for squareRoot: of an x above zero the result is the value of the format that is nearest to the real number √x.
--- `root-nearest` proves them of `squareRoot`. Every other value is strictly farther, so no tie arises, and "to even" is never asked. Assumes nothing.
+-- IEEE 754's words for squareRoot: of an x above zero the result is the value of the format that is nearest to the real
+-- number √x. `root-nearest` proves them of `squareRoot`. Every other value is strictly farther, so no tie arises, and
+-- "to even" is never asked. Assumes nothing.
 use mathlib.Core.Path.{_≡_, refl, sym, ap, _∙_, subst}
 use Prim.Native.Nat.{ℕ, zero, suc, _+_, _-_, _*_, _/_, _%_, _^_, _≤_, _<_}
 use native.Mathlib.Nat.{le-trans, le-of-eq, le-of-lt, lt-of-lt-of-le, lt-of-le-of-lt, lt-of-not-le, not-le-of-lt, lt-irrefl, eq-or-lt-of-le, mul-comm, mul-assoc, mul-left-comm, one-mul, zero-mul, add-mul, mul-le-mul, mul-le-mul-left, mul-le-mul-right, mul-lt-mul-of-pos-left, mul-lt-mul-of-pos-right, lt-of-mul-lt-mul-right, mul-pos, pow-succ', zero-lt-suc}
@@ -30,12 +31,15 @@ plain nan = false
 plain (inf s) = false
 plain (fin s m e) = not s
 
--- y is farther from √x than r is. In units of the format's smallest value r is g, y is h, and √x is the real number √(n * 2 ^ low), n being x.
--- It is nearer to g than to h where it lies on g's side of their middle, (g + h) / 2. That is said with both sides doubled and squared.
+-- y is farther from √x than r is. In units of the format's smallest value r is g, y is h, and √x is the real number √(n
+-- * 2 ^ low), n being x. It is nearer to g than to h where it lies on g's side of their middle, (g + h) / 2. That is
+-- said with both sides doubled and squared.
 abbrev pub Farther : Format → Float → Float → Float → Type 0
 Farther f x r y =
-    ((unitsIn f r < unitsIn f y) × (4 * (unitsIn f x * 2 ^ low f) < (unitsIn f r + unitsIn f y) * (unitsIn f r + unitsIn f y)))
-    ⊎ ((unitsIn f y < unitsIn f r) × ((unitsIn f r + unitsIn f y) * (unitsIn f r + unitsIn f y) < 4 * (unitsIn f x * 2 ^ low f)))
+    ((unitsIn f r < unitsIn f y) × (4 * (unitsIn f x * 2 ^ low f) < (unitsIn f r + unitsIn f y) *
+    (unitsIn f r + unitsIn f y)))
+    ⊎ ((unitsIn f y < unitsIn f r) × ((unitsIn f r + unitsIn f y) * (unitsIn f r + unitsIn f y) < 4 *
+    (unitsIn f x * 2 ^ low f)))
 
 -- the finite values with the minus sign, -0 among them
 abbrev pub minus : Float → Bool
@@ -43,11 +47,13 @@ minus nan = false
 minus (inf s) = false
 minus (fin s m e) = s
 
--- y, whose sign is minus, is farther from √x than r is: the middle of r and y is (g - h) / 2, and √x lies above it. Where h is g or more, the middle is not above zero, and g - h is 0.
+-- y, whose sign is minus, is farther from √x than r is: the middle of r and y is (g - h) / 2, and √x lies above it.
+-- Where h is g or more, the middle is not above zero, and g - h is 0.
 abbrev pub FartherBelow : Format → Float → Float → Float → Type 0
 FartherBelow f x r y = (unitsIn f r - unitsIn f y) * (unitsIn f r - unitsIn f y) < 4 * (unitsIn f x * 2 ^ low f)
 
--- r is a value of the format, finite and above zero, and every other finite one is farther from √x. (An infinity is farther than any.)
+-- r is a value of the format, finite and above zero, and every other finite one is farther from √x. (An infinity is
+-- farther than any.)
 pub record NearestRoot (f : Format) (x r : Float) : Type 0 where
   pub held : T (fits f r)
   pub above : T (positive r)
@@ -55,13 +61,16 @@ pub record NearestRoot (f : Format) (x r : Float) : Type 0 where
   pub below : (y : Float) → T (fits f y) → T (minus y) → FartherBelow f x r y
 
 -- ---- a value is known by its units
-bits-by-units : (x : Float) (n : ℕ) → HasValue x false n (2 ^ 1074) → toBits binary64 x ≡ (size n - 53) * 2 ^ 52 + n / 2 ^ (size n - 53)
+bits-by-units : (x : Float) (n : ℕ) → HasValue x false n (2 ^ 1074)
+    → toBits binary64 x ≡ (size n - 53) * 2 ^ 52 + n / 2 ^ (size n - 53)
 bits-by-units nan n h = absurd h
 bits-by-units (inf s) n h = absurd h
 bits-by-units (fin s m e) n h = ap (λ (t : Bool). toBits binary64 (fin t m e)) (h .0) ∙ bits-of m e n (h .1)
 
-same-value : (x y : Float) (n : ℕ) → T (fits binary64 x) → T (fits binary64 y) → HasValue x false n (2 ^ 1074) → HasValue y false n (2 ^ 1074) → x ≡ y
-same-value x y n f g h k = sym (ofBits-toBits binary64 x f) ∙ ap (ofBits binary64) (bits-by-units x n h ∙ sym (bits-by-units y n k)) ∙ ofBits-toBits binary64 y g
+same-value : (x y : Float) (n : ℕ) → T (fits binary64 x) → T (fits binary64 y) → HasValue x false n (2 ^ 1074)
+    → HasValue y false n (2 ^ 1074) → x ≡ y
+same-value x y n f g h k = sym (ofBits-toBits binary64 x f)
+    ∙ ap (ofBits binary64) (bits-by-units x n h ∙ sym (bits-by-units y n k)) ∙ ofBits-toBits binary64 y g
 
 -- a value of the format that is not below zero: m * 2 ^ i units
 record Held (y : Float) : Type 0 where
@@ -82,9 +91,11 @@ pow-back : (i p : ℕ) → 2 ^ i < 2 ^ p → i < p
 pow-back i p h = lt-of-not-le (λ (g : p ≤ i). lt-irrefl (2 ^ i) (lt-of-lt-of-le h (pow-mono g)))
 
 size-pos : (m : ℕ) → 0 < size (suc m)
-size-pos m = lt-of-not-le (λ (g : size (suc m) ≤ 0). not-le-of-lt (lt-of-lt-of-le (size-lt (suc m)) (pow-mono g)) (native.Mathlib.Nat.zero-lt-suc m))
+size-pos m = lt-of-not-le (λ (g : size (suc m) ≤ 0). not-le-of-lt (lt-of-lt-of-le (size-lt (suc m)) (pow-mono g))
+    (native.Mathlib.Nat.zero-lt-suc m))
 
-scaled : (m i : ℕ) → suc m < 2 ^ 53 → suc m * 2 ^ i < 2 ^ 2098 → Scaled (suc m * 2 ^ i) (suc m * 2 ^ (53 - size (suc m))) (i + (size (suc m) - 1))
+scaled : (m i : ℕ) → suc m < 2 ^ 53 → suc m * 2 ^ i < 2 ^ 2098
+    → Scaled (suc m * 2 ^ i) (suc m * 2 ^ (53 - size (suc m))) (i + (size (suc m) - 1))
 scaled m i l u =
     let z = size (suc m) in
     let zp : 0 < z = size-pos m in
@@ -93,22 +104,34 @@ scaled m i l u =
     let e1 : z - 1 + (53 - z) ≡ 52 = omega arith in
     let e2 : z + (53 - z) ≡ 53 = omega arith in
     let e3 : 53 - z + (i + (z - 1)) ≡ i + 52 = omega arith in
-    let t : i + (z - 1) < 2098 = pow-back (i + (z - 1)) 2098 (lt-of-le-of-lt (le-trans (le-of-eq (pow-add 2 i (z - 1) ∙ mul-comm (2 ^ i) (2 ^ (z - 1)))) (mul-le-mul-right (2 ^ i) r)) u) in
+    let t : i + (z - 1) < 2098 = pow-back (i + (z - 1)) 2098
+    (lt-of-le-of-lt (le-trans (le-of-eq (pow-add 2 i (z - 1) ∙ mul-comm (2 ^ i) (2 ^ (z - 1))))
+    (mul-le-mul-right (2 ^ i) r)) u) in
     record {
-      value = mul-assoc (suc m) (2 ^ (53 - z)) (2 ^ (i + (z - 1))) ∙ ap (λ (x : ℕ). suc m * x) (sym (pow-add 2 (53 - z) (i + (z - 1))) ∙ ap (λ (x : ℕ). 2 ^ x) e3 ∙ pow-add 2 i 52) ∙ sym (mul-assoc (suc m) (2 ^ i) (2 ^ 52));
-      least = le-trans (le-of-eq (ap (λ (x : ℕ). 2 ^ x) (sym e1) ∙ pow-add 2 (z - 1) (53 - z))) (mul-le-mul-right (2 ^ (53 - z)) r);
-      most = lt-of-lt-of-le (mul-lt-mul-of-pos-right (size-lt (suc m)) (pow-pos (53 - z))) (le-of-eq (sym (pow-add 2 z (53 - z)) ∙ ap (λ (x : ℕ). 2 ^ x) e2));
+      value = mul-assoc (suc m) (2 ^ (53 - z)) (2 ^ (i + (z - 1)))
+          ∙ ap (λ (x : ℕ). suc m * x) (sym (pow-add 2 (53 - z) (i + (z - 1))) ∙ ap (λ (x : ℕ). 2 ^ x) e3
+          ∙ pow-add 2 i 52) ∙ sym (mul-assoc (suc m) (2 ^ i) (2 ^ 52));
+      least = le-trans (le-of-eq (ap (λ (x : ℕ). 2 ^ x) (sym e1) ∙ pow-add 2 (z - 1) (53 - z)))
+          (mul-le-mul-right (2 ^ (53 - z)) r);
+      most = lt-of-lt-of-le (mul-lt-mul-of-pos-right (size-lt (suc m)) (pow-pos (53 - z)))
+          (le-of-eq (sym (pow-add 2 z (53 - z)) ∙ ap (λ (x : ℕ). 2 ^ x) e2));
       top = omega arith;
     }
 
 -- ---- from 2 ^ 52 * 2 ^ k units on a value is a multiple of 2 ^ k units
 multiple : (m i k : ℕ) → m < 2 ^ 53 → 2 ^ 52 * 2 ^ k ≤ m * 2 ^ i → (c : ℕ) × (m * 2 ^ i ≡ c * 2 ^ k)
 multiple m i k l h =
-    let g : 52 + k < 53 + i = pow-back (52 + k) (53 + i) (lt-of-le-of-lt (le-trans (le-of-eq (pow-add 2 52 k)) h) (lt-of-lt-of-le (mul-lt-mul-of-pos-right l (pow-pos i)) (le-of-eq (sym (pow-add 2 53 i))))) in
-    let e : i ≡ i - k + k = omega arith in
-    (m * 2 ^ (i - k), ap (λ (x : ℕ). m * 2 ^ x) e ∙ ap (λ (x : ℕ). m * x) (pow-add 2 (i - k) k) ∙ sym (mul-assoc m (2 ^ (i - k)) (2 ^ k)))
+    let g : 52 + k < 53 + i = pow-back (52 + k) (53 + i)
+    (lt-of-le-of-lt (le-trans (le-of-eq (pow-add 2 52 k)) h)
+    (lt-of-lt-of-le (mul-lt-mul-of-pos-right l (pow-pos i)) (le-of-eq (sym (pow-add 2 53 i))))) in
+    let e : i ≡ i - k + k = omega arith in (
+      m * 2 ^ (i - k),
+      ap (λ (x : ℕ). m * 2 ^ x) e ∙ ap (λ (x : ℕ). m * x) (pow-add 2 (i - k) k)
+          ∙ sym (mul-assoc m (2 ^ (i - k)) (2 ^ k)),
+    )
 
--- ---- a number on either side, u being half the step r: F is the radicand, q its whole root, and a the half of q, rounded up
+-- ---- a number on either side, u being half the step r: F is the radicand, q its whole root, and a the half of q,
+-- rounded up
 module _ (f q p h : ℕ) (P : 0 < p) (root : IsRoot f q) (strict : q % 2 ≡ 1 → q * q < f) where
   four : (a : ℕ) → 2 * a * (2 * a) ≡ 4 * (a * a)
   four a = sq-twice a
@@ -118,8 +141,10 @@ module _ (f q p h : ℕ) (P : 0 < p) (root : IsRoot f q) (strict : q % 2 ≡ 1 �
   over a l g =
       let t = (2 * a + 1) * p in
       let s : f < (2 * a + 1) * (2 * a + 1) = lt-of-lt-of-le (root .most) (mul-le-mul (more l) (more l)) in
-      let w : f * (p * p) < t * t = lt-of-lt-of-le (mul-lt-mul-of-pos-right s (mul-pos P P)) (le-of-eq (sym (sq-mul (2 * a + 1) p))) in
-      let x1 : (a + 1) * (2 * p) ≡ a * (2 * p) + 2 * p = add-mul a 1 (2 * p) ∙ ap (λ (z : ℕ). a * (2 * p) + z) (one-mul (2 * p)) in
+      let w : f * (p * p) < t * t = lt-of-lt-of-le (mul-lt-mul-of-pos-right s (mul-pos P P))
+      (le-of-eq (sym (sq-mul (2 * a + 1) p))) in
+      let x1 : (a + 1) * (2 * p) ≡ a * (2 * p) + 2 * p = add-mul a 1 (2 * p)
+      ∙ ap (λ (z : ℕ). a * (2 * p) + z) (one-mul (2 * p)) in
       let x2 : t ≡ 2 * a * p + p = add-mul (2 * a) 1 p ∙ ap (λ (z : ℕ). 2 * a * p + z) (one-mul p) in
       let x3 : 2 * a * p ≡ 2 * (a * p) = mul-assoc 2 a p in
       let x4 : a * (2 * p) ≡ 2 * (a * p) = mul-left-comm a 2 p in
@@ -135,19 +160,24 @@ module _ (f q p h : ℕ) (P : 0 < p) (root : IsRoot f q) (strict : q % 2 ≡ 1 �
       let t = q * p in
       let x : t ≡ a * (2 * p) = ap (λ (z : ℕ). z * p) e ∙ mul-assoc 2 a p ∙ sym (mul-left-comm a 2 p) in
       let m : a * (2 * p) + h < 2 * t = omega arith in
-      lt-of-lt-of-le (sq-lt m) (le-trans (le-of-eq (four t ∙ ap (λ (z : ℕ). 4 * z) (sq-mul q p))) (mul-le-mul-left 4 (mul-le-mul-right (p * p) (root .least))))
+      lt-of-lt-of-le (sq-lt m) (le-trans (le-of-eq (four t ∙ ap (λ (z : ℕ). 4 * z) (sq-mul q p)))
+      (mul-le-mul-left 4 (mul-le-mul-right (p * p) (root .least))))
 
   -- q odd: the value is half a step above q * p, and the next one below is half a step below it
-  pub under-odd : (a : ℕ) → q ≡ 2 * a + 1 → h ≤ a * (2 * p) → ((a + 1) * (2 * p) + h) * ((a + 1) * (2 * p) + h) < 4 * (f * (p * p))
+  pub under-odd : (a : ℕ) → q ≡ 2 * a + 1 → h ≤ a * (2 * p)
+      → ((a + 1) * (2 * p) + h) * ((a + 1) * (2 * p) + h) < 4 * (f * (p * p))
   under-odd a e g =
       let t = q * p in
       let o : q % 2 ≡ 1 = omega arith in
-      let x1 : (a + 1) * (2 * p) ≡ a * (2 * p) + 2 * p = add-mul a 1 (2 * p) ∙ ap (λ (z : ℕ). a * (2 * p) + z) (one-mul (2 * p)) in
-      let x2 : t ≡ 2 * a * p + p = ap (λ (z : ℕ). z * p) e ∙ add-mul (2 * a) 1 p ∙ ap (λ (z : ℕ). 2 * a * p + z) (one-mul p) in
+      let x1 : (a + 1) * (2 * p) ≡ a * (2 * p) + 2 * p = add-mul a 1 (2 * p)
+      ∙ ap (λ (z : ℕ). a * (2 * p) + z) (one-mul (2 * p)) in
+      let x2 : t ≡ 2 * a * p + p = ap (λ (z : ℕ). z * p) e ∙ add-mul (2 * a) 1 p
+      ∙ ap (λ (z : ℕ). 2 * a * p + z) (one-mul p) in
       let x3 : 2 * a * p ≡ 2 * (a * p) = mul-assoc 2 a p in
       let x4 : a * (2 * p) ≡ 2 * (a * p) = mul-left-comm a 2 p in
       let m : (a + 1) * (2 * p) + h ≤ 2 * t = omega arith in
-      lt-of-le-of-lt (mul-le-mul m m) (lt-of-le-of-lt (le-of-eq (four t ∙ ap (λ (z : ℕ). 4 * z) (sq-mul q p))) (mul-lt-mul-of-pos-left (mul-lt-mul-of-pos-right (strict o) (mul-pos P P)) (lit< tt)))
+      lt-of-le-of-lt (mul-le-mul m m) (lt-of-le-of-lt (le-of-eq (four t ∙ ap (λ (z : ℕ). 4 * z) (sq-mul q p)))
+      (mul-lt-mul-of-pos-left (mul-lt-mul-of-pos-right (strict o) (mul-pos P P)) (lit< tt)))
 
 -- ---- every other value of the format: m * 2 ^ i units, beside (q / 2 + q % 2) * 2 ^ (j + 1)
 module _ (f q j m i : ℕ) (root : IsRoot f q) (strict : q % 2 ≡ 1 → q * q < f) (ql : 2 ^ 53 ≤ q) (l : m < 2 ^ 53) where
@@ -157,11 +187,13 @@ module _ (f q j m i : ℕ) (root : IsRoot f q) (strict : q % 2 ≡ 1 → q * q <
   step : 2 ^ suc j ≡ 2 * 2 ^ j
   step = pow-succ' 2 j
 
-  up-side : A * 2 ^ suc j < m * 2 ^ i → 4 * (f * (2 ^ j * 2 ^ j)) < (A * 2 ^ suc j + m * 2 ^ i) * (A * 2 ^ suc j + m * 2 ^ i)
+  up-side : A * 2 ^ suc j < m * 2 ^ i → 4 * (f * (2 ^ j * 2 ^ j))
+      < (A * 2 ^ suc j + m * 2 ^ i) * (A * 2 ^ suc j + m * 2 ^ i)
   up-side g =
       let k = multiple m i (suc j) l (le-trans (mul-le-mul-right (2 ^ suc j) (half-least q ql)) (le-of-lt g)) in
       let c : A < k .0 = lt-of-mul-lt-mul-right (2 ^ suc j) (lt-of-lt-of-le g (le-of-eq (k .1))) in
-      let b : (A + 1) * 2 ^ suc j ≤ m * 2 ^ i = le-trans (mul-le-mul-right (2 ^ suc j) (next A (k .0) c)) (le-of-eq (sym (k .1))) in
+      let b : (A + 1) * 2 ^ suc j ≤ m * 2 ^ i = le-trans (mul-le-mul-right (2 ^ suc j) (next A (k .0) c))
+      (le-of-eq (sym (k .1))) in
       subst (λ (s : ℕ). 4 * (f * (2 ^ j * 2 ^ j)) < (A * s + m * 2 ^ i) * (A * s + m * 2 ^ i)) (sym step)
       (over f q (2 ^ j) (m * 2 ^ i) (pow-pos j) root strict A twice (subst (λ (s : ℕ). (A + 1) * s ≤ m * 2 ^ i) step b))
     where
@@ -184,10 +216,12 @@ module _ (f q j m i : ℕ) (root : IsRoot f q) (strict : q % 2 ≡ 1 → q * q <
       go : Dec (2 ^ 52 * 2 ^ suc j ≤ m * 2 ^ i) → m * 2 ^ i ≤ q / 2 * 2 ^ suc j
       go (yes h) =
           let k = multiple m i (suc j) l h in
-          le-trans (le-of-eq (k .1)) (mul-le-mul-right (2 ^ suc j) (down-to (k .0) (lt-of-mul-lt-mul-right (2 ^ suc j) (lt-of-le-of-lt (le-of-eq (sym (k .1))) g))))
+          le-trans (le-of-eq (k .1)) (mul-le-mul-right (2 ^ suc j)
+          (down-to (k .0) (lt-of-mul-lt-mul-right (2 ^ suc j) (lt-of-le-of-lt (le-of-eq (sym (k .1))) g))))
       go (no h) = le-trans (le-of-lt (lt-of-not-le h)) (mul-le-mul-right (2 ^ suc j) least)
 
-  down-side : m * 2 ^ i < A * 2 ^ suc j → (A * 2 ^ suc j + m * 2 ^ i) * (A * 2 ^ suc j + m * 2 ^ i) < 4 * (f * (2 ^ j * 2 ^ j))
+  down-side : m * 2 ^ i < A * 2 ^ suc j → (A * 2 ^ suc j + m * 2 ^ i) * (A * 2 ^ suc j + m * 2 ^ i)
+      < 4 * (f * (2 ^ j * 2 ^ j))
   down-side g = go (q % 2) refl
     where
       two : (r : ℕ) → q % 2 ≡ suc (suc r) → ⊥
@@ -201,9 +235,12 @@ module _ (f q j m i : ℕ) (root : IsRoot f q) (strict : q % 2 ≡ 1 → q * q <
       go (suc zero) e =
           let a : q ≡ 2 * (q / 2) + 1 = omega arith in
           let b : A ≡ q / 2 + 1 = omega arith in
-          subst (λ (z : ℕ). (z * 2 ^ suc j + m * 2 ^ i) * (z * 2 ^ suc j + m * 2 ^ i) < 4 * (f * (2 ^ j * 2 ^ j))) (sym b)
-          (subst (λ (s : ℕ). ((q / 2 + 1) * s + m * 2 ^ i) * ((q / 2 + 1) * s + m * 2 ^ i) < 4 * (f * (2 ^ j * 2 ^ j))) (sym step)
-          (under-odd f q (2 ^ j) (m * 2 ^ i) (pow-pos j) root strict (q / 2) a (subst (λ (s : ℕ). m * 2 ^ i ≤ q / 2 * s) step (lower e g))))
+          subst (λ (z : ℕ). (z * 2 ^ suc j + m * 2 ^ i) * (z * 2 ^ suc j + m * 2 ^ i) < 4 * (f * (2 ^ j * 2 ^ j)))
+          (sym b)
+          (subst (λ (s : ℕ). ((q / 2 + 1) * s + m * 2 ^ i) * ((q / 2 + 1) * s + m * 2 ^ i) < 4 * (f * (2 ^ j * 2 ^ j)))
+          (sym step)
+          (under-odd f q (2 ^ j) (m * 2 ^ i) (pow-pos j) root strict (q / 2) a
+          (subst (λ (s : ℕ). m * 2 ^ i ≤ q / 2 * s) step (lower e g))))
       go (suc (suc r)) e = absurd (two r e)
 
 -- ---- the theorem
@@ -238,9 +275,11 @@ not-positive : (r : Float) → T (positive r) → nought ≡ r → ⊥
 unfolding nought
 not-positive r p e = subst (λ (v : Float). T (positive v)) (sym e) p
 
-lower-side : (g k h w : ℕ) → k ≡ 0 → ((g < k) × (w < (g + k) * (g + k))) ⊎ ((k < g) × ((g + k) * (g + k) < w)) → (g - h) * (g - h) < w
+lower-side : (g k h w : ℕ) → k ≡ 0 → ((g < k) × (w < (g + k) * (g + k))) ⊎ ((k < g) × ((g + k) * (g + k) < w))
+    → (g - h) * (g - h) < w
 lower-side g k h w z (inl a) = absurd (omega (arith, a .0))
-lower-side g k h w z (inr a) = lt-of-le-of-lt (mul-le-mul {n₁ = g - h} {m₁ = g - h} {n₂ = g + k} {m₂ = g + k} (omega arith) (omega arith)) (a .1)
+lower-side g k h w z (inr a) =
+    lt-of-le-of-lt (mul-le-mul {n₁ = g - h} {m₁ = g - h} {n₂ = g + k} {m₂ = g + k} (omega arith) (omega arith)) (a .1)
 
 pub root-nearest : (x : Float) → T (fits binary64 x) → T (positive x) → NearestRoot binary64 x (squareRoot binary64 x)
 root-nearest nan f p = absurd p
@@ -264,37 +303,53 @@ root-nearest (fin false (suc m) e) f p =
     let qm = digits-most d q (doubled-most n sig ex s) root in
     let rad = radicand n sig ex s in
     let r = rootUnits binary64 n in
-    let rv : HasValue r false ((q / 2 + q % 2) * 2 ^ suc j) (2 ^ 1074) = root-value n d q j rad root ql qm (few ex (s .top)) in
-    let rp : T (positive r) = positive-of-value r ((q / 2 + q % 2) * 2 ^ suc j) (2 ^ 1074) rv (mul-pos (lt-of-lt-of-le (lit< tt) (half-least q ql)) (pow-pos (suc j))) in
+    let rv : HasValue r false ((q / 2 + q % 2) * 2 ^ suc j) (2 ^ 1074) = root-value n d q j rad root ql qm
+    (few ex (s .top)) in
+    let rp : T (positive r) = positive-of-value r ((q / 2 + q % 2) * 2 ^ suc j) (2 ^ 1074) rv
+    (mul-pos (lt-of-lt-of-le (lit< tt) (half-least q ql)) (pow-pos (suc j))) in
     let near : (y : Float) → T (fits binary64 y) → T (plain y) → (y ≡ r → ⊥) → Farther binary64 x r y = λ y g k ne.
     let w = held-of y g k in
     farther x r y n ((q / 2 + q % 2) * 2 ^ suc j) (w .m * 2 ^ w .i) v rv (w .value) (root-fits n) g ne
-    (λ h. lt-of-le-of-lt (le-of-eq (ap (λ (z : ℕ). 4 * z) rad)) (up-side (d * 2 ^ 54) q j (w .m) (w .i) root (no-tie d q root) ql (w .digits) h))
-    (λ h. lt-of-lt-of-le (down-side (d * 2 ^ 54) q j (w .m) (w .i) root (no-tie d q root) ql (w .digits) h) (le-of-eq (ap (λ (z : ℕ). 4 * z) (sym rad)))) in
+    (λ h. lt-of-le-of-lt (le-of-eq (ap (λ (z : ℕ). 4 * z) rad))
+    (up-side (d * 2 ^ 54) q j (w .m) (w .i) root (no-tie d q root) ql (w .digits) h))
+    (λ h. lt-of-lt-of-le (down-side (d * 2 ^ 54) q j (w .m) (w .i) root (no-tie d q root) ql (w .digits) h)
+    (le-of-eq (ap (λ (z : ℕ). 4 * z) (sym rad)))) in
     subst (NearestRoot binary64 x) (sym (root-of-value x n v (mul-pos (zero-lt-suc m) (pow-pos i))))
     (record {
       held = root-fits n;
       above = rp;
       nearest = near;
-      below = λ y g k. lower-side (unitsIn binary64 r) (unitsIn binary64 nought) (unitsIn binary64 y) (4 * (unitsIn binary64 x * 2 ^ 1074)) no-units (near nought zero-fits zero-plain (not-positive r rp));
+      below = λ y g k. lower-side (unitsIn binary64 r) (unitsIn binary64 nought) (unitsIn binary64 y)
+          (4 * (unitsIn binary64 x * 2 ^ 1074)) no-units (near nought zero-fits zero-plain (not-positive r rp));
     })
   where
     few : (a : ℕ) → a ≤ 2097 → a / 2 + 484 ≤ 1533
     few a h = omega arith
 
-    farther : (x r y : Float) (n g h : ℕ) → HasValue x false n (2 ^ 1074) → HasValue r false g (2 ^ 1074) → HasValue y false h (2 ^ 1074) → T (fits binary64 r) → T (fits binary64 y) → (y ≡ r → ⊥)
-        → (g < h → 4 * (n * 2 ^ 1074) < (g + h) * (g + h)) → (h < g → (g + h) * (g + h) < 4 * (n * 2 ^ 1074)) → Farther binary64 x r y
+    farther : (x r y : Float) (n g h : ℕ) → HasValue x false n (2 ^ 1074) → HasValue r false g (2 ^ 1074)
+        → HasValue y false h (2 ^ 1074) → T (fits binary64 r) → T (fits binary64 y) → (y ≡ r → ⊥)
+        → (g < h → 4 * (n * 2 ^ 1074) < (g + h) * (g + h)) → (h < g → (g + h) * (g + h) < 4 * (n * 2 ^ 1074))
+        → Farther binary64 x r y
     farther x r y n g h vx vr vy fr fy ne a b =
-        subst (λ (k : ℕ). ((unitsIn binary64 r < k) × (4 * (unitsIn binary64 x * 2 ^ 1074) < (unitsIn binary64 r + k) * (unitsIn binary64 r + k))) ⊎ ((k < unitsIn binary64 r) × ((unitsIn binary64 r + k) * (unitsIn binary64 r + k) < 4 * (unitsIn binary64 x * 2 ^ 1074)))) (sym (units-is y h vy))
-        (subst (λ (k : ℕ). ((k < h) × (4 * (unitsIn binary64 x * 2 ^ 1074) < (k + h) * (k + h))) ⊎ ((h < k) × ((k + h) * (k + h) < 4 * (unitsIn binary64 x * 2 ^ 1074)))) (sym (units-is r g vr))
-        (subst (λ (k : ℕ). ((g < h) × (4 * (k * 2 ^ 1074) < (g + h) * (g + h))) ⊎ ((h < g) × ((g + h) * (g + h) < 4 * (k * 2 ^ 1074)))) (sym (units-is x n vx))
+        subst (λ (k : ℕ). ((unitsIn binary64 r < k) ×
+        (4 * (unitsIn binary64 x * 2 ^ 1074) < (unitsIn binary64 r + k) * (unitsIn binary64 r + k)))
+        ⊎ ((k < unitsIn binary64 r) ×
+        ((unitsIn binary64 r + k) * (unitsIn binary64 r + k) < 4 * (unitsIn binary64 x * 2 ^ 1074))))
+        (sym (units-is y h vy))
+        (subst (λ (k : ℕ). ((k < h) × (4 * (unitsIn binary64 x * 2 ^ 1074) < (k + h) * (k + h))) ⊎
+        ((h < k) × ((k + h) * (k + h) < 4 * (unitsIn binary64 x * 2 ^ 1074)))) (sym (units-is r g vr))
+        (subst (λ (k : ℕ). ((g < h) × (4 * (k * 2 ^ 1074) < (g + h) * (g + h))) ⊎
+        ((h < g) × ((g + h) * (g + h) < 4 * (k * 2 ^ 1074)))) (sym (units-is x n vx))
         (elim (either g h (λ e. ne (same-value y r h fy fr vy (subst (λ (k : ℕ). HasValue r false k (2 ^ 1074)) e vr)))) [ inl l ↦ inl (l, a l) | inr l ↦ inr (l, b l) ])))
 
 -- ---- there is one such value
-both-ways : (a b w : ℕ) → ((a < b) × (w < (a + b) * (a + b))) ⊎ ((b < a) × ((a + b) * (a + b) < w)) → ((b < a) × (w < (b + a) * (b + a))) ⊎ ((a < b) × ((b + a) * (b + a) < w)) → ⊥
+both-ways : (a b w : ℕ) → ((a < b) × (w < (a + b) * (a + b))) ⊎ ((b < a) × ((a + b) * (a + b) < w))
+    → ((b < a) × (w < (b + a) * (b + a))) ⊎ ((a < b) × ((b + a) * (b + a) < w)) → ⊥
 both-ways a b w (inl h) (inl k) = omega (arith, h .0, k .0)
-both-ways a b w (inl h) (inr k) = not-le-of-lt (k .1) (le-of-lt (lt-of-lt-of-le (h .1) (le-of-eq (ap (λ (z : ℕ). z * z) (native.Mathlib.Nat.add-comm a b)))))
-both-ways a b w (inr h) (inl k) = not-le-of-lt (h .1) (le-of-lt (lt-of-lt-of-le (k .1) (le-of-eq (ap (λ (z : ℕ). z * z) (native.Mathlib.Nat.add-comm b a)))))
+both-ways a b w (inl h) (inr k) = not-le-of-lt (k .1)
+    (le-of-lt (lt-of-lt-of-le (h .1) (le-of-eq (ap (λ (z : ℕ). z * z) (native.Mathlib.Nat.add-comm a b)))))
+both-ways a b w (inr h) (inl k) = not-le-of-lt (h .1)
+    (le-of-lt (lt-of-lt-of-le (k .1) (le-of-eq (ap (λ (z : ℕ). z * z) (native.Mathlib.Nat.add-comm b a)))))
 both-ways a b w (inr h) (inr k) = omega (arith, h .0, k .0)
 
 plain-of : (r : Float) → T (positive r) → T (plain r)
@@ -311,12 +366,14 @@ nearest-one x r s h k n =
     (k .nearest r (h .held) (plain-of r (h .above)) (λ e. n (sym e)))
 
 -- ---- and far below where rounding would give the infinity: √x is below 2 ^ emax
-pub no-overflow : (x : Float) → T (fits binary64 x) → T (positive x) → unitsIn binary64 x * 2 ^ 1074 < 2 ^ (1074 + 1023) * 2 ^ (1074 + 1023)
+pub no-overflow : (x : Float) → T (fits binary64 x) → T (positive x)
+    → unitsIn binary64 x * 2 ^ 1074 < 2 ^ (1074 + 1023) * 2 ^ (1074 + 1023)
 no-overflow nan f p = absurd p
 no-overflow (inf s) f p = absurd p
 no-overflow (fin true m e) f p = absurd p
 no-overflow (fin false zero e) f p = absurd p
 no-overflow (fin false (suc m) e) f p =
     let u = units-of false m e f in
-    lt-of-le-of-lt (le-of-eq (ap (λ (z : ℕ). z * 2 ^ 1074) (units-is (fin false (suc m) e) (suc m * 2 ^ shift-of e) (refl, u .value))))
+    lt-of-le-of-lt (le-of-eq (ap (λ (z : ℕ). z * 2 ^ 1074)
+    (units-is (fin false (suc m) e) (suc m * 2 ^ shift-of e) (refl, u .value))))
     (lt-of-lt-of-le (mul-lt-mul-of-pos-right (u .under) (pow-pos 1074)) (lit≤ tt))

@@ -1,5 +1,6 @@
--- 01, "Roots and powers": root. IEEE 754's squareRoot under roundTiesToEven, in the manner of `lib.Ieee`: the root is worked out exactly, as far as rounding looks, and handed to `round`.
--- `Nearest.antt` proves that the result is the one value of the format that is nearest to the real root. Definitions only.
+-- 01, "Roots and powers": root. IEEE 754's squareRoot under roundTiesToEven, in the manner of `lib.Ieee`: the root is
+-- worked out exactly, as far as rounding looks, and handed to `round`. `Nearest.antt` proves that the result is the one
+-- value of the format that is nearest to the real root. Definitions only.
 use Prim.Native.Nat.{ℕ, zero, suc, _+_, _*_, _/_, _^_, _≤_, _<_}
 use mathlib.Core.Path.{_≡_}
 use mathlib.Core.Bool.{true, false, cond}
@@ -15,8 +16,10 @@ unfoldable pub floorRoot : ℕ → ℕ
 unfolding rootIn size
 floorRoot n = rootIn (size n) n
 
--- The square root of n units. It is √(n * 2 ^ low) units, whose whole part is q. Where it is q itself, q is rounded. Else it lies between q and q + 1, and q + 1/2 is rounded in its place:
--- so much smaller are the units than the digits that the format keeps of a root, that every value of the format, and every middle of two, is on the same side of the root as of q + 1/2.
+-- The square root of n units. It is √(n * 2 ^ low) units, whose whole part is q. Where it is q itself, q is rounded.
+-- Else it lies between q and q + 1, and q + 1/2 is rounded in its place: so much smaller are the units than the digits
+-- that the format keeps of a root, that every value of the format, and every middle of two, is on the same side of the
+-- root as of q + 1/2.
 unfoldable pub rootUnits : Format → ℕ → Float
 unfolding floorRoot round
 rootUnits f n =

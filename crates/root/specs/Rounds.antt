@@ -20,7 +20,8 @@ use Rattle.root.specs.Floors.{IsRoot, floorRoot-is, from, upto, sq-mul, 
 
 -- ---- a number and a part, to the nearest whole number
 below-half : (a b : ℕ) → a < b → compare a b ≡ Ordering·lt
-below-half a b h = go (compare a b) (le→leb a b (le-of-lt h)) (λ (e : T (isEq (compare a b))). lt-irrefl b (subst (λ (x : ℕ). x < b) (eqb→eq a b e) h))
+below-half a b h = go (compare a b) (le→leb a b (le-of-lt h))
+    (λ (e : T (isEq (compare a b))). lt-irrefl b (subst (λ (x : ℕ). x < b) (eqb→eq a b e) h))
   where
     go : (o : Ordering) → T (isLe o) → (T (isEq o) → ⊥) → o ≡ Ordering·lt
     go Ordering·lt l e = refl
@@ -38,14 +39,17 @@ above-half a b h = go (compare a b) (lt→nleb a b h)
 closest-down : (a s u : ℕ) → s * 2 < u → closest (a * u + s) u ≡ a
 closest-down a s u h =
     let l : s < u = omega arith in
-    ap (λ (x : ℕ). nearest x (compare ((a * u + s) % u * 2) u)) (digits-div a l) ∙ ap (λ (x : ℕ). nearest a (compare (x * 2) u)) (digits-mod a l) ∙ ap (nearest a) (below-half (s * 2) u h)
+    ap (λ (x : ℕ). nearest x (compare ((a * u + s) % u * 2) u)) (digits-div a l)
+    ∙ ap (λ (x : ℕ). nearest a (compare (x * 2) u)) (digits-mod a l) ∙ ap (nearest a) (below-half (s * 2) u h)
 
 closest-up : (a s u : ℕ) → s < u → u < s * 2 → closest (a * u + s) u ≡ suc a
 closest-up a s u l h =
-    ap (λ (x : ℕ). nearest x (compare ((a * u + s) % u * 2) u)) (digits-div a l) ∙ ap (λ (x : ℕ). nearest a (compare (x * 2) u)) (digits-mod a l) ∙ ap (nearest a) (above-half (s * 2) u h)
+    ap (λ (x : ℕ). nearest x (compare ((a * u + s) % u * 2) u)) (digits-div a l)
+    ∙ ap (λ (x : ℕ). nearest a (compare (x * 2) u)) (digits-mod a l) ∙ ap (nearest a) (above-half (s * 2) u h)
 
 -- ---- Half of Q / p, which lies from q to q + 1: half of q, and half more where q is odd. b stands for a part of Q.
-module _ (q p Q b : ℕ) (lo : q * p ≤ Q) (hi : Q < (q + 1) * p) (B : b ≤ 1) (part : q % 2 ≡ 1 → 2 * (q * p) < 2 * Q + b) where
+module _ (q p Q b : ℕ) (lo : q * p ≤ Q) (hi : Q < (q + 1) * p) (B : b ≤ 1)
+    (part : q % 2 ≡ 1 → 2 * (q * p) < 2 * Q + b) where
   half-even : q % 2 ≡ 0 → closest (2 * Q + b) (4 * p) ≡ q / 2 + q % 2
   half-even e =
       let a = q / 2 in
@@ -63,7 +67,8 @@ module _ (q p Q b : ℕ) (lo : q * p ≤ Q) (hi : Q < (q + 1) * p) (B : b ≤ 1)
   half-odd e =
       let a = q / 2 in
       let eq : q ≡ 2 * a + 1 = omega arith in
-      let x : q * p ≡ 2 * (a * p) + p = ap (λ (z : ℕ). z * p) eq ∙ add-mul (2 * a) 1 p ∙ ap (λ (z : ℕ). 2 * a * p + z) (one-mul p) ∙ ap (λ (z : ℕ). z + p) (mul-assoc 2 a p) in
+      let x : q * p ≡ 2 * (a * p) + p = ap (λ (z : ℕ). z * p) eq ∙ add-mul (2 * a) 1 p
+      ∙ ap (λ (z : ℕ). 2 * a * p + z) (one-mul p) ∙ ap (λ (z : ℕ). z + p) (mul-assoc 2 a p) in
       let y : (q + 1) * p ≡ q * p + p = add-mul q 1 p ∙ ap (λ (z : ℕ). q * p + z) (one-mul p) in
       let w : a * (4 * p) ≡ 4 * (a * p) = mul-left-comm a 4 p in
       let s = 2 * Q + b - 4 * (a * p) in
@@ -109,16 +114,19 @@ part-le : (b : Bool) → part-of b ≤ 1
 part-le true = zero-le
 part-le false = le-refl 1
 
-some-part : (f q p Q N : ℕ) → 0 < p → N ≡ f * (p * p) → q * p ≤ Q → q * q < f → (b : Bool) → (T b → Q * Q ≡ N) → 2 * (q * p) < 2 * Q + part-of b
+some-part : (f q p Q N : ℕ) → 0 < p → N ≡ f * (p * p) → q * p ≤ Q → q * q < f → (b : Bool) → (T b → Q * Q ≡ N)
+    → 2 * (q * p) < 2 * Q + part-of b
 some-part f q p Q N P e lo l true h =
-    let g : q * p < Q = sq-back (lt-of-le-of-lt (le-of-eq (sq-mul q p)) (lt-of-lt-of-le (mul-lt-mul-of-pos-right l (mul-pos P P)) (le-of-eq (sym e ∙ sym (h tt))))) in
+    let g : q * p < Q = sq-back (lt-of-le-of-lt (le-of-eq (sq-mul q p))
+    (lt-of-lt-of-le (mul-lt-mul-of-pos-right l (mul-pos P P)) (le-of-eq (sym e ∙ sym (h tt))))) in
     omega arith
 some-part f q p Q N P e lo l false h = omega arith
 
 -- ---- the grid
 module _ (Q b l : ℕ) (B : b ≤ 1) (L : 0 < l) where
   whole-part : (2 * Q + b) * l / (2 * l) ≡ Q
-  whole-part = div-same ((2 * Q + b) * l) (2 * l) (2 * Q + b) 2 (mul-pos (lit< tt) L) (lit< tt) (mul-assoc (2 * Q + b) l 2 ∙ ap (λ (z : ℕ). (2 * Q + b) * z) (mul-comm l 2)) ∙ halved
+  whole-part = div-same ((2 * Q + b) * l) (2 * l) (2 * Q + b) 2 (mul-pos (lit< tt) L) (lit< tt)
+      (mul-assoc (2 * Q + b) l 2 ∙ ap (λ (z : ℕ). (2 * Q + b) * z) (mul-comm l 2)) ∙ halved
     where
       halved : (2 * Q + b) / 2 ≡ Q
       halved = omega arith
@@ -132,16 +140,19 @@ module _ (Q b l : ℕ) (B : b ≤ 1) (L : 0 < l) where
   kept-is : (j : ℕ) → size Q ≡ suc (53 + j) → kept 53 ((2 * Q + b) * l) (2 * l) ≡ closest (2 * Q + b) (4 * 2 ^ j)
   kept-is j e =
       ap (λ (z : ℕ). closest ((2 * Q + b) * l) (2 * l * 2 ^ z)) (drop-is j e)
-      ∙ closest-same ((2 * Q + b) * l) (2 * l * 2 ^ suc j) (2 * Q + b) (4 * 2 ^ j) (mul-pos (mul-pos (lit< tt) L) (pow-pos (suc j))) (mul-pos (lit< tt) (pow-pos j))
+      ∙ closest-same ((2 * Q + b) * l) (2 * l * 2 ^ suc j) (2 * Q + b) (4 * 2 ^ j)
+      (mul-pos (mul-pos (lit< tt) L) (pow-pos (suc j))) (mul-pos (lit< tt) (pow-pos j))
       (mul-assoc (2 * Q + b) l (4 * 2 ^ j) ∙ ap (λ (z : ℕ). (2 * Q + b) * z) same)
     where
       four : (a : ℕ) → 2 * (2 * a) ≡ 4 * a
       four a = omega arith
 
       same : l * (4 * 2 ^ j) ≡ 2 * l * 2 ^ suc j
-      same = ap (λ (z : ℕ). l * z) (sym (four (2 ^ j))) ∙ mul-left-comm l 2 (2 * 2 ^ j) ∙ sym (mul-assoc 2 l (2 * 2 ^ j)) ∙ ap (λ (z : ℕ). 2 * l * z) (sym (pow-succ' 2 j))
+      same = ap (λ (z : ℕ). l * z) (sym (four (2 ^ j))) ∙ mul-left-comm l 2 (2 * 2 ^ j)
+          ∙ sym (mul-assoc 2 l (2 * 2 ^ j)) ∙ ap (λ (z : ℕ). 2 * l * z) (sym (pow-succ' 2 j))
 
-rootUnits-is : (n : ℕ) → let Q = floorRoot (n * 2 ^ 1074) in rootUnits binary64 n ≡ round binary64 false (2 * Q + part-of (eqb (Q * Q) (n * 2 ^ 1074))) (2 * 2 ^ 1074)
+rootUnits-is : (n : ℕ) → let Q = floorRoot (n * 2 ^ 1074) in rootUnits binary64 n
+    ≡ round binary64 false (2 * Q + part-of (eqb (Q * Q) (n * 2 ^ 1074))) (2 * 2 ^ 1074)
 unfolding rootUnits
 rootUnits-is n = refl
 
@@ -152,8 +163,10 @@ pub half-most : (q : ℕ) → q < 2 ^ 54 → q / 2 + q % 2 ≤ 2 ^ 53
 half-most q h = omega arith
 
 -- ---- where n * 2 ^ 1074 is d * 2 ^ 54 * 4 ^ j, and q is the whole root of d * 2 ^ 54, which has 54 digits
-module _ (n d q j : ℕ) (e : n * 2 ^ 1074 ≡ d * 2 ^ 54 * (2 ^ j * 2 ^ j)) (h : IsRoot (d * 2 ^ 54) q) (ql : 2 ^ 53 ≤ q) (qm : q < 2 ^ 54) (J : j ≤ 1533) where
-  root-grid : let Q = floorRoot (n * 2 ^ 1074) in grid binary64 (2 * Q + part-of (eqb (Q * Q) (n * 2 ^ 1074))) (2 * 2 ^ 1074) ≡ (q / 2 + q % 2) * 2 ^ suc j
+module _ (n d q j : ℕ) (e : n * 2 ^ 1074 ≡ d * 2 ^ 54 * (2 ^ j * 2 ^ j)) (h : IsRoot (d * 2 ^ 54) q) (ql : 2 ^ 53 ≤ q)
+    (qm : q < 2 ^ 54) (J : j ≤ 1533) where
+  root-grid : let Q = floorRoot (n * 2 ^ 1074) in grid binary64 (2 * Q + part-of (eqb (Q * Q) (n * 2 ^ 1074)))
+      (2 * 2 ^ 1074) ≡ (q / 2 + q % 2) * 2 ^ suc j
   root-grid =
       let N = n * 2 ^ 1074 in
       let Q = floorRoot N in
@@ -165,8 +178,12 @@ module _ (n d q j : ℕ) (e : n * 2 ^ 1074 ≡ d * 2 ^ 54 * (2 ^ j * 2 ^ j)) (h 
       let hi = upto (d * 2 ^ 54) q p Q (pow-pos j) h k in
       let s : size Q ≡ suc (53 + j) =
       size-is (53 + j) Q (le-trans (le-of-eq (pow-add 2 53 j)) (le-trans (mul-le-mul-right p ql) lo))
-      (lt-of-lt-of-le hi (le-trans (mul-le-mul-right p (next q qm)) (le-of-eq (sym (pow-add 2 54 j) ∙ ap (λ (z : ℕ). 2 ^ z) (fifty j))))) in
-      ap (λ (z : ℕ). z * 2 ^ drop 53 ((2 * Q + b) * 2 ^ 1074) (2 * 2 ^ 1074)) (kept-is Q b (2 ^ 1074) B (pow-pos 1074) j s ∙ half q p Q b lo hi B (λ o. some-part (d * 2 ^ 54) q p Q N (pow-pos j) e lo (no-tie d q h o) (eqb (Q * Q) N) (eqb→eq (Q * Q) N)))
+      (lt-of-lt-of-le hi (le-trans (mul-le-mul-right p (next q qm))
+      (le-of-eq (sym (pow-add 2 54 j) ∙ ap (λ (z : ℕ). 2 ^ z) (fifty j))))) in
+      ap (λ (z : ℕ). z * 2 ^ drop 53 ((2 * Q + b) * 2 ^ 1074) (2 * 2 ^ 1074))
+      (kept-is Q b (2 ^ 1074) B (pow-pos 1074) j s
+      ∙ half q p Q b lo hi B (λ o. some-part (d * 2 ^ 54) q p Q N (pow-pos j) e lo (no-tie d q h o) (eqb (Q * Q) N)
+      (eqb→eq (Q * Q) N)))
       ∙ ap (λ (z : ℕ). (q / 2 + q % 2) * 2 ^ z) (drop-is Q b (2 ^ 1074) B (pow-pos 1074) j s)
     where
       next : (a : ℕ) → a < 2 ^ 54 → a + 1 ≤ 2 ^ 54
@@ -176,7 +193,8 @@ module _ (n d q j : ℕ) (e : n * 2 ^ 1074 ≡ d * 2 ^ 54 * (2 ^ j * 2 ^ j)) (h 
       fifty i = omega arith
 
   root-under : (q / 2 + q % 2) * 2 ^ suc j < overflow binary64
-  root-under = lt-of-le-of-lt (mul-le-mul-right (2 ^ suc j) (half-most q qm)) (lt-of-le-of-lt (le-of-eq (sym (pow-add 2 53 (suc j)))) (pow-lt {i = 53 + suc j} {j = 2098} (small j J)))
+  root-under = lt-of-le-of-lt (mul-le-mul-right (2 ^ suc j) (half-most q qm))
+      (lt-of-le-of-lt (le-of-eq (sym (pow-add 2 53 (suc j)))) (pow-lt {i = 53 + suc j} {j = 2098} (small j J)))
     where
       small : (i : ℕ) → i ≤ 1533 → 53 + suc i < 2098
       small i g = omega arith
@@ -191,41 +209,53 @@ module _ (n d q j : ℕ) (e : n * 2 ^ 1074 ≡ d * 2 ^ 54 * (2 ^ j * 2 ^ j)) (h 
       (round-val binary64 a (2 * 2 ^ 1074) (subst (λ (g : ℕ). g < overflow binary64) (sym root-grid) root-under)))
 
 pub root-fits : (n : ℕ) → T (fits binary64 (rootUnits binary64 n))
-root-fits n = subst (λ (v : Float). T (fits binary64 v)) (sym (rootUnits-is n)) (round-fits binary64 false (2 * floorRoot (n * 2 ^ 1074) + part-of (eqb (floorRoot (n * 2 ^ 1074) * floorRoot (n * 2 ^ 1074)) (n * 2 ^ 1074))) (2 * 2 ^ 1074))
+root-fits n = subst (λ (v : Float). T (fits binary64 v)) (sym (rootUnits-is n))
+    (round-fits binary64 false (2 * floorRoot (n * 2 ^ 1074) + part-of
+    (eqb (floorRoot (n * 2 ^ 1074) * floorRoot (n * 2 ^ 1074)) (n * 2 ^ 1074))) (2 * 2 ^ 1074))
 
 -- ---- the root of a value of n units
-pub root-of-value : (x : Float) (n : ℕ) → HasValue x false n (2 ^ 1074) → 0 < n → squareRoot binary64 x ≡ rootUnits binary64 n
+pub root-of-value : (x : Float) (n : ℕ) → HasValue x false n (2 ^ 1074) → 0 < n
+    → squareRoot binary64 x ≡ rootUnits binary64 n
 unfolding squareRoot
 root-of-value nan n h p = absurd h
 root-of-value (inf s) n h p = absurd h
-root-of-value (fin s zero e) n h p = absurd (lt-irrefl 0 (subst (λ (z : ℕ). 0 < z) (sym (h .1) ∙ ap (λ (z : ℕ). z * 2 ^ 1074) (native.Mathlib.Nat.zero-mul (up e)) ∙ native.Mathlib.Nat.zero-mul (2 ^ 1074)) (mul-pos p (down-pos e))))
+root-of-value (fin s zero e) n h p = absurd
+    (lt-irrefl 0 (subst (λ (z : ℕ). 0 < z)
+    (sym (h .1) ∙ ap (λ (z : ℕ). z * 2 ^ 1074) (native.Mathlib.Nat.zero-mul (up e))
+    ∙ native.Mathlib.Nat.zero-mul (2 ^ 1074)) (mul-pos p (down-pos e))))
 root-of-value (fin true (suc m) e) n h p = absurd (mathlib.Core.Bool.true≢false (h .0))
-root-of-value (fin false (suc m) e) n h p = ap (rootUnits binary64) (ap (λ (z : ℕ). z / down e) (h .1) ∙ mul-div-cancel n (down-pos e))
+root-of-value (fin false (suc m) e) n h p =
+    ap (rootUnits binary64) (ap (λ (z : ℕ). z / down e) (h .1) ∙ mul-div-cancel n (down-pos e))
 
 -- ---- the two numbers that `Scaled` gives
-pub radicand : (n sig ex : ℕ) → Scaled n sig ex → n * 2 ^ 1074 ≡ sig * 2 ^ (ex % 2) * 2 ^ 54 * (2 ^ (ex / 2 + 484) * 2 ^ (ex / 2 + 484))
+pub radicand : (n sig ex : ℕ) → Scaled n sig ex
+    → n * 2 ^ 1074 ≡ sig * 2 ^ (ex % 2) * 2 ^ 54 * (2 ^ (ex / 2 + 484) * 2 ^ (ex / 2 + 484))
 radicand n sig ex h =
     let j = ex / 2 + 484 in
     let w : ex + 1022 ≡ ex % 2 + (54 + (j + j)) = omega arith in
     sym (mul-assoc n (2 ^ 52) (2 ^ 1022))
     ∙ ap (λ (z : ℕ). z * 2 ^ 1022) (sym (h .value))
     ∙ mul-assoc sig (2 ^ ex) (2 ^ 1022)
-    ∙ ap (λ (z : ℕ). sig * z) (sym (pow-add 2 ex 1022) ∙ ap (λ (z : ℕ). 2 ^ z) w ∙ pow-add 2 (ex % 2) (54 + (j + j)) ∙ ap (λ (z : ℕ). 2 ^ (ex % 2) * z) (pow-add 2 54 (j + j) ∙ ap (λ (z : ℕ). 2 ^ 54 * z) (pow-add 2 j j)))
+    ∙ ap (λ (z : ℕ). sig * z) (sym (pow-add 2 ex 1022) ∙ ap (λ (z : ℕ). 2 ^ z) w ∙ pow-add 2 (ex % 2) (54 + (j + j))
+    ∙ ap (λ (z : ℕ). 2 ^ (ex % 2) * z) (pow-add 2 54 (j + j) ∙ ap (λ (z : ℕ). 2 ^ 54 * z) (pow-add 2 j j)))
     ∙ sym (mul-assoc sig (2 ^ (ex % 2)) (2 ^ 54 * (2 ^ j * 2 ^ j)))
     ∙ sym (mul-assoc (sig * 2 ^ (ex % 2)) (2 ^ 54) (2 ^ j * 2 ^ j))
 
 pub doubled-least : (n sig ex : ℕ) → Scaled n sig ex → 2 ^ 52 ≤ sig * 2 ^ (ex % 2)
-doubled-least n sig ex h = le-trans (h .least) (le-trans (le-of-eq (sym (mul-one sig))) (mul-le-mul-left sig (pow-pos (ex % 2))))
+doubled-least n sig ex h =
+    le-trans (h .least) (le-trans (le-of-eq (sym (mul-one sig))) (mul-le-mul-left sig (pow-pos (ex % 2))))
 
 pub doubled-most : (n sig ex : ℕ) → Scaled n sig ex → sig * 2 ^ (ex % 2) < 2 ^ 54
-doubled-most n sig ex h = lt-of-lt-of-le (mul-lt-mul-of-pos-right (h .most) (pow-pos (ex % 2))) (mul-le-mul-left (2 ^ 53) (pow-mono {i = ex % 2} {j = 1} (bit ex)))
+doubled-most n sig ex h = lt-of-lt-of-le (mul-lt-mul-of-pos-right (h .most) (pow-pos (ex % 2)))
+    (mul-le-mul-left (2 ^ 53) (pow-mono {i = ex % 2} {j = 1} (bit ex)))
   where
     bit : (i : ℕ) → i % 2 ≤ 1
     bit i = omega arith
 
 -- the whole root of d * 2 ^ 54 has 54 digits
 pub digits-least : (d q : ℕ) → 2 ^ 52 ≤ d → IsRoot (d * 2 ^ 54) q → 2 ^ 53 ≤ q
-digits-least d q l h = le-of-suc-le-suc (subst (λ (z : ℕ). 2 ^ 53 < z) (native.Mathlib.Numerals.add-one q) (sq-back (lt-of-le-of-lt (mul-le-mul-right (2 ^ 54) l) (h .most))))
+digits-least d q l h = le-of-suc-le-suc (subst (λ (z : ℕ). 2 ^ 53 < z) (native.Mathlib.Numerals.add-one q)
+    (sq-back (lt-of-le-of-lt (mul-le-mul-right (2 ^ 54) l) (h .most))))
 
 pub digits-most : (d q : ℕ) → d < 2 ^ 54 → IsRoot (d * 2 ^ 54) q → q < 2 ^ 54
 digits-most d q m h = sq-back (lt-of-le-of-lt (h .least) (mul-lt-mul-of-pos-right m (pow-pos 54)))

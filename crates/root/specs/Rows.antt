@@ -1,5 +1,5 @@
--- Rows of 01's bench table on root, by computation, on patterns, and the ends of the range. The values come from correctly rounded roots worked out with whole numbers apart from these definitions.
--- Assumes nothing.
+-- Rows of 01's bench table on root, by computation, on patterns, and the ends of the range. The values come from
+-- correctly rounded roots worked out with whole numbers apart from these definitions. Assumes nothing.
 use mathlib.Core.Path.{_≡_, refl}
 use lib.Ieee.{binary64, ofBits}
 use Rattle.base.specs.Floats.{bits}

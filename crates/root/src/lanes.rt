@@ -4,8 +4,8 @@
 // Each of three loops does one step of all lanes, which is faster than one loop with the three steps:
 //   p = near(x[i]); f[i] = p.part; y[i] = p.near;      or y[i] = near_unit(f[i]), near_one
 //   y[i] = sharpen(f[i], y[i], ..);
-//   p = any_lane(x[i], y[i]);           or unit_lane of f[i]; p.root is used, p.coarse and p.far are each or-ed into a word
-// If these words are small enough every p.root is the root, whatever the guesses were; else the lanes are
+//   p = any_lane(x[i], y[i]);           or unit_lane of f[i]; p.root is used, p.coarse and p.far are each or-ed into a
+// word If these words are small enough every p.root is the root, whatever the guesses were; else the lanes are
 // to be done anew by `root::root`. Nothing is promised of a guess, so nothing is owed of one.
 ghost use mathlib.Core.Path.{_≡_};
 ghost use mathlib.Core.Logic.{_⊎_};
@@ -65,8 +65,10 @@ fn digits(s: f64) -> u64
 // g * g. It is one of them where that is more than -g and at most 3 * g.
 fn check(d: u64, g: u64) -> Checked
     requires { ⌜ (2 ^ 52 ≤ g) × (g < 2 ^ 53) ⌝ }
-    ensures { λ r. ⌜ (2 ^ 52 ≤ r .digits) × (r .digits ≤ 2 ^ 53) × (r .rest < 2 ^ 64) × (r .short < 2 ^ 64) × ((r .short + r .rest) % 2 ^ 64 ≡ g) ⌝ }
-    ensures { λ r. ⌜ (r .coarse < 2 ^ 36 → (r .rest + (g - 1)) % 2 ^ 64 < 2 ^ 63 → (r .short + 2 * g) % 2 ^ 64 < 2 ^ 63 → Rounded d (r .digits)) ⌝ }
+    ensures { λ r. ⌜ (2 ^ 52 ≤ r .digits) × (r .digits ≤ 2 ^ 53) × (r .rest < 2 ^ 64) × (r .short < 2 ^ 64)
+        × ((r .short + r .rest) % 2 ^ 64 ≡ g) ⌝ }
+    ensures { λ r. ⌜ (r .coarse < 2 ^ 36 → (r .rest + (g - 1)) % 2 ^ 64 < 2 ^ 63 → (r .short + 2 * g) % 2 ^ 64 < 2 ^ 63
+        → Rounded d (r .digits)) ⌝ }
 {
     let h = g >> 26;
     let l = g & 0x3FF_FFFF;

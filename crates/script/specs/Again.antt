@@ -1,6 +1,6 @@
--- 02, L10: "The writer's lines thus give the same mesh, radius, kernels and layers, with all steps still to do", and "Writing
--- a store read from the writer's own lines yields them byte for byte": for every sound store, its floats being of the
--- format, and any runs that are long enough for it. Assumes nothing.
+-- 02, L10: "The writer's lines thus give the same mesh, radius, kernels and layers, with all steps still to do", and
+-- "Writing a store read from the writer's own lines yields them byte for byte": for every sound store, its floats being
+-- of the format, and any runs that are long enough for it. Assumes nothing.
 use mathlib.Core.Path.{_≡_, refl, sym, ap, subst, _∙_}
 use mathlib.Core.Bool.{Bool, true, false, _&&_, cond}
 use mathlib.Core.List.{List, [], _∷_, _++_}
@@ -60,7 +60,8 @@ module _ (fs : List Float) (ws : List ℕ) where
       go true ih = ih held
       go false ih = ih (heldBy (putAt width fs ws i) held) ∙ rw (ne-eqb i j (λ z. omega arith)) refl
 
-  put-gives : (i : ℕ) → given (kernelIn (putAt width fs ws i)) (layerIn (putAt width fs ws i)) ≡ given (kernelOf fs i) (layerOf width ws i)
+  put-gives : (i : ℕ) → given (kernelIn (putAt width fs ws i)) (layerIn (putAt width fs ws i))
+      ≡ given (kernelOf fs i) (layerOf width ws i)
   put-gives i = (λ j. given (put-says width fs ws i .1 j) (layerOf width ws i))
 
   held-in : (n i : ℕ) (held : ℕ → Held) (j : ℕ) → held j ≡ none → i ≤ j → j < i + n
@@ -237,7 +238,8 @@ module _ (fs : List Float) (ws : List ℕ) (gs : List Float) (vs : List ℕ) (s 
           & inr (word full p 3 (5 + 4 * i) (omega arith) (omega arith) j & tt) & tt)
 
       go : (b : Bool) → PlaceHolds r m gs vs i (cond b none full)
-          → cond (eqb (statusOf width vs i) 0) [] (print putLine (putAt width gs vs i)) ≡ cond b [] (print putLine (putAt width fs ws i))
+          → cond (eqb (statusOf width vs i) 0) [] (print putLine (putAt width gs vs i))
+          ≡ cond b [] (print putLine (putAt width fs ws i))
       go true p = rw (word none p 0 (2 + 4 * i) (omega arith) (omega arith)) refl
       go false p =
           let n = decomposed (kernelOf fs i) r .count in

@@ -1,5 +1,5 @@
--- 02, L10: "Lines carry (layer N) after alpha, and a put line lacking it means layer 0; the bench still takes none": any text
--- of a put with a layer is a bad line of the program. Assumes nothing.
+-- 02, L10: "Lines carry (layer N) after alpha, and a put line lacking it means layer 0; the bench still takes none":
+-- any text of a put with a layer is a bad line of the program. Assumes nothing.
 use mathlib.Core.Path.{_≡_, refl, sym, ap, _∙_}
 use mathlib.Core.List.{List, []}
 use mathlib.Core.Logic.{inl, inr}

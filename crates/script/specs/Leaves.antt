@@ -263,7 +263,8 @@ module _ {r : Float} {xs : List Float} {ks : List ℕ} {held : ℕ → Held} {fs
         layer = h .layer;
       }
 
-  pub put-stands : Stands r xs ks (λ i. cond (eqb p i) (given k layer) (held i)) (putFloats fs p k fit) (putWords width ws p fit layer)
+  pub put-stands : Stands r xs ks (λ i. cond (eqb p i) (given k layer) (held i)) (putFloats fs p k fit)
+      (putWords width ws p fit layer)
   unfolding putFloats putWords
   put-stands =
       let x = s .floats in
@@ -340,7 +341,8 @@ module _ {r : Float} {xs : List Float} {ks : List ℕ} {held : ℕ → Held} {fs
       (go (held i) (s .places i h .layer))
     where
       go : (v : Held) → InLayer v
-          → placeSound (wordOf v 0) (wordOf v 1) (wordOf v 2) (length ks / 3) && layerSound (wordOf v 0) (wordOf v 3) ≡ true
+          → placeSound (wordOf v 0) (wordOf v 1) (wordOf v 2) (length ks / 3) && layerSound (wordOf v 0) (wordOf v 3)
+          ≡ true
       go none l = refl
       go (given k layer) l =
           let n = decomposed k r .count in

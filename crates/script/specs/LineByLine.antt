@@ -1,6 +1,7 @@
--- 02, L10: the reader "refuses the whole where one line would be refused, and leaves what that opening and those puts, line
--- by line, would". The checks that it makes ahead pass exactly where neither the opening nor any put after it is refused;
--- and what it then leaves is a sound store of the script's mesh and radius, with the last put of each place. Assumes nothing.
+-- 02, L10: the reader "refuses the whole where one line would be refused, and leaves what that opening and those puts,
+-- line by line, would". The checks that it makes ahead pass exactly where neither the opening nor any put after it is
+-- refused; and what it then leaves is a sound store of the script's mesh and radius, with the last put of each place.
+-- Assumes nothing.
 use mathlib.Core.Path.{_≡_, refl, sym, ap, _∙_}
 use mathlib.Core.Bool.{Bool, true, false, _&&_, cond}
 use mathlib.Core.List.{List, [], _∷_, _++_}
@@ -133,7 +134,8 @@ module _ (d : Script) (fs : List Float) (ws : List ℕ) where
 
   pub checked : scriptCheck width d (length fs) (length ws) ≡ Passed
       → EachTaken width (d .puts) opening
-      × Stands (d .radius) (d .coords) (d .corners) (heldAfter (d .puts) (λ i. none)) (played width fs ws d .floats) (played width fs ws d .words)
+      × Stands (d .radius) (d .coords) (d .corners) (heldAfter (d .puts) (λ i. none)) (played width fs ws d .floats)
+      (played width fs ws d .words)
   checked e =
       let c = openCheck width (length (d .coords)) (d .corners) (length fs) (length ws) in
       let x = passed-both c (putsCheck (d .puts)) e in
@@ -204,7 +206,8 @@ module _ (fs : List Float) (ws : List ℕ) (s : List ℕ) where
       × (EachTaken width (script .puts) (opening script fs ws) → Taken (loadStep width fs ws s))
   refuses-where f = ((λ t. checked script fs ws (has-passed t .1) .0), (λ t. passing f (unrefused script fs ws t)))
 
--- ---- "The reader takes puts in any order": where two that name different places are exchanged, each place holds the same
+-- ---- "The reader takes puts in any order": where two that name different places are exchanged, each place holds the
+-- same
 
 -- what a place holds is its own affair
 held-at : (vs : List (Vals putLine)) (held other : ℕ → Held) (i : ℕ) → held i ≡ other i

@@ -20,21 +20,25 @@ use Rattle.script.specs.Lines.{openLine, vertLine, faceLine, putLine}
 use Rattle.layout.specs.Layout.{placeLimit, radiusOf, statusOf, layerOf}
 use Rattle.script.specs.Written.{rows, vertAt, faceAt, putIn, putAt, putRow, putRows, vertRows, faceRows, linesOf, textAnswer}
 
-pub open-bytes : (r : Float) (v f : ℕ) → length (print openLine (r & v & f & tt)) ≡ 51 + decimalLength v + decimalLength f
+pub open-bytes : (r : Float) (v f : ℕ) → length (print openLine (r & v & f & tt))
+    ≡ 51 + decimalLength v + decimalLength f
 open-bytes r v f = simp (length-append, decimal-length, length-pattern) (omega arith)
 
 pub vert-bytes : (x y z : Float) → length (print vertLine (x & y & z & tt)) ≡ 58
 vert-bytes x y z = simp (length-append, length-pattern) (omega arith)
 
-pub face-bytes : (a b c : ℕ) → length (print faceLine (a & b & c & tt)) ≡ 10 + decimalLength a + decimalLength b + decimalLength c
+pub face-bytes : (a b c : ℕ) → length (print faceLine (a & b & c & tt))
+    ≡ 10 + decimalLength a + decimalLength b + decimalLength c
 face-bytes a b c = simp (length-append, decimal-length) (omega arith)
 
-pub put-bytes : (fs : List Float) (p l : ℕ) → length (print putLine (putIn fs p l)) ≡ 142 + decimalLength p + decimalLength l
+pub put-bytes : (fs : List Float) (p l : ℕ)
+    → length (print putLine (putIn fs p l)) ≡ 142 + decimalLength p + decimalLength l
 put-bytes fs p l = simp (length-append, decimal-length, length-pattern) (omega arith)
 
 -- ---- rows
 
-pub rows-more : (f : Form) (v : ℕ → Vals f) (n i : ℕ) → i < n → rows f v (n - i) i ≡ print f (v i) ++ rows f v (n - (i + 1)) (i + 1)
+pub rows-more : (f : Form) (v : ℕ → Vals f) (n i : ℕ) → i < n
+    → rows f v (n - i) i ≡ print f (v i) ++ rows f v (n - (i + 1)) (i + 1)
 rows-more f v n i h = let e : n - i ≡ suc (n - (i + 1)) = omega arith in rw (e, add-one i) refl
 
 pub rows-none : (f : Form) (v : ℕ → Vals f) (n i : ℕ) → n ≤ i → rows f v (n - i) i ≡ []
@@ -50,7 +54,8 @@ module _ (fs : List Float) (n i : ℕ) where
   verts-none h = rows-none vertLine (vertAt fs) n i h
 
 module _ (q : ℕ) (ws : List ℕ) (n i : ℕ) where
-  pub faces-more : i < n → faceRows q ws (n - i) i ≡ print faceLine (faceAt q ws i) ++ faceRows q ws (n - (i + 1)) (i + 1)
+  pub faces-more : i < n → faceRows q ws (n - i) i
+      ≡ print faceLine (faceAt q ws i) ++ faceRows q ws (n - (i + 1)) (i + 1)
   unfolding faceRows
   faces-more h = rows-more faceLine (faceAt q ws) n i h
 
@@ -82,7 +87,8 @@ unfolding vertRows
 verts-bytes fs zero i = refl
 verts-bytes fs (suc n) i =
     length-append (print vertLine (vertAt fs i)) (rows vertLine (vertAt fs) n (suc i))
-    ∙ (let e = verts-bytes fs n (suc i) in let h = vert-bytes (vertAt fs i .0) (vertAt fs i .1 .0) (vertAt fs i .1 .1 .0) in omega arith)
+    ∙ (let e = verts-bytes fs n (suc i) in let h = vert-bytes (vertAt fs i .0) (vertAt fs i .1 .0)
+    (vertAt fs i .1 .1 .0) in omega arith)
 
 pub row-bytes : (q : ℕ) (fs : List Float) (ws : List ℕ) (i : ℕ) → (statusOf q ws i ≡ 0 → ⊥)
     → length (putRow q fs ws i) ≡ 142 + decimalLength i + decimalLength (layerOf q ws i)
@@ -90,12 +96,14 @@ row-bytes q fs ws i h = ap length (row-filled q fs ws i h) ∙ put-bytes fs i (l
 
 -- all lines
 pub lines-bytes : (q : ℕ) (fs : List Float) (ws : List ℕ) (v f : ℕ)
-    → length (linesOf q fs ws v f) ≡ 51 + decimalLength v + decimalLength f + 58 * v + length (faceRows q ws f 0) + length (putRows q fs ws placeLimit 0)
+    → length (linesOf q fs ws v f) ≡ 51 + decimalLength v + decimalLength f + 58 * v + length (faceRows q ws f 0)
+    + length (putRows q fs ws placeLimit 0)
 unfolding linesOf
 lines-bytes q fs ws v f =
     omega (
       arith,
-      length-append (print openLine (radiusOf fs & v & f & tt)) (vertRows fs v 0 ++ (faceRows q ws f 0 ++ putRows q fs ws placeLimit 0)),
+      length-append (print openLine (radiusOf fs & v & f & tt))
+          (vertRows fs v 0 ++ (faceRows q ws f 0 ++ putRows q fs ws placeLimit 0)),
       length-append (vertRows fs v 0) (faceRows q ws f 0 ++ putRows q fs ws placeLimit 0),
       length-append (faceRows q ws f 0) (putRows q fs ws placeLimit 0),
       open-bytes (radiusOf fs) v f,
@@ -117,7 +125,8 @@ pub too-few : (t bs : List ℕ) → length bs < length t → printout (refused S
 unfolding textAnswer
 too-few t bs h = rw (lt-leb (length t) (length bs) h) refl
 
-pub enough : (t bs : List ℕ) {bs′ : List ℕ} {n : ℕ} → n ≡ length t → n ≤ length bs → bs′ ≡ write bs 0 t → printout (counted (n ∷ [])) bs′ ≡ textAnswer t bs
+pub enough : (t bs : List ℕ) {bs′ : List ℕ} {n : ℕ} → n ≡ length t → n ≤ length bs → bs′ ≡ write bs 0 t
+    → printout (counted (n ∷ [])) bs′ ≡ textAnswer t bs
 unfolding textAnswer
 enough t bs e h r = rw (le-leb (length t) (length bs) (omega arith)) (λ i. printout (counted (e i ∷ [])) (r i))
 
@@ -132,15 +141,18 @@ pub todo-all : (o : List ℕ) (at : ℕ) (t : List ℕ) → Todo o at t o at t
 todo-all o at t = record { long = refl; same = refl; ends = refl }
 
 module _ {o : List ℕ} {at : ℕ} {t o₁ : List ℕ} {at₁ : ℕ} {t₁ : List ℕ} where
-  pub todo-next : {u t₂ o₂ : List ℕ} {r : ℕ} → Todo o at t o₁ at₁ t₁ → t₁ ≡ u ++ t₂ → Wrote o₁ at₁ u r o₂ → Todo o at t o₂ r t₂
+  pub todo-next : {u t₂ o₂ : List ℕ} {r : ℕ} → Todo o at t o₁ at₁ t₁ → t₁ ≡ u ++ t₂ → Wrote o₁ at₁ u r o₂
+      → Todo o at t o₂ r t₂
   todo-next {u} {t₂} {o₂} {r} d e w =
       record {
         long = ap length (w .run) ∙ length-sets o₁ at₁ u ∙ d .long;
-        same = (λ i. sets (w .run i) (w .next i) t₂) ∙ sym (sets-append u t₂ o₁ at₁) ∙ ap (sets o₁ at₁) (sym e) ∙ d .same;
+        same = (λ i. sets (w .run i) (w .next i) t₂) ∙ sym (sets-append u t₂ o₁ at₁) ∙ ap (sets o₁ at₁) (sym e)
+            ∙ d .same;
         ends = omega (arith, w .next, d .ends, ap length e, length-append u t₂);
       }
 
-  pub todo-room : (u t₂ : List ℕ) → Todo o at t o₁ at₁ t₁ → t₁ ≡ u ++ t₂ → at + length t ≤ length o → at₁ + length u ≤ length o₁
+  pub todo-room : (u t₂ : List ℕ) → Todo o at t o₁ at₁ t₁ → t₁ ≡ u ++ t₂ → at + length t ≤ length o
+      → at₁ + length u ≤ length o₁
   todo-room u t₂ d e h = omega (arith, d .long, d .ends, ap length e, length-append u t₂)
 
   pub todo-done : Todo o at t o₁ at₁ t₁ → t₁ ≡ [] → Wrote o at t at₁ o₁

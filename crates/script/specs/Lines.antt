@@ -1,4 +1,5 @@
--- 02, L10: a store's "bracket lines, here and in L11 each ending in a newline", which are the program's forms. Definitions only.
+-- 02, L10: a store's "bracket lines, here and in L11 each ending in a newline", which are the program's forms.
+-- Definitions only.
 use Rattle.text.specs.Form.{Form, end, either, say, u32, followed}
 use Rattle.forms.specs.Forms.{openForm, vertForm, faceForm, putStart, putEnd}
 

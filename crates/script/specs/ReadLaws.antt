@@ -92,14 +92,18 @@ module _ (f : Form) where
   to-from zero (left (b ∷ l)) = refl
   to-from (suc m) lost = refl
   to-from (suc m) (left []) = refl
-  to-from (suc m) (left (b ∷ l)) = ap (λ (vs : List (Vals f)). read f (left (b ∷ l)) .val ∷ vs) (to-from m (read f (left (b ∷ l)) .text))
+  to-from (suc m) (left (b ∷ l)) =
+      ap (λ (vs : List (Vals f)). read f (left (b ∷ l)) .val ∷ vs) (to-from m (read f (left (b ∷ l)) .text))
 
   -- at or past the end
-  pub at-end : (s : List ℕ) (k m : ℕ) → length s ≤ k → linesTo f m (rest s k) ≡ record { val = []; text = cond (eqb k (length s)) (left []) lost }
+  pub at-end : (s : List ℕ) (k m : ℕ) → length s ≤ k
+      → linesTo f m (rest s k) ≡ record { val = []; text = cond (eqb k (length s)) (left []) lost }
   at-end s k m h = go (eqb k (length s)) refl
     where
-      go : (b : Bool) → eqb k (length s) ≡ b → linesTo f m (rest s k) ≡ record { val = []; text = cond b (left []) lost }
-      go true e = let d = eqb-true k (length s) e in ap (λ (j : ℕ). linesTo f m (rest s j)) d ∙ ap (linesTo f m) (rest-whole s) ∙ to-whole m
+      go : (b : Bool) → eqb k (length s) ≡ b
+          → linesTo f m (rest s k) ≡ record { val = []; text = cond b (left []) lost }
+      go true e = let d = eqb-true k (length s) e in ap (λ (j : ℕ). linesTo f m (rest s j)) d
+          ∙ ap (linesTo f m) (rest-whole s) ∙ to-whole m
       go false e = let d = eqb-false k (length s) e in ap (linesTo f m) (rest-out s k (omega arith)) ∙ to-lost m
 
 -- what the check of the put lines finds: whether they are all that follows, how many, and whether each names a place
@@ -149,14 +153,17 @@ module _ (v : Vals putLine) (vs : List (Vals putLine)) where
 -- ---- puts: what they leave does not depend on the answer before them
 
 pub puts-reply : (q : ℕ) (vs : List (Vals putLine)) (r r′ : Answer) (fs : List Float) (ws : List ℕ)
-    → (putsOn q vs (after r fs ws) .floats ≡ putsOn q vs (after r′ fs ws) .floats) × (putsOn q vs (after r fs ws) .words ≡ putsOn q vs (after r′ fs ws) .words)
+    → (putsOn q vs (after r fs ws) .floats ≡ putsOn q vs (after r′ fs ws) .floats)
+    × (putsOn q vs (after r fs ws) .words ≡ putsOn q vs (after r′ fs ws) .words)
 unfolding putsOn
 puts-reply q [] r r′ fs ws = (refl, refl)
 puts-reply q (v ∷ vs) r r′ fs ws = (refl, refl)
 
-pub puts-turn : (q : ℕ) (v : Vals putLine) (vs : List (Vals putLine)) (fs : List Float) (ws : List ℕ) (r : Answer) (fs′ : List Float) (ws′ : List ℕ)
+pub puts-turn : (q : ℕ) (v : Vals putLine) (vs : List (Vals putLine)) (fs : List Float) (ws : List ℕ) (r : Answer)
+    (fs′ : List Float) (ws′ : List ℕ)
     → after r fs′ ws′ ≡ putStep q fs ws (placeIn v) (kernelIn v) (layerIn v)
-    → (putsOn q vs (after done fs′ ws′) .floats ≡ putsOn q (v ∷ vs) (after done fs ws) .floats) × (putsOn q vs (after done fs′ ws′) .words ≡ putsOn q (v ∷ vs) (after done fs ws) .words)
+    → (putsOn q vs (after done fs′ ws′) .floats ≡ putsOn q (v ∷ vs) (after done fs ws) .floats)
+    × (putsOn q vs (after done fs′ ws′) .words ≡ putsOn q (v ∷ vs) (after done fs ws) .words)
 unfolding putsOn
 puts-turn q v vs fs ws r fs′ ws′ e =
     let p = puts-reply q vs done r fs′ ws′ in
@@ -171,5 +178,6 @@ pub ended-in : (f : Form) (s : List ℕ) (m b : ℕ) → linesTo f m (rest s b) 
 ended-in f s m b e = go (decLt (length s) b)
   where
     go : Dec (length s < b) → b ≤ length s
-    go (yes l) = not-lost (sym (ap (λ (g : Got (List (Vals f))). g .text) (ap (linesTo f m) (rest-out s b l) ∙ to-lost f m)) ∙ e)
+    go (yes l) =
+        not-lost (sym (ap (λ (g : Got (List (Vals f))). g .text) (ap (linesTo f m) (rest-out s b l) ∙ to-lost f m)) ∙ e)
     go (no l) = omega arith

@@ -1,4 +1,5 @@
--- 02, L10: "a reader of such lines from lent bytes": what bytes mean, and what the call does with them. Definitions only.
+-- 02, L10: "a reader of such lines from lent bytes": what bytes mean, and what the call does with them. Definitions
+-- only.
 use Prim.Native.Nat.{ℕ, zero, suc}
 use mathlib.Core.Bool.{Bool, true, _&&_, cond}
 use mathlib.Core.List.{List, [], _∷_}
@@ -147,7 +148,8 @@ putsCheck vs =
 abbrev pub scriptCheck : ℕ → Script → ℕ → ℕ → Checked
 scriptCheck q d a b = andThen (openCheck q (length (d .coords)) (d .corners) a b) (putsCheck (d .puts))
 
--- ---- the contract: "refuses the whole where one line would be refused"; else it answers vertices, faces and lines of puts
+-- ---- the contract: "refuses the whole where one line would be refused"; else it answers vertices, faces and lines of
+-- puts
 unfoldable pub loadStep : ℕ → List Float → List ℕ → List ℕ → After
 loadStep q fs ws s =
     let g = readOf s in

@@ -1,5 +1,5 @@
--- 02, L10: "The writer's lines thus give the same mesh, radius, kernels and layers": what the writer writes of a sound store
--- is read, and read as that store's radius, counts, coordinates, corners and filled places. Assumes nothing.
+-- 02, L10: "The writer's lines thus give the same mesh, radius, kernels and layers": what the writer writes of a sound
+-- store is read, and read as that store's radius, counts, coordinates, corners and filled places. Assumes nothing.
 use mathlib.Core.Path.{_≡_, refl, sym, ap, subst, _∙_}
 use mathlib.Core.Bool.{Bool, true, false, cond}
 use mathlib.Core.List.{List, [], _∷_, _++_, append-assoc, append-nil}

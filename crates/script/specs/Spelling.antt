@@ -1,6 +1,6 @@
--- 02, L10: the reader takes exactly the texts that are "one whole opening and then puts": an opening line, as many vertex
--- lines and face lines as it names, and put lines, one behind the other, each float by any pattern of it. Any other bytes
--- are refused with 13. Assumes nothing.
+-- 02, L10: the reader takes exactly the texts that are "one whole opening and then puts": an opening line, as many
+-- vertex lines and face lines as it names, and put lines, one behind the other, each float by any pattern of it. Any
+-- other bytes are refused with 13. Assumes nothing.
 use mathlib.Core.Path.{_≡_, refl, sym, ap, subst, _∙_}
 use mathlib.Core.List.{List, [], _∷_}
 use mathlib.Core.Bool.{Bool, true, false}

@@ -34,11 +34,13 @@ abbrev pub verdict : Bool → Bool → Bool → Bool → Bool → Bool → Bool 
 verdict big₁ big₂ below room₁ room₂ placed layered =
     cond big₁ (Failed Oversize) (cond big₂ (Failed Oversize)
     (cond below
-    (cond room₁ (cond room₂ (cond placed (cond layered Passed (Failed NoLayer)) (Failed NoPlace)) (Failed ShortStore)) (Failed ShortStore))
+    (cond room₁ (cond room₂ (cond placed (cond layered Passed (Failed NoLayer)) (Failed NoPlace)) (Failed ShortStore))
+    (Failed ShortStore))
     (Failed LooseCorner)))
 
 verdict-is : (a b c d e f g : Bool)
-    → andThen (andThen (cond (a || b) (Failed Oversize) (cond c Passed (Failed LooseCorner))) (cond (d && e) Passed (Failed ShortStore)))
+    → andThen (andThen (cond (a || b) (Failed Oversize) (cond c Passed (Failed LooseCorner)))
+    (cond (d && e) Passed (Failed ShortStore)))
     (andThen (cond f Passed (Failed NoPlace)) (cond g Passed (Failed NoLayer)))
     ≡ verdict a b c d e f g
 verdict-is true b c d e f g = refl
@@ -52,31 +54,42 @@ verdict-is false false true true true true g = refl
 -- of a script whose coordinates and corners come by threes
 module _ (q : ℕ) (d : Script) (ex : length (d .coords) ≡ 3 * d .verts) (ek : length (d .corners) ≡ 3 * d .faces) where
   pub check-is : (a b : ℕ) → scriptCheck q d a b
-      ≡ verdict (ltb vertexLimit (d .verts)) (ltb faceLimit (d .faces)) (allBelow (d .verts) (d .corners)) (leb (coordsFrom + 3 * d .verts) a) (leb (cornersFrom q + 3 * d .faces) b) (placesIn (d .puts)) (layersIn (d .puts))
+      ≡ verdict (ltb vertexLimit (d .verts)) (ltb faceLimit (d .faces)) (allBelow (d .verts) (d .corners))
+      (leb (coordsFrom + 3 * d .verts) a) (leb (cornersFrom q + 3 * d .faces) b) (placesIn (d .puts))
+      (layersIn (d .puts))
   unfolding openCheck meshCheck
   check-is a b =
       let x : (3 * d .verts) % 3 ≡ 0 = omega arith in
       let y : (3 * d .faces) % 3 ≡ 0 = omega arith in
       let z : (3 * d .verts) / 3 ≡ d .verts = omega arith in
       let w : (3 * d .faces) / 3 ≡ d .faces = omega arith in
-      rw (ex, ek, x, y, z, w) (verdict-is (ltb vertexLimit (d .verts)) (ltb faceLimit (d .faces)) (allBelow (d .verts) (d .corners)) (leb (coordsFrom + 3 * d .verts) a) (leb (cornersFrom q + 3 * d .faces) b) (placesIn (d .puts)) (layersIn (d .puts)))
+      rw (ex, ek, x, y, z, w) (verdict-is (ltb vertexLimit (d .verts)) (ltb faceLimit (d .faces))
+      (allBelow (d .verts) (d .corners)) (leb (coordsFrom + 3 * d .verts) a) (leb (cornersFrom q + 3 * d .faces) b)
+      (placesIn (d .puts)) (layersIn (d .puts)))
 
   -- an opening that is not refused leaves these runs, and so its puts these
-  pub opened-as : (fs : List Float) (ws : List ℕ) → openCheck q (length (d .coords)) (d .corners) (length fs) (length ws) ≡ Passed
+  pub opened-as : (fs : List Float) (ws : List ℕ)
+      → openCheck q (length (d .coords)) (d .corners) (length fs) (length ws) ≡ Passed
       → openStep q fs ws (d .radius) (d .coords) (d .corners)
-      ≡ after (counted (length (d .coords) / 3 ∷ length (d .corners) / 3 ∷ [])) (write fs 0 (openFloats (d .radius) (d .coords))) (write ws 0 (openWords q (d .verts) (d .faces) (d .corners)))
+      ≡ after (counted (length (d .coords) / 3 ∷ length (d .corners) / 3 ∷ []))
+      (write fs 0 (openFloats (d .radius) (d .coords))) (write ws 0 (openWords q (d .verts) (d .faces) (d .corners)))
   unfolding openStep
   opened-as fs ws o =
       let x : length (d .coords) / 3 ≡ d .verts = omega (arith, ex) in
       let y : length (d .corners) / 3 ≡ d .faces = omega (arith, ek) in
-      rw o (λ i. after (counted (length (d .coords) / 3 ∷ length (d .corners) / 3 ∷ [])) (write fs 0 (openFloats (d .radius) (d .coords))) (write ws 0 (openWords q (x i) (y i) (d .corners))))
+      rw o (λ i. after (counted (length (d .coords) / 3 ∷ length (d .corners) / 3 ∷ []))
+      (write fs 0 (openFloats (d .radius) (d .coords))) (write ws 0 (openWords q (x i) (y i) (d .corners))))
 
   pub played-as : (fs : List Float) (ws : List ℕ) → scriptCheck q d (length fs) (length ws) ≡ Passed
-      → let o = putsOn q (d .puts) (after done (write fs 0 (openFloats (d .radius) (d .coords))) (write ws 0 (openWords q (d .verts) (d .faces) (d .corners)))) in
+      → let o = putsOn q (d .puts) (after done (write fs 0 (openFloats (d .radius) (d .coords)))
+      (write ws 0 (openWords q (d .verts) (d .faces) (d .corners)))) in
       (o .floats ≡ played q fs ws d .floats) × (o .words ≡ played q fs ws d .words)
   played-as fs ws h =
-      let p = puts-reply q (d .puts) done (counted (length (d .coords) / 3 ∷ length (d .corners) / 3 ∷ [])) (write fs 0 (openFloats (d .radius) (d .coords))) (write ws 0 (openWords q (d .verts) (d .faces) (d .corners))) in
-      let e = sym (opened-as fs ws (passed-both (openCheck q (length (d .coords)) (d .corners) (length fs) (length ws)) _ h .0)) in
+      let p = puts-reply q (d .puts) done (counted (length (d .coords) / 3 ∷ length (d .corners) / 3 ∷ []))
+      (write fs 0 (openFloats (d .radius) (d .coords)))
+      (write ws 0 (openWords q (d .verts) (d .faces) (d .corners))) in
+      let e = sym (opened-as fs ws (passed-both
+      (openCheck q (length (d .coords)) (d .corners) (length fs) (length ws)) _ h .0)) in
       (p .0 ∙ (λ i. putsOn q (d .puts) (e i) .floats), p .1 ∙ (λ i. putsOn q (d .puts) (e i) .words))
 
 -- ---- what the passes find
@@ -97,7 +110,9 @@ scriptFrom s r v f n h =
 pub put-tests : (vs : List (Vals putLine)) → putsCheck vs ≡ Passed → (placesIn vs ≡ true) × (layersIn vs ≡ true)
 put-tests vs e = go (placesIn vs) (layersIn vs) refl refl e
   where
-    go : (p l : Bool) → placesIn vs ≡ p → layersIn vs ≡ l → andThen (cond p Passed (Failed NoPlace)) (cond l Passed (Failed NoLayer)) ≡ Passed → (placesIn vs ≡ true) × (layersIn vs ≡ true)
+    go : (p l : Bool) → placesIn vs ≡ p → layersIn vs ≡ l
+        → andThen (cond p Passed (Failed NoPlace)) (cond l Passed (Failed NoLayer)) ≡ Passed
+        → (placesIn vs ≡ true) × (layersIn vs ≡ true)
     go true true x y z = (x, y)
     go true false x y z = absurd (let o : _≡_ {A = ℕ} 0 1 = cc in omega arith)
     go false l x y z = absurd (let o : _≡_ {A = ℕ} 0 1 = cc in omega arith)
@@ -134,7 +149,8 @@ module _ (fs : List Float) (ws s : List ℕ) (r : Float) (v f n h : ℕ) where
       let d = saying r v f (rest s h) (X .text) PS in
       let ex = coords-count v (rest s h) in
       let ek = corners-count f (X .text) in
-      let b = passed-both (openCheck width (length (d .coords)) (d .corners) (length fs) (length ws)) (putsCheck PS) e in
+      let b = passed-both (openCheck width (length (d .coords)) (d .corners) (length fs) (length ws))
+      (putsCheck PS) e in
       let o = open-passes width (length (d .coords)) (d .corners) (length fs) (length ws) (b .0) in
       let t = put-tests PS (b .1) in
       let p = played-as width d ex ek fs ws e in
@@ -182,7 +198,8 @@ module _ {s : List ℕ} {r : Float} {v f h a b : ℕ} (p : Parsed s r v f h a b)
   pub from-is : (n : ℕ) → n ≡ length (P .val) → scriptFrom s r v f n h ≡ script
   unfolding scriptFrom
   from-is n m =
-      (λ i. saying r v f (rest s h) (sym (p .verts) i) (linesFrom putLine n (linesFrom faceLine f (sym (p .verts) i) .text) .val))
+      (λ i. saying r v f (rest s h) (sym (p .verts) i)
+      (linesFrom putLine n (linesFrom faceLine f (sym (p .verts) i) .text) .val))
       ∙ (λ i. saying r v f (rest s h) (rest s a) (linesFrom putLine n (sym (p .faces) i) .val))
       ∙ (λ i. saying r v f (rest s h) (rest s a) (linesFrom putLine (m i) (rest s b) .val))
       ∙ (λ i. saying r v f (rest s h) (rest s a) (sym (to-from putLine (length s) (rest s b)) i))
@@ -190,27 +207,36 @@ module _ {s : List ℕ} {r : Float} {v f h a b : ℕ} (p : Parsed s r v f h a b)
   -- ---- what the call does by them
   module _ (q : ℕ) (fs : List Float) (ws : List ℕ) where
     abbrev effect : Checked → After
-    effect c = guarded c fs ws (after (counted (v ∷ f ∷ length (script .puts) ∷ [])) (played q fs ws script .floats) (played q fs ws script .words))
+    effect c = guarded c fs ws (after (counted (v ∷ f ∷ length (script .puts) ∷ [])) (played q fs ws script .floats)
+        (played q fs ws script .words))
 
-    step-is : (t : Text) → P .text ≡ t → loadStep q fs ws s ≡ effect (andThen (formCheck t) (scriptCheck q script (length fs) (length ws)))
+    step-is : (t : Text) → P .text ≡ t → loadStep q fs ws s
+        ≡ effect (andThen (formCheck t) (scriptCheck q script (length fs) (length ws)))
     unfolding loadStep
     step-is t e =
         (λ i. let d = read-is i .val in
         guarded (andThen (formCheck (read-is i .text)) (scriptCheck q d (length fs) (length ws))) fs ws
-        (after (counted (d .verts ∷ d .faces ∷ length (d .puts) ∷ [])) (played q fs ws d .floats) (played q fs ws d .words)))
+        (after (counted (d .verts ∷ d .faces ∷ length (d .puts) ∷ [])) (played q fs ws d .floats)
+        (played q fs ws d .words)))
         ∙ (λ i. effect (andThen (formCheck (e i)) (scriptCheck q script (length fs) (length ws))))
 
     pub tests-are : scriptCheck q script (length fs) (length ws)
-        ≡ verdict (ltb vertexLimit v) (ltb faceLimit f) (allBelow v (cornersIn (linesFrom faceLine f (rest s a) .val))) (leb (coordsFrom + 3 * v) (length fs)) (leb (cornersFrom q + 3 * f) (length ws)) (placesIn (P .val)) (layersIn (P .val))
+        ≡ verdict (ltb vertexLimit v) (ltb faceLimit f) (allBelow v (cornersIn (linesFrom faceLine f (rest s a) .val)))
+        (leb (coordsFrom + 3 * v) (length fs)) (leb (cornersFrom q + 3 * f) (length ws)) (placesIn (P .val))
+        (layersIn (P .val))
     tests-are = check-is q script (coords-count v (rest s h)) (corners-count f (rest s a)) (length fs) (length ws)
 
     -- by what the passes found: whether all corners are below v, each put names a place, and each a layer
-    pub limits-are : {below placed layered : Bool} {c : Checked} → below ≡ allBelow v (cornersIn (linesFrom faceLine f (rest s a) .val)) → placed ≡ placesIn (P .val) → layered ≡ layersIn (P .val)
-        → c ≡ verdict (ltb vertexLimit v) (ltb faceLimit f) below (leb (coordsFrom + 3 * v) (length fs)) (leb (cornersFrom q + 3 * f) (length ws)) placed layered
+    pub limits-are : {below placed layered : Bool} {c : Checked}
+        → below ≡ allBelow v (cornersIn (linesFrom faceLine f (rest s a) .val)) → placed ≡ placesIn (P .val)
+        → layered ≡ layersIn (P .val)
+        → c ≡ verdict (ltb vertexLimit v) (ltb faceLimit f) below (leb (coordsFrom + 3 * v) (length fs))
+        (leb (cornersFrom q + 3 * f) (length ws)) placed layered
         → scriptCheck q script (length fs) (length ws) ≡ c
     limits-are x y z e =
         tests-are
-        ∙ (λ i. verdict (ltb vertexLimit v) (ltb faceLimit f) (sym x i) (leb (coordsFrom + 3 * v) (length fs)) (leb (cornersFrom q + 3 * f) (length ws)) (sym y i) (sym z i))
+        ∙ (λ i. verdict (ltb vertexLimit v) (ltb faceLimit f) (sym x i) (leb (coordsFrom + 3 * v) (length fs))
+        (leb (cornersFrom q + 3 * f) (length ws)) (sym y i) (sym z i))
         ∙ sym e
 
     -- 13
@@ -218,13 +244,16 @@ module _ {s : List ℕ} {r : Float} {v f h a b : ℕ} (p : Parsed s r v f h a b)
     step-bad e = sym (step-is lost e)
 
     -- 2, 3, 4, 6, 16
-    pub step-refused : (x : Refusal) → P .text ≡ left [] → scriptCheck q script (length fs) (length ws) ≡ Failed x → after (refused x) fs ws ≡ loadStep q fs ws s
+    pub step-refused : (x : Refusal) → P .text ≡ left [] → scriptCheck q script (length fs) (length ws) ≡ Failed x
+        → after (refused x) fs ws ≡ loadStep q fs ws s
     step-refused x e g = sym (step-is (left []) e ∙ (λ i. effect (g i)))
 
-    pub step-done : (n : ℕ) {fs′ : List Float} {ws′ : List ℕ} → P .text ≡ left [] → scriptCheck q script (length fs) (length ws) ≡ Passed → n ≡ length (P .val)
+    pub step-done : (n : ℕ) {fs′ : List Float} {ws′ : List ℕ} → P .text ≡ left []
+        → scriptCheck q script (length fs) (length ws) ≡ Passed → n ≡ length (P .val)
         → fs′ ≡ played q fs ws (scriptFrom s r v f n h) .floats → ws′ ≡ played q fs ws (scriptFrom s r v f n h) .words
         → after (counted (v ∷ f ∷ n ∷ [])) fs′ ws′ ≡ loadStep q fs ws s
     step-done n e g m x y =
         let k = from-is n m in
-        (λ i. after (counted (v ∷ f ∷ m i ∷ [])) ((x ∙ (λ j. played q fs ws (k j) .floats)) i) ((y ∙ (λ j. played q fs ws (k j) .words)) i))
+        (λ i. after (counted (v ∷ f ∷ m i ∷ [])) ((x ∙ (λ j. played q fs ws (k j) .floats)) i)
+        ((y ∙ (λ j. played q fs ws (k j) .words)) i))
         ∙ sym (step-is (left []) e ∙ (λ i. effect (g i)))

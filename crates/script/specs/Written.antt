@@ -1,4 +1,5 @@
--- 02, L10: "a writer from a store to bracket lines [..]: opening, vertices, faces, then puts by rising place, with kept weights". Definitions only.
+-- 02, L10: "a writer from a store to bracket lines [..]: opening, vertices, faces, then puts by rising place, with kept
+-- weights". Definitions only.
 use Prim.Native.Nat.{ℕ, zero, suc, _+_, _*_}
 use mathlib.Core.Bool.{cond}
 use mathlib.Core.List.{List, [], _∷_, _++_}
@@ -29,7 +30,8 @@ vertAt fs i =
 -- face i
 abbrev pub faceAt : ℕ → List ℕ → ℕ → Vals faceLine
 faceAt q ws i =
-    getD ws (cornersFrom q + 3 * i) 0 & getD ws (cornersFrom q + 3 * i + 1) 0 & getD ws (cornersFrom q + 3 * i + 2) 0 & tt
+    getD ws (cornersFrom q + 3 * i) 0 & getD ws (cornersFrom q + 3 * i + 1) 0 & getD ws (cornersFrom q + 3 * i + 2) 0
+    & tt
 
 -- place i: c, sigma, the weight as it is kept, alpha, and always the layer
 abbrev pub putIn : List Float → ℕ → ℕ → Vals putLine

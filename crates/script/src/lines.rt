@@ -32,7 +32,8 @@ pub struct Entry {
 
 // (open (radius h) (verts V) (faces F))
 pub fn read_open(s: &[u8], at: usize) -> ReadOpen
-    ensures { λ r. ⌜ got (now (s .entry)) (r .radius & r .verts & r .faces & tt) (r .at) ≡ form openLine (rest (now (s .entry)) at) ⌝ }
+    ensures { λ r. ⌜ got (now (s .entry)) (r .radius & r .verts & r .faces & tt) (r .at)
+        ≡ form openLine (rest (now (s .entry)) at) ⌝ }
 {
     let h = opening(s, at);
     ReadOpen {
@@ -45,7 +46,8 @@ pub fn read_open(s: &[u8], at: usize) -> ReadOpen
 
 // (vert h h h)
 pub fn read_vert(s: &[u8], at: usize) -> ReadThree
-    ensures { λ r. ⌜ got (now (s .entry)) (r .x & r .y & r .z & tt) (r .at) ≡ form vertLine (rest (now (s .entry)) at) ⌝ }
+    ensures { λ r. ⌜ got (now (s .entry)) (r .x & r .y & r .z & tt) (r .at)
+        ≡ form vertLine (rest (now (s .entry)) at) ⌝ }
 {
     let p = vertex(s, at);
     ReadThree {
@@ -58,7 +60,8 @@ pub fn read_vert(s: &[u8], at: usize) -> ReadThree
 
 // (face N N N)
 pub fn read_face(s: &[u8], at: usize) -> ReadFace
-    ensures { λ r. ⌜ got (now (s .entry)) (r .a & r .b & r .c & tt) (r .at) ≡ form faceLine (rest (now (s .entry)) at) ⌝ }
+    ensures { λ r. ⌜ got (now (s .entry)) (r .a & r .b & r .c & tt) (r .at)
+        ≡ form faceLine (rest (now (s .entry)) at) ⌝ }
 {
     let p = face(s, at);
     ReadFace {
@@ -71,7 +74,8 @@ pub fn read_face(s: &[u8], at: usize) -> ReadFace
 
 // )) or ) (layer N)), and the layer that it names.
 fn read_layer(s: &[u8], at: usize) -> Word32
-    ensures { λ r. ⌜ got (now (s .entry)) (r .val) (r .at) ≡ map layerNamed (form (either putEnd layerEnd end) (rest (now (s .entry)) at)) ⌝ }
+    ensures { λ r. ⌜ got (now (s .entry)) (r .val) (r .at)
+        ≡ map layerNamed (form (either putEnd layerEnd end) (rest (now (s .entry)) at)) ⌝ }
 {
     let e = read_bytes(s, at, b"))");
     if e <= s.len() {
@@ -86,7 +90,8 @@ fn read_layer(s: &[u8], at: usize) -> Word32
 
 // (put P (c h h h) (sigma h) (w h) (alpha h)), or with (layer N) after alpha
 pub fn read_put(s: &[u8], at: usize) -> Entry
-    ensures { λ r. ⌜ got (now (s .entry)) (r .place & r .x & r .y & r .z & r .sigma & r .w & r .alpha & r .layer & tt) (r .at)
+    ensures { λ r. ⌜ got (now (s .entry)) (r .place & r .x & r .y & r .z & r .sigma & r .w & r .alpha & r .layer & tt)
+        (r .at)
         ≡ map entryIn (form putLine (rest (now (s .entry)) at)) ⌝ }
 {
     let p = put_start(s, at);

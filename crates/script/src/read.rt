@@ -64,7 +64,8 @@ struct Faces {
 
 fn check_faces(s: &[u8], at: usize, n: usize, v: u32) -> Faces
     ensures { λ r. ⌜ rest (now (s .entry)) (r .at) ≡ linesFrom faceLine n (rest (now (s .entry)) at) .text ⌝ }
-    ensures { λ r. ⌜ (r .at ≤ length (now (s .entry)) → r .below ≡ allBelow v (cornersIn (linesFrom faceLine n (rest (now (s .entry)) at) .val))) ⌝ }
+    ensures { λ r. ⌜ (r .at ≤ length (now (s .entry))
+        → r .below ≡ allBelow v (cornersIn (linesFrom faceLine n (rest (now (s .entry)) at) .val))) ⌝ }
 {
     let mut k = at;
     let mut below = true;
@@ -132,7 +133,8 @@ fn check_limits(
     placed: bool,
     layered: bool,
 ) -> Checked
-    ensures { λ r. ⌜ r ≡ verdict (ltb vertexLimit verts) (ltb faceLimit faces) below (leb (coordsFrom + 3 * verts) floats) (leb (cornersFrom width + 3 * faces) words) placed layered ⌝ }
+    ensures { λ r. ⌜ r ≡ verdict (ltb vertexLimit verts) (ltb faceLimit faces) below
+        (leb (coordsFrom + 3 * verts) floats) (leb (cornersFrom width + 3 * faces) words) placed layered ⌝ }
 {
     if verts > 1_048_576 {
         return Checked::Failed(Refusal::Oversize);
@@ -162,7 +164,8 @@ fn check_limits(
 fn load_verts(floats: &mut [f64], s: &[u8], at: usize, n: usize) -> usize
     requires { ⌜ coordsFrom + 3 * n ≤ length (now floats) ⌝ }
     ensures { λ r. ⌜ rest (now (s .entry)) r ≡ linesFrom vertLine n (rest (now (s .entry)) at) .text ⌝ }
-    ensures { λ _. ⌜ now (floats .exit) ≡ sets (now (floats .entry)) coordsFrom (coordsIn (linesFrom vertLine n (rest (now (s .entry)) at) .val)) ⌝ }
+    ensures { λ _. ⌜ now (floats .exit) ≡ sets (now (floats .entry)) coordsFrom
+        (coordsIn (linesFrom vertLine n (rest (now (s .entry)) at) .val)) ⌝ }
 {
     let mut k = at;
     let mut i: usize = 0;
@@ -182,7 +185,8 @@ fn load_verts(floats: &mut [f64], s: &[u8], at: usize, n: usize) -> usize
 fn load_faces(words: &mut [u32], s: &[u8], at: usize, n: usize) -> usize
     requires { ⌜ cornersFrom width + 3 * n ≤ length (now words) ⌝ }
     ensures { λ r. ⌜ rest (now (s .entry)) r ≡ linesFrom faceLine n (rest (now (s .entry)) at) .text ⌝ }
-    ensures { λ _. ⌜ now (words .exit) ≡ sets (now (words .entry)) (cornersFrom width) (cornersIn (linesFrom faceLine n (rest (now (s .entry)) at) .val)) ⌝ }
+    ensures { λ _. ⌜ now (words .exit) ≡ sets (now (words .entry)) (cornersFrom width)
+        (cornersIn (linesFrom faceLine n (rest (now (s .entry)) at) .val)) ⌝ }
 {
     let mut k = at;
     let mut i: usize = 0;
@@ -201,9 +205,12 @@ fn load_faces(words: &mut [u32], s: &[u8], at: usize, n: usize) -> usize
 // The puts of n lines into a store with no fault, which each leaves so.
 fn load_puts(floats: &mut [f64], words: &mut [u32], s: &[u8], at: usize, n: usize)
     requires { ⌜ (storeCheck width (now floats) (now words) ≡ Passed)
-        × (placesIn (linesFrom putLine n (rest (now s) at) .val) ≡ true) × (layersIn (linesFrom putLine n (rest (now s) at) .val) ≡ true) ⌝ }
-    ensures { λ _. ⌜ now (floats .exit) ≡ putsOn width (linesFrom putLine n (rest (now (s .entry)) at) .val) (after done (now (floats .entry)) (now (words .entry))) .floats ⌝ }
-    ensures { λ _. ⌜ now (words .exit) ≡ putsOn width (linesFrom putLine n (rest (now (s .entry)) at) .val) (after done (now (floats .entry)) (now (words .entry))) .words ⌝ }
+        × (placesIn (linesFrom putLine n (rest (now s) at) .val) ≡ true)
+        × (layersIn (linesFrom putLine n (rest (now s) at) .val) ≡ true) ⌝ }
+    ensures { λ _. ⌜ now (floats .exit) ≡ putsOn width (linesFrom putLine n (rest (now (s .entry)) at) .val)
+        (after done (now (floats .entry)) (now (words .entry))) .floats ⌝ }
+    ensures { λ _. ⌜ now (words .exit) ≡ putsOn width (linesFrom putLine n (rest (now (s .entry)) at) .val)
+        (after done (now (floats .entry)) (now (words .entry))) .words ⌝ }
 {
     let mut k = at;
     let mut i: usize = 0;
@@ -225,7 +232,8 @@ fn load_puts(floats: &mut [f64], words: &mut [u32], s: &[u8], at: usize, n: usiz
 fn load_floats(floats: &mut [f64], s: &[u8], at: usize, radius: f64, n: usize) -> usize
     requires { ⌜ coordsFrom + 3 * n ≤ length (now floats) ⌝ }
     ensures { λ r. ⌜ rest (now (s .entry)) r ≡ linesFrom vertLine n (rest (now (s .entry)) at) .text ⌝ }
-    ensures { λ _. ⌜ now (floats .exit) ≡ write (now (floats .entry)) 0 (openFloats radius (coordsIn (linesFrom vertLine n (rest (now (s .entry)) at) .val))) ⌝ }
+    ensures { λ _. ⌜ now (floats .exit) ≡ write (now (floats .entry)) 0
+        (openFloats radius (coordsIn (linesFrom vertLine n (rest (now (s .entry)) at) .val))) ⌝ }
 {
     floats[0] = radius;
     zero_floats(floats, 1, COORDS - 1);
@@ -236,7 +244,8 @@ fn load_floats(floats: &mut [f64], s: &[u8], at: usize, radius: f64, n: usize) -
 fn load_words(words: &mut [u32], s: &[u8], at: usize, verts: u32, faces: u32) -> usize
     requires { ⌜ cornersFrom width + 3 * faces ≤ length (now words) ⌝ }
     ensures { λ r. ⌜ rest (now (s .entry)) r ≡ linesFrom faceLine faces (rest (now (s .entry)) at) .text ⌝ }
-    ensures { λ _. ⌜ now (words .exit) ≡ write (now (words .entry)) 0 (openWords width verts faces (cornersIn (linesFrom faceLine faces (rest (now (s .entry)) at) .val))) ⌝ }
+    ensures { λ _. ⌜ now (words .exit) ≡ write (now (words .entry)) 0
+        (openWords width verts faces (cornersIn (linesFrom faceLine faces (rest (now (s .entry)) at) .val))) ⌝ }
 {
     words[0] = verts;
     words[1] = faces;
@@ -255,9 +264,12 @@ fn load(
     faces: u32,
     n: usize,
 )
-    requires { ⌜ scriptCheck width (scriptFrom (now s) radius verts faces n at) (length (now floats)) (length (now words)) ≡ Passed ⌝ }
-    ensures { λ _. ⌜ now (floats .exit) ≡ played width (now (floats .entry)) (now (words .entry)) (scriptFrom (now (s .entry)) radius verts faces n at) .floats ⌝ }
-    ensures { λ _. ⌜ now (words .exit) ≡ played width (now (floats .entry)) (now (words .entry)) (scriptFrom (now (s .entry)) radius verts faces n at) .words ⌝ }
+    requires { ⌜ scriptCheck width (scriptFrom (now s) radius verts faces n at) (length (now floats))
+        (length (now words)) ≡ Passed ⌝ }
+    ensures { λ _. ⌜ now (floats .exit) ≡ played width (now (floats .entry)) (now (words .entry))
+        (scriptFrom (now (s .entry)) radius verts faces n at) .floats ⌝ }
+    ensures { λ _. ⌜ now (words .exit) ≡ played width (now (floats .entry)) (now (words .entry))
+        (scriptFrom (now (s .entry)) radius verts faces n at) .words ⌝ }
 {
     let a = load_floats(floats, s, at, radius, verts as usize);
     let b = load_words(words, s, a, verts, faces);
@@ -266,7 +278,8 @@ fn load(
 
 // Makes two runs the store that lines describe: an opening, its vertices and faces, and puts.
 pub fn read_store(floats: &mut [f64], words: &mut [u32], s: &[u8]) -> Loaded
-    ensures { λ r. ⌜ after (loaded r) (now (floats .exit)) (now (words .exit)) ≡ loadStep width (now (floats .entry)) (now (words .entry)) (now (s .entry)) ⌝ }
+    ensures { λ r. ⌜ after (loaded r) (now (floats .exit)) (now (words .exit))
+        ≡ loadStep width (now (floats .entry)) (now (words .entry)) (now (s .entry)) ⌝ }
 {
     let h = read_open(s, 0);
     let a = check_verts(s, h.at, h.verts as usize);

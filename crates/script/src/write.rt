@@ -71,7 +71,9 @@ fn write_face(out: &mut [u8], at: usize, a: u32, b: u32, c: u32) -> usize
 fn write_place(out: &mut [u8], at: usize, place: u32, floats: &[f64], k: usize) -> usize
     requires { ⌜ (at + 59 + decimalLength place ≤ length (now out)) × (k + 3 ≤ length (now floats)) ⌝ }
     ensures { λ r. ⌜ r ≡ at + 59 + decimalLength place ⌝ }
-    ensures { λ r. ⌜ Wrote (now (out .entry)) at (bytes "(put " ++ (decimalText place ++ (bytes " (c " ++ (floatText (getD (now (floats .entry)) k nan) ++ (bytes " " ++ (floatText (getD (now (floats .entry)) (k + 1) nan) ++ (bytes " " ++ floatText (getD (now (floats .entry)) (k + 2) nan)))))))) r (now (out .exit)) ⌝ }
+    ensures { λ r. ⌜ Wrote (now (out .entry)) at
+        (bytes "(put " ++ (decimalText place ++
+        (bytes " (c " ++ (floatText (getD (now (floats .entry)) k nan) ++ (bytes " " ++ (floatText (getD (now (floats .entry)) (k + 1) nan) ++ (bytes " " ++ floatText (getD (now (floats .entry)) (k + 2) nan)))))))) r (now (out .exit)) ⌝ }
 {
     let a = write_number(out, at, b"(put ", place as u64);
     let b = write_real(out, a, b" (c ", floats[k]);
@@ -81,9 +83,11 @@ fn write_place(out: &mut [u8], at: usize, place: u32, floats: &[f64], k: usize) 
 
 // (put P (c h h h) (sigma h) (w h) (alpha h) (layer N)), of a place's floats
 fn write_put(out: &mut [u8], at: usize, place: u32, layer: u32, floats: &[f64]) -> usize
-    requires { ⌜ (at + 142 + decimalLength place + decimalLength layer ≤ length (now out)) × (place < placeLimit) × (coordsFrom ≤ length (now floats)) ⌝ }
+    requires { ⌜ (at + 142 + decimalLength place + decimalLength layer ≤ length (now out)) × (place < placeLimit)
+        × (coordsFrom ≤ length (now floats)) ⌝ }
     ensures { λ r. ⌜ r ≡ at + 142 + decimalLength place + decimalLength layer ⌝ }
-    ensures { λ r. ⌜ Wrote (now (out .entry)) at (print putLine (putIn (now (floats .entry)) place layer)) r (now (out .exit)) ⌝ }
+    ensures { λ r. ⌜ Wrote (now (out .entry)) at (print putLine (putIn (now (floats .entry)) place layer)) r
+        (now (out .exit)) ⌝ }
 {
     let k = KERNEL + KERNEL_SIZE * (place as usize);
     let a = write_place(out, at, place, floats, k);
@@ -112,7 +116,8 @@ fn write_verts(out: &mut [u8], at: usize, floats: &[f64], n: usize) -> usize
 
 // The lines of n faces.
 fn write_faces(out: &mut [u8], at: usize, words: &[u32], n: usize) -> usize
-    requires { ⌜ (at + length (faceRows width (now words) n 0) ≤ length (now out)) × (cornersFrom width + 3 * n ≤ length (now words)) ⌝ }
+    requires { ⌜ (at + length (faceRows width (now words) n 0) ≤ length (now out))
+        × (cornersFrom width + 3 * n ≤ length (now words)) ⌝ }
     ensures { λ r. ⌜ Wrote (now (out .entry)) at (faceRows width (now (words .entry)) n 0) r (now (out .exit)) ⌝ }
 {
     let mut k = at;
@@ -149,8 +154,10 @@ fn faces_length(words: &[u32], n: usize) -> usize
 
 // The line of a place, none where it is empty.
 fn write_row(out: &mut [u8], at: usize, floats: &[f64], words: &[u32], i: usize) -> usize
-    requires { ⌜ (at + length (putRow width (now floats) (now words) i) ≤ length (now out)) × (i < placeLimit) × (coordsFrom ≤ length (now floats)) × (cornersFrom width ≤ length (now words)) ⌝ }
-    ensures { λ r. ⌜ Wrote (now (out .entry)) at (putRow width (now (floats .entry)) (now (words .entry)) i) r (now (out .exit)) ⌝ }
+    requires { ⌜ (at + length (putRow width (now floats) (now words) i) ≤ length (now out)) × (i < placeLimit)
+        × (coordsFrom ≤ length (now floats)) × (cornersFrom width ≤ length (now words)) ⌝ }
+    ensures { λ r. ⌜ Wrote (now (out .entry)) at (putRow width (now (floats .entry)) (now (words .entry)) i) r
+        (now (out .exit)) ⌝ }
 {
     if words[STATE + WIDTH * i] == 0 {
         return at;
@@ -160,8 +167,10 @@ fn write_row(out: &mut [u8], at: usize, floats: &[f64], words: &[u32], i: usize)
 
 // The lines of all places.
 fn write_puts(out: &mut [u8], at: usize, floats: &[f64], words: &[u32]) -> usize
-    requires { ⌜ (at + length (putRows width (now floats) (now words) placeLimit 0) ≤ length (now out)) × (coordsFrom ≤ length (now floats)) × (cornersFrom width ≤ length (now words)) ⌝ }
-    ensures { λ r. ⌜ Wrote (now (out .entry)) at (putRows width (now (floats .entry)) (now (words .entry)) placeLimit 0) r (now (out .exit)) ⌝ }
+    requires { ⌜ (at + length (putRows width (now floats) (now words) placeLimit 0) ≤ length (now out))
+        × (coordsFrom ≤ length (now floats)) × (cornersFrom width ≤ length (now words)) ⌝ }
+    ensures { λ r. ⌜ Wrote (now (out .entry)) at
+        (putRows width (now (floats .entry)) (now (words .entry)) placeLimit 0) r (now (out .exit)) ⌝ }
 {
     let mut k = at;
     let mut i: usize = 0;
@@ -210,8 +219,10 @@ fn lines_length(words: &[u32], verts: u32, faces: u32) -> usize
 
 // All lines, in bytes that have room for them.
 fn write_lines(floats: &[f64], words: &[u32], verts: u32, faces: u32, out: &mut [u8])
-    requires { ⌜ (length (linesOf width (now floats) (now words) verts faces) ≤ length (now out)) × (coordsFrom + 3 * verts ≤ length (now floats)) × (cornersFrom width + 3 * faces ≤ length (now words)) ⌝ }
-    ensures { λ _. ⌜ now (out .exit) ≡ write (now (out .entry)) 0 (linesOf width (now (floats .entry)) (now (words .entry)) verts faces) ⌝ }
+    requires { ⌜ (length (linesOf width (now floats) (now words) verts faces) ≤ length (now out))
+        × (coordsFrom + 3 * verts ≤ length (now floats)) × (cornersFrom width + 3 * faces ≤ length (now words)) ⌝ }
+    ensures { λ _. ⌜ now (out .exit) ≡ write (now (out .entry)) 0
+        (linesOf width (now (floats .entry)) (now (words .entry)) verts faces) ⌝ }
 {
     let a = write_open(out, 0, floats[0], verts, faces);
     let b = write_verts(out, a, floats, verts as usize);
@@ -222,7 +233,8 @@ fn write_lines(floats: &[f64], words: &[u32], verts: u32, faces: u32, out: &mut 
 // The lines of a sound store, if the bytes have room for them.
 fn write_sound(floats: &[f64], words: &[u32], out: &mut [u8]) -> Printed
     requires { ⌜ Fine width (now floats) (now words) ⌝ }
-    ensures { λ r. ⌜ printout (printedAs r) (now (out .exit)) ≡ textAnswer (written width (now (floats .entry)) (now (words .entry))) (now (out .entry)) ⌝ }
+    ensures { λ r. ⌜ printout (printedAs r) (now (out .exit))
+        ≡ textAnswer (written width (now (floats .entry)) (now (words .entry))) (now (out .entry)) ⌝ }
 {
     let n = lines_length(words, words[0], words[1]);
     if n > out.len() {
@@ -234,7 +246,8 @@ fn write_sound(floats: &[f64], words: &[u32], out: &mut [u8]) -> Printed
 
 // Writes a store as lines into lent bytes; answers how many bytes they are.
 pub fn write_store(floats: &[f64], words: &[u32], out: &mut [u8]) -> Printed
-    ensures { λ r. ⌜ printout (printedAs r) (now (out .exit)) ≡ writeStep width (now (floats .entry)) (now (words .entry)) (now (out .entry)) ⌝ }
+    ensures { λ r. ⌜ printout (printedAs r) (now (out .exit))
+        ≡ writeStep width (now (floats .entry)) (now (words .entry)) (now (out .entry)) ⌝ }
 {
     match check_store(floats, words) {
         Checked::Failed(r) => Printed::Refused(r),

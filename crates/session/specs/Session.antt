@@ -75,7 +75,8 @@ pub record Said : Type 0 where
 abbrev pub said : Session → List ℕ → Said
 said s text = record { next = s; text = text }
 
--- what a function does that holds s: it is f's, so that s′ is held afterwards, and f's text is written from the start of out, up to n
+-- what a function does that holds s: it is f's, so that s′ is held afterwards, and f's text is written from the start
+-- of out, up to n
 abbrev pub Does : (Session → Said) → Session → Session → List ℕ → ℕ → List ℕ → Type 0
 Does f s s′ out n out′ = (s′ ≡ f s .next) × Wrote out 0 (f s .text) n out′
 

@@ -2,7 +2,8 @@
 ghost use mathlib.Core.Path.{_≡_};
 ghost use Rattle.session.specs.Session.{vertsDue, due, idle, begun};
 
-// Its radius and counts, and how many of its vert and face lines were read. Where none of them is due, there is no opening under way.
+// Its radius and counts, and how many of its vert and face lines were read. Where none of them is due, there is no
+// opening under way.
 pub struct Opening {
     pub radius: f64,
     pub verts: u32,

@@ -1,5 +1,5 @@
-// What the program does with a line, which is taken apart once. These functions are internal: they are asked an opening of
-// no more vertices and faces than the program takes, and answer such a one.
+// What the program does with a line, which is taken apart once. These functions are internal: they are asked an opening
+// of no more vertices and faces than the program takes, and answer such a one.
 ghost use mathlib.Core.Path.{_≡_};
 ghost use mathlib.Core.Bool.{true};
 ghost use Prim.Native.Nat.{_≤_};

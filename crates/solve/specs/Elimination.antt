@@ -1,4 +1,5 @@
--- 01, "Solve": the choice of pivot and the elimination, on a matrix that is a list of rows; 02, L4: what it tells of its pivots. Definitions only.
+-- 01, "Solve": the choice of pivot and the elimination, on a matrix that is a list of rows; 02, L4: what it tells of
+-- its pivots. Definitions only.
 use Prim.Native.Nat.{ℕ, _+_, _-_}
 use mathlib.Core.Bool.{false, cond, _||_}
 use mathlib.Core.List.{List, []}
@@ -72,7 +73,8 @@ column n col p m = swept n col (scaled n col (exchanged col p m))
 
 -- ---- all columns
 
--- how an elimination ended: with its smallest accepted pivot and a reduced matrix, or at the column of a flat pivot, "counted from 0"
+-- how an elimination ended: with its smallest accepted pivot and a reduced matrix, or at the column of a flat pivot,
+-- "counted from 0"
 pub data Ended : Type 0 where
   reduced : Float → Matrix → Ended
   flat : ℕ → Ended
@@ -81,7 +83,8 @@ pub data Ended : Type 0 where
 unfoldable pub smaller : Float → Float → Float
 smaller s v = cond (lt v s || ne v v) v s
 
--- "leaves all its loops when a pivot's absolute value is at most 1e-18"; any other is accepted, a NaN too, and divided by
+-- "leaves all its loops when a pivot's absolute value is at most 1e-18"; any other is accepted, a NaN too, and divided
+-- by
 unfoldable pub columnAt : ℕ → ℕ → Ended → Ended
 columnAt n col (flat c) = flat c
 columnAt n col (reduced s m) =

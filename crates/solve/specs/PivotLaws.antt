@@ -1,4 +1,5 @@
--- 02, L4: what an elimination tells of its pivots. The smallest accepted one is a NaN or above 1e-18, a NaN stays, and the column of a flat one is among the n. Assumes nothing.
+-- 02, L4: what an elimination tells of its pivots. The smallest accepted one is a NaN or above 1e-18, a NaN stays, and
+-- the column of a flat one is among the n. Assumes nothing.
 use mathlib.Core.Path.{_≡_, refl, sym, _∙_}
 use mathlib.Core.Logic.{_⊎_, inl, inr, ⊎-elim}
 use mathlib.Core.Bool.{Bool, true, false, true≢false, cond, _||_}
@@ -77,7 +78,8 @@ column-told n col (reduced s m) h t = go (le (pivotOf n col m .value) flatLimit)
     v : Float
     v = pivotOf n col m .value
 
-    go : (b : Bool) → le v flatLimit ≡ b → Told n (cond b (flat col) (reduced (smaller s v) (column n col (pivotOf n col m .row) m)))
+    go : (b : Bool) → le v flatLimit ≡ b
+        → Told n (cond b (flat col) (reduced (smaller s v) (column n col (pivotOf n col m .row) m)))
     go true e = h
     go false e = cond-of Accepted (lt v s || ne v v) (passes-flat v e) t
 

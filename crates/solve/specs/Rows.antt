@@ -1,4 +1,5 @@
--- Theorems of the solver's definitions: 01's bench rows, n = 0, the words past n, and which row a tie and a NaN take. Assumes nothing.
+-- Theorems of the solver's definitions: 01's bench rows, n = 0, the words past n, and which row a tie and a NaN take.
+-- Assumes nothing.
 use mathlib.Core.Path.{_≡_, refl}
 use Prim.Native.Nat.{ℕ, _≤_, zero-le}
 use borrow.Author.Tests.{le-ltb}
@@ -38,7 +39,8 @@ unfolding rows
 flat-row = refl
 
 -- "[1 1|3],[1 2|5] gives 1, 2", with pivots of 1 both; a word past them stays
-pub two-rows : solution 2 (one ∷ one ∷ three ∷ one ∷ two ∷ five ∷ []) (+0 ∷ +0 ∷ four ∷ []) ≡ outcome (accepted (one ∷ [])) (one ∷ two ∷ four ∷ [])
+pub two-rows : solution 2 (one ∷ one ∷ three ∷ one ∷ two ∷ five ∷ []) (+0 ∷ +0 ∷ four ∷ [])
+    ≡ outcome (accepted (one ∷ [])) (one ∷ two ∷ four ∷ [])
 unfolding rows
 two-rows = refl
 
@@ -49,7 +51,8 @@ no-rows xs = simp (le-ltb (length xs) 0 zero-le)
 
 -- ---- the words of the answer
 
-concluded-past : (n : ℕ) (xs : List Float) (e : Ended) (i : ℕ) → n ≤ i → getD (concluded n xs e .out) i nan ≡ getD xs i nan
+concluded-past : (n : ℕ) (xs : List Float) (e : Ended) (i : ℕ) → n ≤ i
+    → getD (concluded n xs e .out) i nan ≡ getD xs i nan
 unfolding concluded answers
 concluded-past n xs (reduced s m) i h = table-past (answerAt n m) nan n i xs h
 concluded-past n xs (flat c) i h = refl
@@ -57,12 +60,14 @@ concluded-past n xs (flat c) i h = refl
 -- "Words of the answer past n are untouched"
 pub words-past : (n : ℕ) (cells xs : List Float) (i : ℕ) → n ≤ i → getD (solution n cells xs .out) i nan ≡ getD xs i nan
 unfolding solution
-words-past n cells xs i h = cond-of (λ (s : Outcome). getD (s .out) i nan ≡ getD xs i nan) (badMatrix n cells xs) refl (concluded-past n xs _ i h)
+words-past n cells xs i h = cond-of (λ (s : Outcome). getD (s .out) i nan ≡ getD xs i nan) (badMatrix n cells xs) refl
+    (concluded-past n xs _ i h)
 
 -- ---- the later row
 
 -- "ties and NaN take the later row"
-pub a-tie : (p : Pivot) (row : ℕ) (v : Float) → eq v (p .value) ≡ true → better p row v ≡ record { row = row; value = v }
+pub a-tie : (p : Pivot) (row : ℕ) (v : Float) → eq v (p .value) ≡ true
+    → better p row v ≡ record { row = row; value = v }
 unfolding better
 a-tie p row v e = simp (eq-not-lt v (p .value) e)
 
@@ -70,6 +75,7 @@ pub a-nan : (p : Pivot) (row : ℕ) → better p row nan ≡ record { row = row;
 unfolding better lt
 a-nan p row = refl
 
-pub after-nan : (r row : ℕ) (v : Float) → better (record { row = r; value = nan }) row v ≡ record { row = row; value = v }
+pub after-nan : (r row : ℕ) (v : Float) → better (record { row = r; value = nan }) row v
+    ≡ record { row = row; value = v }
 unfolding better
 after-nan r row v = simp (lt-nan v)

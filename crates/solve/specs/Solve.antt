@@ -1,4 +1,5 @@
--- 01, "Solve (`solve_linear_system`)": the runs, the refusals and the answer, with the pivot and the column of 02's L4. Definitions only.
+-- 01, "Solve (`solve_linear_system`)": the runs, the refusals and the answer, with the pivot and the column of 02's L4.
+-- Definitions only.
 use Prim.Native.Nat.{ℕ, _+_, _*_}
 use mathlib.Core.Bool.{Bool, cond, not, _||_}
 use mathlib.Core.List.{List, [], _∷_}
@@ -58,7 +59,8 @@ concluded n xs (flat c) = outcome (flatAt c) xs
 
 -- n rows in a run, and the words of the answer before
 unfoldable pub solution : ℕ → List Float → List Float → Outcome
-solution n cells xs = cond (badMatrix n cells xs) (outcome (refused BadMatrix) xs) (concluded n xs (eliminated n (loaded n cells blank)))
+solution n cells xs =
+    cond (badMatrix n cells xs) (outcome (refused BadMatrix) xs) (concluded n xs (eliminated n (loaded n cells blank)))
 
 -- 01's number for each case of the code's answer
 abbrev pub solvedAs : Solve → Answer

@@ -24,7 +24,8 @@ pub enum Solve {
 // Solves n rows of n + 1 floats, given row after row, and writes the n unknowns to the answer.
 // Words past n, and the whole answer at a refusal, stay as they were.
 pub fn solve_linear_system(n: usize, cells: &[f64], answer: &mut [f64]) -> Solve
-    ensures { λ r. ⌜ outcome (solvedAs r) (now (answer .exit)) ≡ solution n (now (cells .entry)) (now (answer .entry)) ⌝ }
+    ensures { λ r. ⌜ outcome (solvedAs r) (now (answer .exit))
+        ≡ solution n (now (cells .entry)) (now (answer .entry)) ⌝ }
 {
     if n > 16 {
         return Solve::Refused(Refusal::BadMatrix);

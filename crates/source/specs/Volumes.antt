@@ -1,5 +1,6 @@
 -- 01, "Remainder": source `kernel_volume` and `mesh_enclosed_volume`. Definitions only.
--- A mesh is taken as its triangles t, by face number, and their count n: "its triangles are the faces' corners in face order".
+-- A mesh is taken as its triangles t, by face number, and their count n: "its triangles are the faces' corners in face
+-- order".
 use Prim.Native.Nat.{ℕ}
 use mathlib.Core.Bool.{cond}
 use mathlib.Core.List.{List, [], _∷_}
@@ -47,7 +48,8 @@ kernelVolume t n c sigma = times (faceStep t c sigma) n 0 +0
 
 -- the volume inside a mesh given to the call
 unfoldable pub volumeAnswer : List Float → List ℕ → V3 → Float → Answer
-volumeAnswer xyz faces c sigma = answered (meshCheck (length xyz) faces) (kernelVolume (triangleAt xyz faces) (faceCount faces) c sigma ∷ [])
+volumeAnswer xyz faces c sigma =
+    answered (meshCheck (length xyz) faces) (kernelVolume (triangleAt xyz faces) (faceCount faces) c sigma ∷ [])
 
 -- ---- `mesh_enclosed_volume`
 
@@ -76,4 +78,5 @@ enclosedVolume t n = abs (signedVolume t n)
 
 -- the volume of a mesh given to the call
 unfoldable pub enclosedAnswer : List Float → List ℕ → Answer
-enclosedAnswer xyz faces = answered (meshCheck (length xyz) faces) (enclosedVolume (triangleAt xyz faces) (faceCount faces) ∷ [])
+enclosedAnswer xyz faces =
+    answered (meshCheck (length xyz) faces) (enclosedVolume (triangleAt xyz faces) (faceCount faces) ∷ [])

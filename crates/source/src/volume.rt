@@ -56,7 +56,8 @@ fn face_sum(sum: f64, t: Triangle, c: V3, sigma: f64) -> f64
 // The volume of a kernel over all faces of a mesh that is sound.
 pub fn volume_of(xyz: &[f64], faces: &[u32], c: V3, sigma: f64) -> f64
     requires { ⌜ Sound (length (now xyz)) (now faces) ⌝ }
-    ensures { λ r. ⌜ r ≡ kernelVolume (triangleAt (now (xyz .entry)) (now (faces .entry))) (faceCount (now (faces .entry))) c sigma ⌝ }
+    ensures { λ r. ⌜ r ≡ kernelVolume (triangleAt (now (xyz .entry)) (now (faces .entry)))
+        (faceCount (now (faces .entry))) c sigma ⌝ }
 {
     let n = faces.len() / 3;
     let mut total = 0.0;
@@ -100,7 +101,8 @@ fn pyramid(t: Triangle) -> f64
 // The signed volume of a mesh that is sound.
 pub fn signed_volume(xyz: &[f64], faces: &[u32]) -> f64
     requires { ⌜ Sound (length (now xyz)) (now faces) ⌝ }
-    ensures { λ r. ⌜ r ≡ signedVolume (triangleAt (now (xyz .entry)) (now (faces .entry))) (faceCount (now (faces .entry))) ⌝ }
+    ensures { λ r. ⌜ r ≡ signedVolume (triangleAt (now (xyz .entry)) (now (faces .entry)))
+        (faceCount (now (faces .entry))) ⌝ }
 {
     let n = faces.len() / 3;
     let mut total = 0.0;

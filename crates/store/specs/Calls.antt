@@ -16,9 +16,11 @@ use Rattle.layout.specs.After.{After, after, guarded}
 use Rattle.layout.specs.Layout.{placeLimit, kernelFrom, weightAt, piecesFrom, coordsFrom, stateFrom, cornersFrom}
 use Rattle.layout.specs.Soundness.{filledCheck}
 
--- ---- "Open copies a mesh and radius; all empty", with rows 1 to 4: n coordinates, corners ks, runs of a floats and b words
+-- ---- "Open copies a mesh and radius; all empty", with rows 1 to 4: n coordinates, corners ks, runs of a floats and b
+-- words
 unfoldable pub openCheck : ℕ → ℕ → List ℕ → ℕ → ℕ → Checked
-openCheck q n ks a b = andThen (meshCheck n ks) (cond (leb (coordsFrom + n) a && leb (cornersFrom q + length ks) b) Passed (Failed ShortStore))
+openCheck q n ks a b = andThen (meshCheck n ks)
+    (cond (leb (coordsFrom + n) a && leb (cornersFrom q + length ks) b) Passed (Failed ShortStore))
 
 abbrev pub openFloats : Float → List Float → List Float
 openFloats radius xs = radius ∷ (replicate (coordsFrom - 1) +0 ++ xs)

@@ -1,4 +1,5 @@
--- Laws of marks and ranks: digits of words say which vertices are used, and counts of digits are their new numbers. Assumes nothing.
+-- Laws of marks and ranks: digits of words say which vertices are used, and counts of digits are their new numbers.
+-- Assumes nothing.
 use mathlib.Core.Path.{_≡_, refl, sym, ap, _∙_}
 use mathlib.Core.Bool.{Bool, true, false, _||_, cond, or-false, or-assoc}
 use mathlib.Core.List.{List, [], _∷_, _++_}
@@ -33,7 +34,9 @@ pub one-shifted : (b : ℕ) → b < 32 → 1 * 2 ^ b % 4294967296 ≡ 2 ^ b
 one-shifted b h = rw (one-mul (2 ^ b)) (mod-eq-of-lt {n = 2 ^ b} {m = 4294967296} (pow-lt {i = b} {j = 32} h))
 
 -- the digits below b, and how many are set
-pub below-mask : (x b : ℕ) → b < 32 → x < 4294967296 → (ones (bitAnd x (1 * 2 ^ b % 4294967296 - 1)) ≡ ones (x % 2 ^ b)) × (ones (bitAnd x (1 * 2 ^ b % 4294967296 - 1)) ≤ 32)
+pub below-mask : (x b : ℕ) → b < 32 → x < 4294967296
+    → (ones (bitAnd x (1 * 2 ^ b % 4294967296 - 1)) ≡ ones (x % 2 ^ b))
+    × (ones (bitAnd x (1 * 2 ^ b % 4294967296 - 1)) ≤ 32)
 below-mask x b h f =
     let e : bitAnd x (1 * 2 ^ b % 4294967296 - 1) ≡ x % 2 ^ b = rw (one-shifted b h) (and-mask x b) in
     (ap ones e, rw e (ones-le 32 (x % 2 ^ b) (lt-trans (mod-lt x (pow-pos b)) (pow-lt {i = b} {j = 32} h))))
@@ -44,7 +47,8 @@ digit-or x y c = ap (λ (z : ℕ). z % 2) (or-shr x y c) ∙ or-mod (x / 2 ^ c) 
 -- by trying them all
 power-digit : (b c : ℕ) → b < 32 → c < 32 → digit (2 ^ b) c ≡ cond (eqb b c) 1 0
 unfolding every
-power-digit b c hb hc = eqb-true (digit (2 ^ b) c) (cond (eqb b c) 1 0) (every-at (test b) 32 c hc (every-at (λ n. every (test n) 32) 32 b hb refl))
+power-digit b c hb hc = eqb-true (digit (2 ^ b) c) (cond (eqb b c) 1 0)
+    (every-at (test b) 32 c hc (every-at (λ n. every (test n) 32) 32 b hb refl))
   where
     test : ℕ → ℕ → Bool
     test n k = eqb (digit (2 ^ n) k) (cond (eqb n k) 1 0)
@@ -59,7 +63,8 @@ or-cond false false = refl
 pub used-snoc : (ks : List ℕ) (k i : ℕ) → used (ks ++ (k ∷ [])) i ≡ (used ks i || eqb k i)
 unfolding used
 used-snoc [] k i = or-false (eqb k i)
-used-snoc (x ∷ ks) k i = ap (λ (t : Bool). eqb x i || t) (used-snoc ks k i) ∙ sym (or-assoc (eqb x i) (used ks i) (eqb k i))
+used-snoc (x ∷ ks) k i =
+    ap (λ (t : Bool). eqb x i || t) (used-snoc ks k i) ∙ sym (or-assoc (eqb x i) (used ks i) (eqb k i))
 
 -- ---- marks
 zero-digit : (b : ℕ) → b < 32 → digit 0 b ≡ 0
@@ -89,31 +94,52 @@ module _ (ks ms : List ℕ) (k : ℕ) (m : Marked ks ms) (h : k < 1048576) where
   abbrev more : List ℕ
   more = set ms (k / 32) (bitOr (getD ms (k / 32) 0) (2 ^ (k % 32)))
 
-  more-bit : (j b : ℕ) → j < wordLimit → b < 32 → digit (getD more j 0) b ≡ cond (used (ks ++ (k ∷ [])) (32 * j + b)) 1 0
+  more-bit : (j b : ℕ) → j < wordLimit → b < 32
+      → digit (getD more j 0) b ≡ cond (used (ks ++ (k ∷ [])) (32 * j + b)) 1 0
   more-bit j b hj hb = go (decEq j (k / 32))
     where
       go : Dec (j ≡ k / 32) → digit (getD more j 0) b ≡ cond (used (ks ++ (k ∷ [])) (32 * j + b)) 1 0
       go (yes e) =
-          let g : getD more j 0 ≡ bitOr (getD ms j 0) (2 ^ (k % 32)) = rw e (getD-set-same ms (k / 32) (bitOr (getD ms (k / 32) 0) (2 ^ (k % 32))) 0 (omega (arith, l))) in
-          rw (g, digit-or (getD ms j 0) (2 ^ (k % 32)) b, m .bit j b hj hb, power-digit (k % 32) b (omega arith) hb, same-digit k j b hb e, used-snoc ks k (32 * j + b))
+          let g : getD more j 0 ≡ bitOr (getD ms j 0) (2 ^ (k % 32)) = rw e
+          (getD-set-same ms (k / 32) (bitOr (getD ms (k / 32) 0) (2 ^ (k % 32))) 0 (omega (arith, l))) in
+          rw (
+            g,
+            digit-or (getD ms j 0) (2 ^ (k % 32)) b,
+            m .bit j b hj hb,
+            power-digit (k % 32) b
+                (omega arith) hb,
+            same-digit k j b hb e,
+            used-snoc ks k (32 * j + b),
+          )
           (or-cond (used ks (32 * j + b)) (eqb k (32 * j + b)))
       go (no e) =
-          rw (getD-set-other ms (k / 32) j (bitOr (getD ms (k / 32) 0) (2 ^ (k % 32))) 0 e, m .bit j b hj hb, used-snoc ks k (32 * j + b), ne-eqb k (32 * j + b) (λ z. e (omega arith)), or-false (used ks (32 * j + b))) refl
+          rw (
+            getD-set-other ms (k / 32) j
+                (bitOr (getD ms (k / 32) 0) (2 ^ (k % 32))) 0 e,
+            m .bit j b hj hb,
+            used-snoc ks k (32 * j + b),
+            ne-eqb k
+                (32 * j + b) (λ z. e (omega arith)),
+            or-false (used ks (32 * j + b)),
+          ) refl
 
   more-fits : (j : ℕ) → getD more j 0 < 4294967296
   more-fits j = go (decEq j (k / 32))
     where
       go : Dec (j ≡ k / 32) → getD more j 0 < 4294967296
       go (yes e) =
-          let g : getD more j 0 ≡ bitOr (getD ms (k / 32) 0) (2 ^ (k % 32)) = rw e (getD-set-same ms (k / 32) (bitOr (getD ms (k / 32) 0) (2 ^ (k % 32))) 0 (omega (arith, l))) in
-          rw g (or-lt 32 (getD ms (k / 32) 0) (2 ^ (k % 32)) (m .fits (k / 32)) (pow-lt {i = k % 32} {j = 32} (omega arith)))
+          let g : getD more j 0 ≡ bitOr (getD ms (k / 32) 0) (2 ^ (k % 32)) = rw e
+          (getD-set-same ms (k / 32) (bitOr (getD ms (k / 32) 0) (2 ^ (k % 32))) 0 (omega (arith, l))) in
+          rw g (or-lt 32 (getD ms (k / 32) 0) (2 ^ (k % 32)) (m .fits (k / 32))
+          (pow-lt {i = k % 32} {j = 32} (omega arith)))
       go (no e) = rw (getD-set-other ms (k / 32) j (bitOr (getD ms (k / 32) 0) (2 ^ (k % 32))) 0 e) (m .fits j)
 
   pub one-marked : Marked (ks ++ (k ∷ [])) more
   one-marked = record { long = length-set ms (k / 32) (bitOr (getD ms (k / 32) 0) (2 ^ (k % 32))) ∙ l; bit = more-bit; fits = more-fits }
 
 -- corner i of ks
-pub next-marked : (ks ms : List ℕ) (i k x : ℕ) → Marked (take i ks) ms → i < length ks → k < 1048576 → k ≡ getD ks i 0 → x ≡ bitOr (getD ms (k / 32) 0) (2 ^ (k % 32))
+pub next-marked : (ks ms : List ℕ) (i k x : ℕ) → Marked (take i ks) ms → i < length ks → k < 1048576 → k ≡ getD ks i 0
+    → x ≡ bitOr (getD ms (k / 32) 0) (2 ^ (k % 32))
     → Marked (take (i + 1) ks) (set ms (k / 32) x)
 next-marked ks ms i k x m hi hk e d = rw (add-one, take-suc ks i 0 hi, ← e, d) (one-marked (take i ks) ms k m hk)
 
@@ -174,7 +200,8 @@ module _ (ks ms : List ℕ) (m : Marked ks ms) where
 pub none-ranked : (ms rs : List ℕ) → Ranked ms rs 0
 none-ranked ms rs = record { at = λ j h. absurd (omega arith) }
 
-pub one-ranked : (ms rs : List ℕ) (j t : ℕ) → Ranked ms rs j → j < length rs → t ≡ onesTo ms j → Ranked ms (set rs j t) (j + 1)
+pub one-ranked : (ms rs : List ℕ) (j t : ℕ) → Ranked ms rs j → j < length rs → t ≡ onesTo ms j
+    → Ranked ms (set rs j t) (j + 1)
 one-ranked ms rs j t r h e = record { at = at }
   where
     at : (i : ℕ) → i < j + 1 → getD (set rs j t) i 0 ≡ onesTo ms i

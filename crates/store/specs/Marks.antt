@@ -1,4 +1,5 @@
--- Marks and ranks as the code keeps them in local arrays: internal, no part of what a caller must believe. Definitions only.
+-- Marks and ranks as the code keeps them in local arrays: internal, no part of what a caller must believe. Definitions
+-- only.
 use mathlib.Core.Path.{_≡_}
 use mathlib.Core.Bool.{cond}
 use mathlib.Core.List.{List, _++_}

@@ -24,10 +24,13 @@ pub record Meshes (n : ℕ) (ks : List ℕ) : Type 0 where
 
 pub mesh-passes : (n : ℕ) (ks : List ℕ) → meshCheck n ks ≡ Passed → Meshes n ks
 unfolding meshCheck
-mesh-passes n ks h = go (eqb (n % 3) 0) (eqb (length ks % 3) 0) (ltb vertexLimit (n / 3)) (ltb faceLimit (length ks / 3)) (allBelow (n / 3) ks) refl refl refl refl refl h
+mesh-passes n ks h = go (eqb (n % 3) 0) (eqb (length ks % 3) 0) (ltb vertexLimit (n / 3))
+    (ltb faceLimit (length ks / 3)) (allBelow (n / 3) ks) refl refl refl refl refl h
   where
-    go : (a b d e f : Bool) → eqb (n % 3) 0 ≡ a → eqb (length ks % 3) 0 ≡ b → ltb vertexLimit (n / 3) ≡ d → ltb faceLimit (length ks / 3) ≡ e → allBelow (n / 3) ks ≡ f
-        → cond (not a || not b) (Failed Ragged) (cond (d || e) (Failed Oversize) (cond f Passed (Failed LooseCorner))) ≡ Passed → Meshes n ks
+    go : (a b d e f : Bool) → eqb (n % 3) 0 ≡ a → eqb (length ks % 3) 0 ≡ b → ltb vertexLimit (n / 3) ≡ d
+        → ltb faceLimit (length ks / 3) ≡ e → allBelow (n / 3) ks ≡ f
+        → cond (not a || not b) (Failed Ragged) (cond (d || e) (Failed Oversize) (cond f Passed (Failed LooseCorner)))
+        ≡ Passed → Meshes n ks
     go true true false false true v w x y z h =
         record {
           coords = eqb-true (n % 3) 0 v;
@@ -54,7 +57,8 @@ open-passes q n ks a b h =
     let p = passed-both (meshCheck n ks) _ h in
     go (mesh-passes n ks (p .0)) (leb (coordsFrom + n) a && leb (cornersFrom q + length ks) b) refl (p .1)
   where
-    go : Meshes n ks → (t : Bool) → leb (coordsFrom + n) a && leb (cornersFrom q + length ks) b ≡ t → cond t Passed (Failed ShortStore) ≡ Passed → Opens q n ks a b
+    go : Meshes n ks → (t : Bool) → leb (coordsFrom + n) a && leb (cornersFrom q + length ks) b ≡ t
+        → cond t Passed (Failed ShortStore) ≡ Passed → Opens q n ks a b
     go m true x e =
         let r = both (leb (coordsFrom + n) a) (leb (cornersFrom q + length ks) b) x in
         record { mesh = m; floats = leb-true (coordsFrom + n) a (r .0); words = leb-true (cornersFrom q + length ks) b (r .1) }

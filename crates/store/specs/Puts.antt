@@ -21,7 +21,8 @@ use Rattle.layout.specs.After.{After, after, guarded}
 abbrev pub seven : Kernel → Float → List Float
 seven k error = getD (k .c) 0 nan ∷ getD (k .c) 1 nan ∷ getD (k .c) 2 nan ∷ k .sigma ∷ k .w ∷ k .alpha ∷ error ∷ []
 
--- "sigma, coefficient, volume so far", which is "0 before the first" face: n pieces from j on; past the last, the fit's arrays are +0
+-- "sigma, coefficient, volume so far", which is "0 before the first" face: n pieces from j on; past the last, the fit's
+-- arrays are +0
 abbrev pub fresh : Pieces → ℕ → ℕ → List Float
 fresh fit zero j = []
 fresh fit (suc n) j = getD (fit .sigma) j nan ∷ getD (fit .coefficient) j nan ∷ +0 ∷ fresh fit n (suc j)
@@ -39,7 +40,8 @@ unfoldable pub putWords : ℕ → List ℕ → ℕ → Pieces → ℕ → List �
 putWords q ws i fit layer =
     write ws (stateFrom q i) ((1 + fit .count) ∷ atFirst (facesOf ws) (fit .count) ∷ 0 ∷ layerWords q layer)
 
--- "Answers pieces and need"; 02, L4: "put answers one of kept, fitted with that pivot, fallback with that column, or no exponent"
+-- "Answers pieces and need"; 02, L4: "put answers one of kept, fitted with that pivot, fallback with that column, or no
+-- exponent"
 abbrev pub placedWith : ℕ → ℕ → Fit → Answer
 placedWith pieces need fit = record { refusal = 0; counts = pieces ∷ need ∷ kindOf fit ∷ columnOf fit ∷ []; floats = pivotOf fit ∷ [] }
 

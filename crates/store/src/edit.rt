@@ -25,7 +25,8 @@ pub enum Edited {
 
 // Empties a place: all its fields become zero.
 pub fn clear(floats: &mut [f64], words: &mut [u32], place: u32) -> Edited
-    ensures { λ r. ⌜ after (edited r) (now (floats .exit)) (now (words .exit)) ≡ clearStep width (now (floats .entry)) (now (words .entry)) place ⌝ }
+    ensures { λ r. ⌜ after (edited r) (now (floats .exit)) (now (words .exit))
+        ≡ clearStep width (now (floats .entry)) (now (words .entry)) place ⌝ }
 {
     match check_filled(floats, words, place) {
         Checked::Failed(r) => Edited::Refused(r),
@@ -41,7 +42,8 @@ pub fn clear(floats: &mut [f64], words: &mut [u32], place: u32) -> Edited
 
 // Gives the kernel of a place a new weight; the work done on it stays.
 pub fn reweigh(floats: &mut [f64], words: &mut [u32], place: u32, weight: f64) -> Edited
-    ensures { λ r. ⌜ after (edited r) (now (floats .exit)) (now (words .exit)) ≡ reweighStep width (now (floats .entry)) (now (words .entry)) place weight ⌝ }
+    ensures { λ r. ⌜ after (edited r) (now (floats .exit)) (now (words .exit))
+        ≡ reweighStep width (now (floats .entry)) (now (words .entry)) place weight ⌝ }
 {
     match check_filled(floats, words, place) {
         Checked::Failed(r) => Edited::Refused(r),

@@ -14,7 +14,8 @@ use layout::runs::zero_floats;
 
 // Every corner by its new number.
 fn renumber(corners: &mut [u32], marks: &[u32; 32768], ranks: &[u32; 32768], n: usize)
-    requires { ⌜ (Below (32 * n) (now corners)) × (n ≤ 32768) × (Ranked (now marks) (now ranks) n) × (Marked (now corners) (now marks)) ⌝ }
+    requires { ⌜ (Below (32 * n) (now corners)) × (n ≤ 32768) × (Ranked (now marks) (now ranks) n)
+        × (Marked (now corners) (now marks)) ⌝ }
     ensures { λ _. ⌜ now (corners .exit) ≡ renumbered (now (corners .entry)) ⌝ }
 {
     let mut i: usize = 0;
@@ -27,7 +28,8 @@ fn renumber(corners: &mut [u32], marks: &[u32; 32768], ranks: &[u32; 32768], n: 
 // The coordinates of the marked vertices, moved to the front in order; answers how many vertices these are.
 fn gather(xyz: &mut [f64], marks: &[u32; 32768], verts: usize) -> usize
     requires { ⌜ length (now xyz) ≡ 3 * verts ⌝ ∗ ⌜ verts ≤ 1048576 ⌝ }
-    ensures { λ r. ⌜ (r ≤ verts) × ((ks : List ℕ) → Marked ks (now (marks .entry)) → (r ≡ rank ks verts) × (take (3 * r) (now (xyz .exit)) ≡ keptTo ks (now (xyz .entry)) verts)) ⌝ }
+    ensures { λ r. ⌜ (r ≤ verts) × ((ks : List ℕ) → Marked ks (now (marks .entry))
+        → (r ≡ rank ks verts) × (take (3 * r) (now (xyz .exit)) ≡ keptTo ks (now (xyz .entry)) verts)) ⌝ }
 {
     let mut to: usize = 0;
     let mut i: usize = 0;
@@ -47,7 +49,9 @@ fn gather(xyz: &mut [f64], marks: &[u32; 32768], verts: usize) -> usize
 // Squeezes a mesh of so many vertices; answers how many are left.
 pub fn squeeze_mesh(xyz: &mut [f64], corners: &mut [u32], verts: usize) -> usize
     requires { ⌜ Whole (now xyz) (now corners) verts ⌝ }
-    ensures { λ r. ⌜ (r ≡ rank (now (corners .entry)) verts) × (now (xyz .exit) ≡ squeezed (now (corners .entry)) (now (xyz .entry)) verts) × (now (corners .exit) ≡ renumbered (now (corners .entry))) ⌝ }
+    ensures { λ r. ⌜ (r ≡ rank (now (corners .entry)) verts)
+        × (now (xyz .exit) ≡ squeezed (now (corners .entry)) (now (xyz .entry)) verts)
+        × (now (corners .exit) ≡ renumbered (now (corners .entry))) ⌝ }
 {
     let mut marks = [0u32; 32768];
     let mut ranks = [0u32; 32768];

@@ -53,7 +53,8 @@ fn write_floats(floats: &mut [f64], radius: f64, xyz: &[f64])
 // The counts, zeros and the corners.
 fn write_words(words: &mut [u32], verts: u32, faces: u32, corners: &[u32])
     requires { ⌜ cornersFrom width + length (now corners) ≤ length (now words) ⌝ }
-    ensures { λ _. ⌜ now (words .exit) ≡ write (now (words .entry)) 0 (openWords width verts faces (now (corners .entry))) ⌝ }
+    ensures { λ _. ⌜ now (words .exit) ≡ write (now (words .entry)) 0
+        (openWords width verts faces (now (corners .entry))) ⌝ }
 {
     words[0] = verts;
     words[1] = faces;
@@ -69,7 +70,8 @@ pub fn open(
     xyz: &[f64],
     corners: &[u32],
 ) -> Opened
-    ensures { λ r. ⌜ after (opened r) (now (floats .exit)) (now (words .exit)) ≡ openStep width (now (floats .entry)) (now (words .entry)) radius (now (xyz .entry)) (now (corners .entry)) ⌝ }
+    ensures { λ r. ⌜ after (opened r) (now (floats .exit)) (now (words .exit))
+        ≡ openStep width (now (floats .entry)) (now (words .entry)) radius (now (xyz .entry)) (now (corners .entry)) ⌝ }
 {
     match check_open(xyz, corners, floats.len(), words.len()) {
         Checked::Failed(r) => Opened::Refused(r),

@@ -74,7 +74,8 @@ fn at_first(faces: u32, count: u32) -> u32
 fn write_state(words: &mut [u32], at: usize, count: u32, layer: u32)
     requires { ⌜ (1 < at) × (at + 4 ≤ length (now words)) × (count ≤ 16) ⌝ }
     ensures { λ _. ⌜ now (words .exit)
-        ≡ write (now (words .entry)) at ((1 + count) ∷ atFirst (facesOf (now (words .entry))) count ∷ 0 ∷ layer ∷ []) ⌝ }
+        ≡ write (now (words .entry)) at ((1 + count) ∷ atFirst (facesOf (now (words .entry))) count ∷ 0 ∷ layer ∷
+        []) ⌝ }
 {
     let finished = at_first(words[1], count);
     words[at] = 1 + count;
@@ -85,8 +86,10 @@ fn write_state(words: &mut [u32], at: usize, count: u32, layer: u32)
 
 // Fills place i with a kernel and its pieces.
 fn fill(floats: &mut [f64], words: &mut [u32], i: usize, k: Kernel, fit: Pieces, layer: u32)
-    requires { ⌜ (i < placeLimit) × (coordsFrom ≤ length (now floats)) × (cornersFrom width ≤ length (now words)) × (fit .count ≤ 16) ⌝ }
-    ensures { λ _. ⌜ (now (floats .exit) ≡ putFloats (now (floats .entry)) i k fit) × (now (words .exit) ≡ putWords width (now (words .entry)) i fit layer) ⌝ }
+    requires { ⌜ (i < placeLimit) × (coordsFrom ≤ length (now floats)) × (cornersFrom width ≤ length (now words))
+        × (fit .count ≤ 16) ⌝ }
+    ensures { λ _. ⌜ (now (floats .exit) ≡ putFloats (now (floats .entry)) i k fit)
+        × (now (words .exit) ≡ putWords width (now (words .entry)) i fit layer) ⌝ }
 {
     write_kernel(floats, KERNEL + KERNEL_SIZE * i, k, fit.error);
     write_pieces(floats, PIECE + PIECES_SIZE * i, fit);
@@ -95,7 +98,8 @@ fn fill(floats: &mut [f64], words: &mut [u32], i: usize, k: Kernel, fit: Pieces,
 
 // Refusal 4, 5, 6 or 16 of a put.
 fn check_put(floats: &[f64], words: &[u32], place: u32, layer: u32) -> Checked
-    ensures { λ r. ⌜ r ≡ andThen (placeCheck width (now (floats .entry)) (now (words .entry)) place) (layerCheck layer) ⌝ }
+    ensures { λ r. ⌜ r ≡ andThen (placeCheck width (now (floats .entry)) (now (words .entry)) place)
+        (layerCheck layer) ⌝ }
 {
     match check_place(floats, words, place) {
         Checked::Failed(r) => Checked::Failed(r),

@@ -17,9 +17,11 @@ pub enum Squeezed {
     Refused(Refusal),
 }
 
-// Squeezes the vertices that no face uses out of a store: the others keep their order, the corners are renumbered, the freed floats become zero.
+// Squeezes the vertices that no face uses out of a store: the others keep their order, the corners are renumbered, the
+// freed floats become zero.
 pub fn squeeze(floats: &mut [f64], words: &mut [u32]) -> Squeezed
-    ensures { λ r. ⌜ after (squeezedAs r) (now (floats .exit)) (now (words .exit)) ≡ squeezeStep width (now (floats .entry)) (now (words .entry)) ⌝ }
+    ensures { λ r. ⌜ after (squeezedAs r) (now (floats .exit)) (now (words .exit))
+        ≡ squeezeStep width (now (floats .entry)) (now (words .entry)) ⌝ }
 {
     match check_store(floats, words) {
         Checked::Failed(r) => Squeezed::Refused(r),

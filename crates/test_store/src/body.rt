@@ -1,6 +1,6 @@
-// The mesh of the history: an uneven box of 8 vertices and 12 faces, then two points more, and a face whose last corner is the ninth
-// vertex. An opening takes so many coordinates and corners from the front, or the corners from one position to another: then some
-// vertices are in no face.
+// The mesh of the history: an uneven box of 8 vertices and 12 faces, then two points more, and a face whose last corner
+// is the ninth vertex. An opening takes so many coordinates and corners from the front, or the corners from one
+// position to another: then some vertices are in no face.
 pub const XYZ: [f64; 30] = [
     -1.0,
     -1.5,

@@ -1,5 +1,5 @@
-// One call on the store, and its answer. Internal: the program's own; that the store is changed as 01 says and what is printed is held
-// to the file stdout by the run.
+// One call on the store, and its answer. Internal: the program's own; that the store is changed as 01 says and what is
+// printed is held to the file stdout by the run.
 use crate::body::FACES;
 use crate::body::XYZ;
 use crate::body::points;
@@ -197,7 +197,8 @@ fn say_tracked(t: TrackRead) {
     }
 }
 
-// The densities at the first of these points into the first `room` floats of a run, whose digest is written too: words past them stay.
+// The densities at the first of these points into the first `room` floats of a run, whose digest is written too: words
+// past them stay.
 fn run_track_in(
     f: &Floats,
     w: &Words,

@@ -1,10 +1,10 @@
-// Plays one long history of a store on lent runs and writes a line for each call: the call, its answer or 01's number of its refusal,
-// and a digest of every word of both runs after it. The calls are the script on standard input, the file stdin beside src/, by topics;
-// words written from outside make the store unsound and sound again.
-// What it writes is held to the file stdout beside src/, which the proved code did not make: it is what 01's machine answers to the
-// same calls over the original's own text with the second transcription of 01's powers, as `cargo run --release --bin stored history`
-// in oracle/ writes it. Every number that these calls can give is there but 2, whose mesh of 25 MB no program's stack holds; the
-// comparison of the store in oracle/ has it.
+// Plays one long history of a store on lent runs and writes a line for each call: the call, its answer or 01's number
+// of its refusal, and a digest of every word of both runs after it. The calls are the script on standard input, the
+// file stdin beside src/, by topics; words written from outside make the store unsound and sound again.
+// What it writes is held to the file stdout beside src/, which the proved code did not make: it is what 01's machine
+// answers to the same calls over the original's own text with the second transcription of 01's powers, as `cargo run
+// --release --bin stored history` in oracle/ writes it. Every number that these calls can give is there but 2, whose
+// mesh of 25 MB no program's stack holds; the comparison of the store in oracle/ has it.
 mod body;
 mod calls;
 mod digest;
@@ -76,7 +76,8 @@ fn read(f: &Floats, w: &Words, first: u8, n: [u64; 8], x: [f64; 8], layers: u32)
     }
 }
 
-// A call by the first and the third letter of its name, and its line's words; a put is into a layer, a reading of some layers.
+// A call by the first and the third letter of its name, and its line's words; a put is into a layer, a reading of some
+// layers.
 fn call(f: &mut Floats, w: &mut Words, first: u8, third: u8, n: [u64; 8], x: [f64; 8], at: Layers) {
     match first {
         b'o' => run_open(f, w, n[1] as usize, 0, n[2] as usize, x[3]),
@@ -145,8 +146,8 @@ fn run_in(f: &mut Floats, w: &mut Words, s: &[u8], number: u32) {
     }
 }
 
-// A line of the script: a call, of which the part before the colon is written, or nothing. A put is into layer 0 and a reading of all
-// sixteen layers, unless the line says otherwise.
+// A line of the script: a call, of which the part before the colon is written, or nothing. A put is into layer 0 and a
+// reading of all sixteen layers, unless the line says otherwise.
 fn run_line(f: &mut Floats, w: &mut Words, s: &[u8]) {
     if s.len() < 3 {
         return;

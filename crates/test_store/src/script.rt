@@ -1,5 +1,5 @@
-// The words of a script's line, read as numbers and as floats. The first word is the call's name; a word that is no number gives one
-// that nobody asks for.
+// The words of a script's line, read as numbers and as floats. The first word is the call's name; a word that is no
+// number gives one that nobody asks for.
 use base::floats::from_pattern;
 
 // In place of a number that a line does not have.

@@ -1,4 +1,5 @@
--- A form: bytes, numbers and floats in a row, as a line's pattern in 01 ("(reweigh P h)"), with its reader and its printer. Definitions only.
+-- A form: bytes, numbers and floats in a row, as a line's pattern in 01 ("(reweigh P h)"), with its reader and its
+-- printer. Definitions only.
 use Prim.Native.Nat.{ℕ, _-_, _≤_, _<_, _^_}
 use Prim.Native.String.{String}
 use mathlib.Core.Path.{_≡_}
@@ -64,12 +65,14 @@ print (real f) v = floatText (v .0) ++ print f (v .1)
 print (either a b f) (inl v, w) = print a v ++ print f w
 print (either a b f) (inr v, w) = print b v ++ print f w
 
--- l is the form with these values and then r, each float written by any pattern of it: so a NaN by any of its own, another by the one it has
+-- l is the form with these values and then r, each float written by any pattern of it: so a NaN by any of its own,
+-- another by the one it has
 abbrev pub Spells : (f : Form) → Vals f → List ℕ → List ℕ → Type 0
 Spells end v l r = l ≡ r
 Spells (word p f) v l r = (m : List ℕ) × (l ≡ p ++ m) × Spells f v m r
 Spells (number most f) v l r = (m : List ℕ) × (l ≡ decimalText (v .0) ++ m) × (v .0 ≤ most) × Spells f (v .1) m r
-Spells (real f) v l r = (n : ℕ) × (m : List ℕ) × (l ≡ patternText n ++ m) × (n < 2 ^ 64) × (bits n ≡ v .0) × Spells f (v .1) m r
+Spells (real f) v l r =
+    (n : ℕ) × (m : List ℕ) × (l ≡ patternText n ++ m) × (n < 2 ^ 64) × (bits n ≡ v .0) × Spells f (v .1) m r
 Spells (either a b f) (inl v, w) l r = (m : List ℕ) × Spells a v l m × Spells f w m r
 Spells (either a b f) (inr v, w) l r = (m : List ℕ) × Spells b v l m × Spells f w m r
 
@@ -131,7 +134,8 @@ stops (number most f) = false
 stops (real f) = false
 stops (either a b f) = stops a && stops b
 
--- a text is read in one way: a number is followed by no digit (and bounded by 64 bits), and of two forms each begins with a word of its own, or the first with a float
+-- a text is read in one way: a number is followed by no digit (and bounded by 64 bits), and of two forms each begins
+-- with a word of its own, or the first with a float
 abbrev pub clear : Form → Bool
 clear end = true
 clear (word p f) = clear f

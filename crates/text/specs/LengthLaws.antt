@@ -75,8 +75,10 @@ length-cut f (suc j) n h =
     let z : 0 < 10 ^ j = some j in
     let e : suc j + f ≡ suc (j + f) = omega arith in
     let d : suc j + lengthFrom f (n / 10 / 10 ^ j) ≡ suc (j + lengthFrom f (n / 10 / 10 ^ j)) = omega arith in
-    let k : n / 10 / 10 ^ j ≡ n / 10 ^ suc j = div-div-eq-div-mul n 10 (10 ^ j) ∙ ap (λ (x : ℕ). n / x) (sym (pow-succ' 10 j)) in
-    rw (e, le-ltb n 10 (omega arith)) (ap suc (length-cut f j (n / 10) (omega arith)) ∙ sym d ∙ (λ i. suc j + lengthFrom f (k i)))
+    let k : n / 10 / 10 ^ j ≡ n / 10 ^ suc j = div-div-eq-div-mul n 10 (10 ^ j)
+    ∙ ap (λ (x : ℕ). n / x) (sym (pow-succ' 10 j)) in
+    rw (e, le-ltb n 10 (omega arith)) (ap suc (length-cut f j (n / 10) (omega arith)) ∙ sym d
+    ∙ (λ i. suc j + lengthFrom f (k i)))
 
 -- room for more digits than there are
 length-room : (f g n : ℕ) → n < 10 ^ suc f → lengthFrom f n ≡ lengthFrom (f + g) n
@@ -123,8 +125,10 @@ joined u m e = ap length e ∙ length-append u m
 pub at-most : (f : Form) (v : Vals f) (l r : List ℕ) → Spells f v l r → length l ≤ longest f + length r
 at-most end v l r s = omega (arith, ap length s)
 at-most (word p f) v l r s = omega (arith, joined p (s .0) (s .1), at-most f v (s .0) r (s .2))
-at-most (number most f) v l r s = omega (arith, joined (decimalText (v .0)) (s .0) (s .1), length-decimal (v .0), at-most f (v .1) (s .0) r (s .3))
-at-most (real f) v l r s = omega (arith, joined (patternText (s .0)) (s .1) (s .2), length-pattern (s .0), at-most f (v .1) (s .1) r (s .5))
+at-most (number most f) v l r s =
+    omega (arith, joined (decimalText (v .0)) (s .0) (s .1), length-decimal (v .0), at-most f (v .1) (s .0) r (s .3))
+at-most (real f) v l r s =
+    omega (arith, joined (patternText (s .0)) (s .1) (s .2), length-pattern (s .0), at-most f (v .1) (s .1) r (s .5))
 at-most (either a b f) (inl v, w) l r s =
     omega (arith, le-max-left (longest a) (longest b), at-most a v l (s .0) (s .1), at-most f w (s .0) r (s .2))
 at-most (either a b f) (inr v, w) l r s =
@@ -134,7 +138,8 @@ at-most (either a b f) (inr v, w) l r s =
 pub at-least : (f : Form) (v : Vals f) (l r : List ℕ) → Spells f v l r → length r ≤ length l
 at-least end v l r s = omega (arith, ap length s)
 at-least (word p f) v l r s = omega (arith, joined p (s .0) (s .1), at-least f v (s .0) r (s .2))
-at-least (number most f) v l r s = omega (arith, joined (decimalText (v .0)) (s .0) (s .1), at-least f (v .1) (s .0) r (s .3))
+at-least (number most f) v l r s =
+    omega (arith, joined (decimalText (v .0)) (s .0) (s .1), at-least f (v .1) (s .0) r (s .3))
 at-least (real f) v l r s = omega (arith, joined (patternText (s .0)) (s .1) (s .2), at-least f (v .1) (s .1) r (s .5))
 at-least (either a b f) (inl v, w) l r s = omega (arith, at-least a v l (s .0) (s .1), at-least f w (s .0) r (s .2))
 at-least (either a b f) (inr v, w) l r s = omega (arith, at-least b v l (s .0) (s .1), at-least f w (s .0) r (s .2))

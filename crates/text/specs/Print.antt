@@ -1,4 +1,5 @@
--- 01, "Remainder", program `bench`: numbers as text, and what a run holds after a text was written to it. Definitions only.
+-- 01, "Remainder", program `bench`: numbers as text, and what a run holds after a text was written to it. Definitions
+-- only.
 use Prim.Native.Nat.{ℕ, zero, suc, _+_, _/_, _%_}
 use mathlib.Core.Path.{_≡_}
 use mathlib.Core.List.{List, [], _∷_, _++_}

@@ -59,7 +59,8 @@ no-pattern (suc k) v lost h = refl
 no-pattern (suc k) v (left []) h = refl
 no-pattern (suc k) v (left (b ∷ l)) h = go (ltb (digit b) 16) h (no-pattern k (v * 16 + digit b) (left l))
   where
-    go : (g : Bool) → g && hexes k (left l) ≡ false → (hexes k (left l) ≡ false → patternFrom k (v * 16 + digit b) (left l) ≡ missing)
+    go : (g : Bool) → g && hexes k (left l) ≡ false
+        → (hexes k (left l) ≡ false → patternFrom k (v * 16 + digit b) (left l) ≡ missing)
         → cond g (patternFrom k (v * 16 + digit b) (left l)) missing ≡ missing
     go true h ih = ih h
     go false h ih = refl

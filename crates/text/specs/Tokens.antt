@@ -31,7 +31,8 @@ literal-inv [] l r e = cc
 literal-inv (a ∷ p) [] r e = not-lost e
 literal-inv (a ∷ p) (b ∷ l) r e = go (eqb b a) refl e (λ f. literal-inv p l r f)
   where
-    go : (t : Bool) → eqb b a ≡ t → keepIf t (strip p l) ≡ left r → (strip p l ≡ left r → l ≡ p ++ r) → b ∷ l ≡ a ∷ (p ++ r)
+    go : (t : Bool) → eqb b a ≡ t → keepIf t (strip p l) ≡ left r → (strip p l ≡ left r → l ≡ p ++ r)
+        → b ∷ l ≡ a ∷ (p ++ r)
     go true q f ih = let u = eqb-true b a q in let v = ih f in cc
     go false q f ih = not-lost f
 
@@ -46,7 +47,13 @@ digit-glyph d h = go (ltb d 10) refl
         rw (le-ltb (48 + d) 48 (omega arith), lt-ltb (48 + d) 58 (omega arith)) (omega arith)
     go false e =
         let l : 10 ≤ d = ltb-false d 10 e in
-        rw (le-ltb (55 + d) 48 (omega arith), le-ltb (55 + d) 58 (omega arith), le-ltb (55 + d) 65 (omega arith), lt-ltb (55 + d) 71 (omega arith)) (omega arith)
+        rw (
+          le-ltb (55 + d) 48 (omega arith),
+          le-ltb (55 + d) 58 (omega arith),
+          le-ltb (55 + d) 65
+              (omega arith),
+          lt-ltb (55 + d) 71 (omega arith),
+        ) (omega arith)
 
 glyph-digit : (b : ℕ) → digit b < 16 → glyph (digit b) ≡ b
 glyph-digit b h = go (ltb b 48) (ltb b 58) (ltb b 65) (ltb b 71) refl refl refl refl h
@@ -79,7 +86,8 @@ module _ (base : ℕ) (v b : ℕ) (h : digit b < base) (small : base ≤ 16) whe
 -- ---- 16 hexadecimal digits
 
 -- k digits of n, and j more after them
-pattern-digits : (k j n : ℕ) (r : List ℕ) → n < 16 ^ k → patternFrom (k + j) 0 (left (digits 16 k n ++ r)) ≡ patternFrom j n (left r)
+pattern-digits : (k j n : ℕ) (r : List ℕ) → n < 16 ^ k
+    → patternFrom (k + j) 0 (left (digits 16 k n ++ r)) ≡ patternFrom j n (left r)
 unfolding digits patternFrom
 pattern-digits zero j n r h = let e : n ≡ 0 = omega arith in rw (e, zero-add)
 pattern-digits (suc k) j n r h =
@@ -91,7 +99,8 @@ pattern-digits (suc k) j n r h =
     ∙ pattern-digits k (suc j) (n / 16) (glyph (n % 16) ∷ r) (omega arith)
     ∙ rw (digit-glyph (n % 16) d, lt-ltb _ _ d, v)
 
-pub pattern-back : (n : ℕ) (r : List ℕ) → n < 2 ^ 64 → pattern (left (patternText n ++ r)) ≡ record { val = n; text = left r }
+pub pattern-back : (n : ℕ) (r : List ℕ) → n < 2 ^ 64
+    → pattern (left (patternText n ++ r)) ≡ record { val = n; text = left r }
 unfolding patternText patternFrom
 pattern-back n r h = pattern-digits 16 0 n r h
 
@@ -105,9 +114,11 @@ pattern-from zero j v n l r h f =
     let d : l ≡ r = cc in
     rw (add-zero j) ((λ i. digits 16 j (b i) ++ d i), rw (sym b) h)
 pattern-from (suc k) j v n [] r h f = not-lost (ap (λ (g : Got ℕ). g .text) f)
-pattern-from (suc k) j v n (b ∷ l) r h f = go (ltb (digit b) 16) refl f (λ u e. pattern-from k (suc j) (v * 16 + digit b) n l r u e)
+pattern-from (suc k) j v n (b ∷ l) r h f =
+    go (ltb (digit b) 16) refl f (λ u e. pattern-from k (suc j) (v * 16 + digit b) n l r u e)
   where
-    go : (t : Bool) → ltb (digit b) 16 ≡ t → cond t (patternFrom k (v * 16 + digit b) (left l)) missing ≡ record { val = n; text = left r }
+    go : (t : Bool) → ltb (digit b) 16 ≡ t
+        → cond t (patternFrom k (v * 16 + digit b) (left l)) missing ≡ record { val = n; text = left r }
         → (v * 16 + digit b < 16 ^ suc j → patternFrom k (v * 16 + digit b) (left l) ≡ record { val = n; text = left r }
         → (digits 16 (suc j) (v * 16 + digit b) ++ l ≡ digits 16 (suc j + k) n ++ r) × (n < 16 ^ (suc j + k)))
         → (digits 16 j v ++ (b ∷ l) ≡ digits 16 (j + suc k) n ++ r) × (n < 16 ^ (j + suc k))
@@ -118,7 +129,8 @@ pattern-from (suc k) j v n (b ∷ l) r h f = go (ltb (digit b) 16) refl f (λ u 
         (sym (digits-snoc 16 v b d (omega arith) j l) ∙ x .0 ∙ (λ i. digits 16 (s i) n ++ r), rw (sym s) (x .1))
     go false q e ih = not-lost (ap (λ (g : Got ℕ). g .text) e)
 
-pub pattern-inv : (n : ℕ) (l r : List ℕ) → pattern (left l) ≡ record { val = n; text = left r } → (l ≡ patternText n ++ r) × (n < 2 ^ 64)
+pub pattern-inv : (n : ℕ) (l r : List ℕ) → pattern (left l) ≡ record { val = n; text = left r }
+    → (l ≡ patternText n ++ r) × (n < 2 ^ 64)
 unfolding patternFrom digits patternText
 pattern-inv n l r e = pattern-from 16 0 0 n l r (omega arith) e
 
@@ -133,19 +145,23 @@ decimal-stop : (most n : ℕ) (r : List ℕ) → NoDigit r → decimalFrom most 
 decimal-stop most n [] h = refl
 decimal-stop most n (b ∷ r) h = rw (le-ltb _ _ h)
 
-decimal-one : (most n : ℕ) (r : List ℕ) → 0 < n → n < 10 → decimal most (left (digits 10 1 n ++ r)) ≡ decimalFrom most n r
+decimal-one : (most n : ℕ) (r : List ℕ) → 0 < n → n < 10
+    → decimal most (left (digits 10 1 n ++ r)) ≡ decimalFrom most n r
 unfolding digits decimal
 decimal-one most n r p h =
     let e : n % 10 ≡ n = omega arith in
     rw (e, digit-glyph n (omega arith), lt-ltb n 10 h, ne-eqb n 0 (λ z. omega arith))
 
-decimal-digits : (f most n : ℕ) (r : List ℕ) → 0 < n → n ≤ most → n < 10 ^ suc f → decimal most (left (digits 10 (lengthFrom f n) n ++ r)) ≡ decimalFrom most n r
+decimal-digits : (f most n : ℕ) (r : List ℕ) → 0 < n → n ≤ most → n < 10 ^ suc f
+    → decimal most (left (digits 10 (lengthFrom f n) n ++ r)) ≡ decimalFrom most n r
 unfolding digits lengthFrom
 decimal-digits zero most n r p m h = decimal-one most n r p (omega arith)
-decimal-digits (suc f) most n r p m h = go (ltb n 10) refl (λ (k : ℕ) (s : List ℕ) a b c. decimal-digits f most k s a b c)
+decimal-digits (suc f) most n r p m h =
+    go (ltb n 10) refl (λ (k : ℕ) (s : List ℕ) a b c. decimal-digits f most k s a b c)
   where
     go : (b : Bool) → ltb n 10 ≡ b
-        → ((k : ℕ) (s : List ℕ) → 0 < k → k ≤ most → k < 10 ^ suc f → decimal most (left (digits 10 (lengthFrom f k) k ++ s)) ≡ decimalFrom most k s)
+        → ((k : ℕ) (s : List ℕ) → 0 < k → k ≤ most → k < 10 ^ suc f
+        → decimal most (left (digits 10 (lengthFrom f k) k ++ s)) ≡ decimalFrom most k s)
         → decimal most (left (digits 10 (cond b 1 (suc (lengthFrom f (n / 10)))) n ++ r)) ≡ decimalFrom most n r
     go true e ih = decimal-one most n r p (ltb-true n 10 e)
     go false e ih =
@@ -157,15 +173,18 @@ decimal-digits (suc f) most n r p m h = go (ltb n 10) refl (λ (k : ℕ) (s : Li
         ∙ ih (n / 10) (glyph (n % 10) ∷ r) (omega arith) (omega arith) (omega arith)
         ∙ rw (digit-glyph (n % 10) (omega arith), lt-ltb _ _ d, v, le-leb _ _ m)
 
-decimal-nought : (most n : ℕ) (r : List ℕ) → n ≡ 0 → decimal most (left (digits 10 (lengthFrom 19 n) n ++ r)) ≡ record { val = n; text = left r }
+decimal-nought : (most n : ℕ) (r : List ℕ) → n ≡ 0
+    → decimal most (left (digits 10 (lengthFrom 19 n) n ++ r)) ≡ record { val = n; text = left r }
 unfolding digits lengthFrom decimal
 decimal-nought most n r e = rw e
 
-pub decimal-back : (most n : ℕ) (r : List ℕ) → n ≤ most → most < 2 ^ 64 → NoDigit r → decimal most (left (decimalText n ++ r)) ≡ record { val = n; text = left r }
+pub decimal-back : (most n : ℕ) (r : List ℕ) → n ≤ most → most < 2 ^ 64 → NoDigit r
+    → decimal most (left (decimalText n ++ r)) ≡ record { val = n; text = left r }
 unfolding decimalText decimalLength
 decimal-back most n r m h e = go (eqb n 0) refl
   where
-    go : (b : Bool) → eqb n 0 ≡ b → decimal most (left (digits 10 (lengthFrom 19 n) n ++ r)) ≡ record { val = n; text = left r }
+    go : (b : Bool) → eqb n 0 ≡ b → decimal most (left (digits 10 (lengthFrom 19 n) n ++ r))
+        ≡ record { val = n; text = left r }
     go true q = decimal-nought most n r (eqb-true n 0 q)
     go false q =
         let z : n ≡ 0 → ⊥ = eqb-false n 0 q in
@@ -178,7 +197,8 @@ length-more (suc f) v h =
     let u : v < 10 ^ suc f * 10 = rw (pow-suc 10 (suc f)) at h in
     (λ i. cond (ltb v 10) 1 (suc (length-more f (v / 10) (omega arith) i)))
 
-decimal-snoc : (v b : ℕ) (l : List ℕ) → digit b < 10 → 0 < v → v * 10 + digit b < 2 ^ 64 → decimalText (v * 10 + digit b) ++ l ≡ decimalText v ++ (b ∷ l)
+decimal-snoc : (v b : ℕ) (l : List ℕ) → digit b < 10 → 0 < v → v * 10 + digit b < 2 ^ 64
+    → decimalText (v * 10 + digit b) ++ l ≡ decimalText v ++ (b ∷ l)
 unfolding lengthFrom decimalText decimalLength
 decimal-snoc v b l h z m =
     let w = v * 10 + digit b in
@@ -187,7 +207,8 @@ decimal-snoc v b l h z m =
     let n : lengthFrom 19 w ≡ suc (lengthFrom 19 v) = rw (le-ltb w 10 (omega arith)) (ap suc s) in
     (λ i. digits 10 (n i) w ++ l) ∙ digits-snoc 10 v b h (omega arith) (lengthFrom 19 v) l
 
-decimal-from : (most v n : ℕ) (l r : List ℕ) → 0 < v → v ≤ most → most < 2 ^ 64 → decimalFrom most v l ≡ record { val = n; text = left r } → (decimalText v ++ l ≡ decimalText n ++ r) × (n ≤ most)
+decimal-from : (most v n : ℕ) (l r : List ℕ) → 0 < v → v ≤ most → most < 2 ^ 64
+    → decimalFrom most v l ≡ record { val = n; text = left r } → (decimalText v ++ l ≡ decimalText n ++ r) × (n ≤ most)
 decimal-from most v n [] r z m w e =
     let a : left [] ≡ left r = ap (λ (g : Got ℕ). g .text) e in
     let b : v ≡ n = ap (λ (g : Got ℕ). g .val) e in
@@ -198,7 +219,8 @@ decimal-from most v n (b ∷ l) r z m w e =
     (λ p q f. decimal-from most (v * 10 + digit b) n l r p q w f)
   where
     go : (s t : Bool) → ltb (digit b) 10 ≡ s → leb (v * 10 + digit b) most ≡ t
-        → cond s (cond t (decimalFrom most (v * 10 + digit b) l) missing) (record { val = v; text = left (b ∷ l) }) ≡ record { val = n; text = left r }
+        → cond s (cond t (decimalFrom most (v * 10 + digit b) l) missing) (record { val = v; text = left (b ∷ l) })
+        ≡ record { val = n; text = left r }
         → (0 < v * 10 + digit b → v * 10 + digit b ≤ most → decimalFrom most (v * 10 + digit b) l ≡ record { val = n; text = left r }
         → (decimalText (v * 10 + digit b) ++ l ≡ decimalText n ++ r) × (n ≤ most))
         → (decimalText v ++ (b ∷ l) ≡ decimalText n ++ r) × (n ≤ most)
@@ -219,13 +241,15 @@ decimal-digit b l h =
     let q : digit b % 10 ≡ digit b = omega arith in
     rw (lt-ltb (digit b) 10 h, q, glyph-digit b (omega arith))
 
-pub decimal-inv : (most n : ℕ) (l r : List ℕ) → 9 ≤ most → most < 2 ^ 64 → decimal most (left l) ≡ record { val = n; text = left r } → (l ≡ decimalText n ++ r) × (n ≤ most)
+pub decimal-inv : (most n : ℕ) (l r : List ℕ) → 9 ≤ most → most < 2 ^ 64
+    → decimal most (left l) ≡ record { val = n; text = left r } → (l ≡ decimalText n ++ r) × (n ≤ most)
 unfolding decimal
 decimal-inv most n [] r m w e = not-lost (ap (λ (g : Got ℕ). g .text) e)
 decimal-inv most n (b ∷ l) r m w e = go (ltb (digit b) 10) (eqb (digit b) 0) refl refl e
   where
     go : (s t : Bool) → ltb (digit b) 10 ≡ s → eqb (digit b) 0 ≡ t
-        → cond s (cond t (record { val = 0; text = left l }) (decimalFrom most (digit b) l)) missing ≡ record { val = n; text = left r }
+        → cond s (cond t (record { val = 0; text = left l }) (decimalFrom most (digit b) l)) missing
+        ≡ record { val = n; text = left r }
         → (b ∷ l ≡ decimalText n ++ r) × (n ≤ most)
     go true true p q f =
         let a : left l ≡ left r = ap (λ (g : Got ℕ). g .text) f in

@@ -24,4 +24,5 @@ then {o} {u} {v} {o′} {o″} {at} {r} {r′} p q =
 pub length-digits : (b k n : ℕ) → length (digits b k n) ≡ k
 unfolding digits
 length-digits b zero n = refl
-length-digits b (suc k) n = length-append (digits b k (n / b)) (glyph (n % b) ∷ []) ∙ (let e = length-digits b k (n / b) in omega arith)
+length-digits b (suc k) n =
+    length-append (digits b k (n / b)) (glyph (n % b) ∷ []) ∙ (let e = length-digits b k (n / b) in omega arith)

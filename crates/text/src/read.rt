@@ -1,4 +1,5 @@
-// Tokens at a position of a slice. Where one does not stand the position answered is one past the end, at which no token stands.
+// Tokens at a position of a slice. Where one does not stand the position answered is one past the end, at which no
+// token stands.
 ghost use mathlib.Core.Path.{_≡_};
 ghost use mathlib.Core.Bool.{true};
 ghost use Prim.Native.Nat.{_+_, _-_, _^_, _<_, _≤_};

@@ -1,4 +1,5 @@
--- 01, "Volume, mass, weights", four faces at once: what stands for their 28 points, face after face, and their sum. For the functions' contracts. Definitions only.
+-- 01, "Volume, mass, weights", four faces at once: what stands for their 28 points, face after face, and their sum. For
+-- the functions' contracts. Definitions only.
 use Prim.Native.Nat.{ℕ, _+_, _*_, _<_}
 use mathlib.Core.Path.{_≡_}
 use mathlib.Core.List.{List}

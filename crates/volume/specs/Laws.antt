@@ -18,7 +18,8 @@ module _ (t : ℕ → Triangle) (c : V3) (sigma : Float) where
   volume-suc k = rw zero-add at (times-suc (faceStep t c sigma) k 0 +0)
 
   -- the faces up to `mid`, then the rest
-  pub volume-more : (from mid to : ℕ) (sum : Float) → from ≤ mid → mid ≤ to → volumeFrom t c sigma mid to (volumeFrom t c sigma from mid sum) ≡ volumeFrom t c sigma from to sum
+  pub volume-more : (from mid to : ℕ) (sum : Float) → from ≤ mid → mid ≤ to
+      → volumeFrom t c sigma mid to (volumeFrom t c sigma from mid sum) ≡ volumeFrom t c sigma from to sum
   unfolding volumeFrom
   volume-more from mid to sum h k =
       let e : to - from ≡ (mid - from) + (to - mid) = omega arith in

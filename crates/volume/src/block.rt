@@ -1,6 +1,6 @@
-// The volume over four faces at once: their 28 points stand in arrays, so that the radial factors are worked side by side.
-// Every function here has a `requires`, but `all_shares`; a `length` of 28 stands where a proof must carry an array's length.
-// Internal: a function with a `requires` is called by proved code alone.
+// The volume over four faces at once: their 28 points stand in arrays, so that the radial factors are worked side by
+// side. Every function here has a `requires`, but `all_shares`; a `length` of 28 stands where a proof must carry an
+// array's length. Internal: a function with a `requires` is called by proved code alone.
 ghost use mathlib.Core.Path.{_≡_};
 ghost use Prim.Native.Nat.{_+_, _*_, _≤_, _<_};
 ghost use lib.ListN.{length, set};
@@ -29,7 +29,8 @@ fn point(
     at: usize,
 )
     requires { ⌜ at < 28 ⌝ }
-    ensures { λ _. ⌜ (now (squares .exit) ≡ set (now (squares .entry)) at (squareOf t c k)) × (now (heights .exit) ≡ set (now (heights .entry)) at (heightOf t n c k)) ⌝ }
+    ensures { λ _. ⌜ (now (squares .exit) ≡ set (now (squares .entry)) at (squareOf t c k))
+        × (now (heights .exit) ≡ set (now (heights .entry)) at (heightOf t n c k)) ⌝ }
 {
     let d = sub(point_of(t, k), c);
     let square = dot(d, d);
@@ -41,7 +42,8 @@ fn point(
 // Writes a face's seven points.
 fn face_points(t: Triangle, c: V3, squares: &mut [f64; 28], heights: &mut [f64; 28], at: usize)
     requires { ⌜ at + 7 ≤ 28 ⌝ }
-    ensures { λ _. ⌜ (now (squares .exit) ≡ sevenSet (squareOf t c) at (now (squares .entry))) × (now (heights .exit) ≡ sevenSet (heightOf t (normalOf t) c) at (now (heights .entry))) ⌝ }
+    ensures { λ _. ⌜ (now (squares .exit) ≡ sevenSet (squareOf t c) at (now (squares .entry)))
+        × (now (heights .exit) ≡ sevenSet (heightOf t (normalOf t) c) at (now (heights .entry))) ⌝ }
 {
     let n = normal_of(t);
     for k in 0..7usize {
@@ -58,8 +60,11 @@ fn points(
     squares: &mut [f64; 28],
     heights: &mut [f64; 28],
 )
-    requires { ⌜ Sound (length (now xyz)) (now faces) ⌝ ∗ ⌜ (3 * (f + 4) ≤ length (now faces)) × (length (now squares) ≡ 28) × (length (now heights) ≡ 28) ⌝ }
-    ensures { λ _. ⌜ Points (squaresOf (triangleAt (now (xyz .entry)) (now (faces .entry))) c f) 4 (now (squares .exit)) × Points (heightsOf (triangleAt (now (xyz .entry)) (now (faces .entry))) c f) 4 (now (heights .exit)) ⌝ }
+    requires { ⌜ Sound (length (now xyz)) (now faces) ⌝
+        ∗ ⌜ (3 * (f + 4) ≤ length (now faces)) × (length (now squares) ≡ 28) × (length (now heights) ≡ 28) ⌝ }
+    ensures { λ _. ⌜ Points (squaresOf (triangleAt (now (xyz .entry)) (now (faces .entry))) c f) 4
+        (now (squares .exit)) × Points (heightsOf (triangleAt (now (xyz .entry)) (now (faces .entry))) c f) 4
+        (now (heights .exit)) ⌝ }
 {
     for j in 0..4usize {
         face_points(triangle_at(xyz, faces, f + j), c, squares, heights, 7 * j);
@@ -108,7 +113,8 @@ pub fn volume_blocks(
     n: usize,
 ) -> f64
     requires { ⌜ Sound (length (now xyz)) (now faces) ⌝ ∗ ⌜ 3 * (from + 4 * n) ≤ length (now faces) ⌝ }
-    ensures { λ r. ⌜ r ≡ volumeFrom (triangleAt (now (xyz .entry)) (now (faces .entry))) c sigma from (from + 4 * n) sum ⌝ }
+    ensures { λ r. ⌜ r ≡ volumeFrom (triangleAt (now (xyz .entry)) (now (faces .entry))) c sigma from
+        (from + 4 * n) sum ⌝ }
 {
     let mut squares = [0.0; 28];
     let mut heights = [0.0; 28];

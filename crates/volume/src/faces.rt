@@ -103,7 +103,8 @@ pub fn volume_from(
 // The volume over all faces.
 pub fn volume_of(xyz: &[f64], faces: &[u32], c: V3, sigma: f64) -> f64
     requires { ⌜ Sound (length (now xyz)) (now faces) ⌝ }
-    ensures { λ r. ⌜ r ≡ kernelVolume (triangleAt (now (xyz .entry)) (now (faces .entry))) (faceCount (now (faces .entry))) c sigma ⌝ }
+    ensures { λ r. ⌜ r ≡ kernelVolume (triangleAt (now (xyz .entry)) (now (faces .entry)))
+        (faceCount (now (faces .entry))) c sigma ⌝ }
 {
     volume_from(0.0, xyz, faces, c, sigma, 0, faces.len() / 3)
 }
@@ -111,7 +112,8 @@ pub fn volume_of(xyz: &[f64], faces: &[u32], c: V3, sigma: f64) -> f64
 // The enclosed volume, signed.
 pub fn body_volume_of(xyz: &[f64], faces: &[u32]) -> f64
     requires { ⌜ Sound (length (now xyz)) (now faces) ⌝ }
-    ensures { λ r. ⌜ r ≡ bodyVolume (triangleAt (now (xyz .entry)) (now (faces .entry))) (faceCount (now (faces .entry))) ⌝ }
+    ensures { λ r. ⌜ r ≡ bodyVolume (triangleAt (now (xyz .entry)) (now (faces .entry)))
+        (faceCount (now (faces .entry))) ⌝ }
 {
     volume_of(xyz, faces, ORIGIN, 0.0)
 }

@@ -52,7 +52,8 @@ calibratedRun t f ks mean total run =
     let target = targetMass mean total (enclosedVolume t f) in
     cond (le target +0) (outcome done (writtenOf k n run)) (normalizedRun t f k n target run)
 
--- `calibrate_kernels`, of the runs given to the call. The Rust's first test, for no kernels, is met by what follows: nothing is written then
+-- `calibrate_kernels`, of the runs given to the call. The Rust's first test, for no kernels, is met by what follows:
+-- nothing is written then
 unfoldable pub calibrated : List Float → List ℕ → List Float → Mean → Float → List Float → Outcome
 calibrated xyz faces ks mean total run =
     guardedRun (callCheck (length xyz) faces ks (length run)) run

@@ -26,10 +26,12 @@ module _ {t u : ℕ → Triangle} {n : ℕ} (same : (f : ℕ) → f < n → t f 
   unfolding rawMass
   same-mass k m = times-same (λ i s h. ap (λ (v : Float). s ⊕ v) (same-kernel (k i))) +0
 
-  pub same-normalized : (k : ℕ → Kernel) (m : ℕ) (target : Float) (run : List Float) → normalizedRun t n k m target run ≡ normalizedRun u n k m target run
+  pub same-normalized : (k : ℕ → Kernel) (m : ℕ) (target : Float) (run : List Float)
+      → normalizedRun t n k m target run ≡ normalizedRun u n k m target run
   unfolding normalizedRun
   same-normalized k m target run = rw (same-mass k m)
 
-  pub same-calibrated : (ks : List Float) (mean : Mean) (total : Float) (run : List Float) → calibratedRun t n ks mean total run ≡ calibratedRun u n ks mean total run
+  pub same-calibrated : (ks : List Float) (mean : Mean) (total : Float) (run : List Float)
+      → calibratedRun t n ks mean total run ≡ calibratedRun u n ks mean total run
   unfolding calibratedRun
   same-calibrated ks mean total run = rw (same-reach, same-enclosed same, same-normalized _ _ _ _)

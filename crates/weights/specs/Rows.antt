@@ -17,7 +17,8 @@ use Rattle.weights.specs.Weights.{someOff, scaleOf, writtenOf, normalize
 use Rattle.weights.specs.Calibration.{targetMass, calibratedRun}
 
 -- "Infinite raw mass with a finite target: source scales to 0": to a zero with the mass's sign, where native falls back
-pub infinite-mass : (s : Bool) (m : ℕ) (e : ℤ) → lt +0 (fin false m e) ≡ true → scaleOf (fin false m e) (inf s) ≡ fin s 0 (pos 0)
+pub infinite-mass : (s : Bool) (m : ℕ) (e : ℤ) → lt +0 (fin false m e) ≡ true
+    → scaleOf (fin false m e) (inf s) ≡ fin s 0 (pos 0)
 unfolding scaleOf abs lt div ofBits
 infinite-mass true m e h = rw h
 infinite-mass false m e h = rw h
@@ -28,7 +29,8 @@ unfolding scaleOf abs lt ofBits
 nan-mass target = rw (and-false (lt +0 target))
 
 -- with no kernel nothing is written, which is the first case of the Rust's `calibrate_kernels`
-pub nothing-normalized : (t : ℕ → Triangle) (f : ℕ) (k : ℕ → Kernel) (target : Float) (run : List Float) → normalizedRun t f k 0 target run ≡ outcome done run
+pub nothing-normalized : (t : ℕ → Triangle) (f : ℕ) (k : ℕ → Kernel) (target : Float) (run : List Float)
+    → normalizedRun t f k 0 target run ≡ outcome done run
 unfolding normalizedRun someOff writtenOf times
 nothing-normalized t f k target run = refl
 
@@ -36,6 +38,7 @@ either : (b : Bool) (x : Outcome) → cond b x x ≡ x
 either true x = refl
 either false x = refl
 
-pub nothing-calibrated : (t : ℕ → Triangle) (f : ℕ) (mean : Mean) (total : Float) (run : List Float) → calibratedRun t f [] mean total run ≡ outcome done run
+pub nothing-calibrated : (t : ℕ → Triangle) (f : ℕ) (mean : Mean) (total : Float) (run : List Float)
+    → calibratedRun t f [] mean total run ≡ outcome done run
 unfolding calibratedRun normalizedRun someOff writtenOf times
 nothing-calibrated t f mean total run = either (le (targetMass mean total (enclosedVolume t f)) +0) (outcome done run)

@@ -48,7 +48,8 @@ massStep t f k i sum = sum ⊕ kernelMass t f (k i)
 unfoldable pub rawMass : (ℕ → Triangle) → ℕ → (ℕ → Kernel) → ℕ → Float
 rawMass t f k n = times (massStep t f k) n 0 +0
 
--- target / raw, where the target is above 0 and the raw mass above 1e-30 in size; "Infinite raw mass with a finite target: source scales to 0"
+-- target / raw, where the target is above 0 and the raw mass above 1e-30 in size; "Infinite raw mass with a finite
+-- target: source scales to 0"
 unfoldable pub scaleOf : Float → Float → Float
 scaleOf target raw = cond (lt +0 target && lt scaleLimit (abs raw)) (target ⊘ raw) one
 
@@ -75,7 +76,8 @@ callCheck coordinates faces ks room = andThen (fieldCheck coordinates faces ks) 
 -- `normalize_kernels`, of a mesh and kernels
 unfoldable pub normalizedRun : (ℕ → Triangle) → ℕ → (ℕ → Kernel) → ℕ → Float → List Float → Outcome
 normalizedRun t f k n target run =
-    cond (someOff k n) (outcome (refused Exponent) run) (outcome done (writtenOf (rescaled (scaleOf target (rawMass t f k n)) k) n run))
+    cond (someOff k n) (outcome (refused Exponent) run)
+    (outcome done (writtenOf (rescaled (scaleOf target (rawMass t f k n)) k) n run))
 
 -- `normalize_kernels`, of the runs given to the call
 unfoldable pub normalized : List Float → List ℕ → List Float → Float → List Float → Outcome

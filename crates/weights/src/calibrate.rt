@@ -46,7 +46,8 @@ fn farther_face(reach: f64, t: Triangle) -> f64
 // How far the faces of a mesh that is sound reach from the origin.
 fn reach_of(xyz: &[f64], faces: &[u32]) -> f64
     requires { ⌜ Sound (length (now xyz)) (now faces) ⌝ }
-    ensures { λ r. ⌜ r ≡ reachOf (triangleAt (now (xyz .entry)) (now (faces .entry))) (faceCount (now (faces .entry))) ⌝ }
+    ensures { λ r. ⌜ r ≡ reachOf (triangleAt (now (xyz .entry)) (now (faces .entry)))
+        (faceCount (now (faces .entry))) ⌝ }
 {
     let n = faces.len() / 3;
     let mut reach = 0.0;
@@ -85,7 +86,9 @@ fn calibrate(
     run: &mut [f64],
 ) -> Weighed
     requires { ⌜ Sound (length (now xyz)) (now faces) ⌝ ∗ ⌜ length (now kernels) ≤ length (now run) ⌝ }
-    ensures { λ r. ⌜ outcome (weighedAs r) (now (run .exit)) ≡ calibratedRun (triangleAt (now (xyz .entry)) (now (faces .entry))) (faceCount (now (faces .entry))) (now (kernels .entry)) mean total (now (run .entry)) ⌝ }
+    ensures { λ r. ⌜ outcome (weighedAs r) (now (run .exit))
+        ≡ calibratedRun (triangleAt (now (xyz .entry)) (now (faces .entry))) (faceCount (now (faces .entry)))
+        (now (kernels .entry)) mean total (now (run .entry)) ⌝ }
 {
     let by = Stretch::By(geometry_scale(reach_of(xyz, faces)));
     let target = target_mass(mean, total, abs(signed_volume(xyz, faces)));
@@ -106,7 +109,8 @@ pub fn calibrate_kernels(
     total: f64,
     run: &mut [f64],
 ) -> Weighed
-    ensures { λ r. ⌜ outcome (weighedAs r) (now (run .exit)) ≡ calibrated (now (xyz .entry)) (now (faces .entry)) (now (kernels .entry)) mean total (now (run .entry)) ⌝ }
+    ensures { λ r. ⌜ outcome (weighedAs r) (now (run .exit))
+        ≡ calibrated (now (xyz .entry)) (now (faces .entry)) (now (kernels .entry)) mean total (now (run .entry)) ⌝ }
 {
     let checked = check_call(xyz, faces, kernels, run.len());
     match checked {

@@ -76,7 +76,8 @@ fn some_off(kernels: &[f64], by: Stretch, n: usize) -> bool
 // The mass of a kernel inside a mesh that is sound.
 fn kernel_mass(xyz: &[f64], faces: &[u32], k: Kernel) -> f64
     requires { ⌜ Sound (length (now xyz)) (now faces) ⌝ }
-    ensures { λ r. ⌜ r ≡ kernelMass (triangleAt (now (xyz .entry)) (now (faces .entry))) (faceCount (now (faces .entry))) k ⌝ }
+    ensures { λ r. ⌜ r ≡ kernelMass (triangleAt (now (xyz .entry)) (now (faces .entry)))
+        (faceCount (now (faces .entry))) k ⌝ }
 {
     k.w * volume_of(xyz, faces, centre_of(k), k.sigma)
 }
@@ -84,7 +85,8 @@ fn kernel_mass(xyz: &[f64], faces: &[u32], k: Kernel) -> f64
 // The mass of the first n kernels inside a mesh that is sound.
 fn raw_mass(xyz: &[f64], faces: &[u32], kernels: &[f64], by: Stretch, n: usize) -> f64
     requires { ⌜ Sound (length (now xyz)) (now faces) ⌝ ∗ ⌜ 6 * n ≤ length (now kernels) ⌝ }
-    ensures { λ r. ⌜ r ≡ rawMass (triangleAt (now (xyz .entry)) (now (faces .entry))) (faceCount (now (faces .entry))) (kernelsOf by (now (kernels .entry))) n ⌝ }
+    ensures { λ r. ⌜ r ≡ rawMass (triangleAt (now (xyz .entry)) (now (faces .entry))) (faceCount (now (faces .entry)))
+        (kernelsOf by (now (kernels .entry))) n ⌝ }
 {
     let mut sum = 0.0;
     let mut i = 0;
@@ -132,7 +134,8 @@ pub fn write_all(kernels: &[f64], by: Stretch, n: usize, run: &mut [f64])
 // Writes the first n kernels with their weights scaled.
 fn write_scaled(kernels: &[f64], by: Stretch, n: usize, scale: f64, run: &mut [f64])
     requires { ⌜ (6 * n ≤ length (now kernels)) × (6 * n ≤ length (now run)) ⌝ }
-    ensures { λ _. ⌜ now (run .exit) ≡ writtenOf (rescaled scale (kernelsOf by (now (kernels .entry)))) n (now (run .entry)) ⌝ }
+    ensures { λ _. ⌜ now (run .exit) ≡ writtenOf (rescaled scale (kernelsOf by (now (kernels .entry)))) n
+        (now (run .entry)) ⌝ }
 {
     let mut i = 0;
     while i < n {
@@ -168,7 +171,9 @@ pub fn normalize(
     run: &mut [f64],
 ) -> Weighed
     requires { ⌜ Sound (length (now xyz)) (now faces) ⌝ ∗ ⌜ length (now kernels) ≤ length (now run) ⌝ }
-    ensures { λ r. ⌜ outcome (weighedAs r) (now (run .exit)) ≡ normalizedRun (triangleAt (now (xyz .entry)) (now (faces .entry))) (faceCount (now (faces .entry))) (kernelsOf by (now (kernels .entry))) (length (now (kernels .entry)) / 6) target (now (run .entry)) ⌝ }
+    ensures { λ r. ⌜ outcome (weighedAs r) (now (run .exit))
+        ≡ normalizedRun (triangleAt (now (xyz .entry)) (now (faces .entry))) (faceCount (now (faces .entry)))
+        (kernelsOf by (now (kernels .entry))) (length (now (kernels .entry)) / 6) target (now (run .entry)) ⌝ }
 {
     let n = kernels.len() / 6;
     if some_off(kernels, by, n) {
@@ -188,7 +193,8 @@ pub fn normalize_kernels(
     target: f64,
     run: &mut [f64],
 ) -> Weighed
-    ensures { λ r. ⌜ outcome (weighedAs r) (now (run .exit)) ≡ normalized (now (xyz .entry)) (now (faces .entry)) (now (kernels .entry)) target (now (run .entry)) ⌝ }
+    ensures { λ r. ⌜ outcome (weighedAs r) (now (run .exit))
+        ≡ normalized (now (xyz .entry)) (now (faces .entry)) (now (kernels .entry)) target (now (run .entry)) ⌝ }
 {
     let checked = check_call(xyz, faces, kernels, run.len());
     match checked {

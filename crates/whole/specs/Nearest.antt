@@ -1,5 +1,5 @@
--- `rounded` gives the whole number nearest to a float's exact value, of two equally near the even one, and no other is that.
--- Assumes nothing.
+-- `rounded` gives the whole number nearest to a float's exact value, of two equally near the even one, and no other is
+-- that. Assumes nothing.
 use mathlib.Core.Path.{_≡_, refl, sym, ap, _∙_}
 use mathlib.Core.Bool.{Bool, true, false, cond}
 use mathlib.Core.Logic.{_⊎_, inl, inr}
@@ -48,7 +48,8 @@ at-pos : (a d k : ℕ) → natAbs (pos a -ℤ pos k *ℤ pos d) ≡ apart a (k *
 at-pos a d k = ap (λ (z : ℤ). natAbs (pos a -ℤ z)) (pos-*ℤ-pos k d) ∙ abs-minus a (k * d)
 
 at-neg : (a d j : ℕ) → natAbs (pos a -ℤ negsuc j *ℤ pos d) ≡ a + suc j * d
-at-neg a d j = ap (λ (z : ℤ). natAbs (pos a -ℤ z)) (negsuc-*ℤ-pos j d) ∙ ap (λ (z : ℤ). natAbs (pos a +ℤ z)) (negℤ-negℤ (pos (suc j * d)))
+at-neg a d j = ap (λ (z : ℤ). natAbs (pos a -ℤ z)) (negsuc-*ℤ-pos j d)
+    ∙ ap (λ (z : ℤ). natAbs (pos a +ℤ z)) (negℤ-negℤ (pos (suc j * d)))
 
 flipped : (a d : ℕ) (k : ℤ) → natAbs (negℤ (pos a) -ℤ k *ℤ pos d) ≡ natAbs (pos a -ℤ negℤ k *ℤ pos d)
 flipped a d k =
@@ -73,14 +74,16 @@ module _ (a d : ℕ) (p : 0 < d) where
   Least k = (j : ℤ) → (j ≡ k → ⊥) → (far k < far j) ⊎ ((far k ≡ far j) × (natAbs k % 2 ≡ 0))
 
   least : Least (pos (nearest a d))
-  least (pos k) h = rw (at-pos a d (nearest a d), at-pos a d k) (near-least a d (nearest a d) (nearest-is a d p) k (λ z. h (ap pos z)))
+  least (pos k) h = rw (at-pos a d (nearest a d), at-pos a d k)
+      (near-least a d (nearest a d) (nearest-is a d p) k (λ z. h (ap pos z)))
   least (negsuc j) h =
       let l = not-past a d (nearest a d) (nearest-is a d p) in
       let s = suc-mul j d in
       rw (at-pos a d (nearest a d), at-neg a d j) (inl (omega arith))
 
   -- below zero 0 is nearer
-  below-zero : (j : ℕ) → (far (negsuc j) < far (pos 0)) ⊎ ((far (negsuc j) ≡ far (pos 0)) × (natAbs (negsuc j) % 2 ≡ 0)) → ⊥
+  below-zero : (j : ℕ) → (far (negsuc j) < far (pos 0))
+      ⊎ ((far (negsuc j) ≡ far (pos 0)) × (natAbs (negsuc j) % 2 ≡ 0)) → ⊥
   below-zero j (inl l) = omega (arith, rw (at-pos a d 0, at-neg a d j, zero-mul d) at l)
   below-zero j (inr z) =
       let e = sym (at-neg a d j) ∙ (z .0 ∙ at-pos a d 0) in
@@ -88,7 +91,8 @@ module _ (a d : ℕ) (p : 0 < d) where
 
   only : (k : ℤ) → Least k → k ≡ pos (nearest a d)
   only (negsuc j) l = absurd (below-zero j (l (pos 0) (λ z. omega (arith, ap natAbs z))))
-  only (pos k) l = ap pos (near-only a d (nearest a d) k p (nearest-is a d p) (λ h. rw (at-pos a d k, at-pos a d (nearest a d)) at (l (pos (nearest a d)) (λ z. h (sym (ap natAbs z))))))
+  only (pos k) l = ap pos (near-only a d (nearest a d) k p (nearest-is a d p)
+      (λ h. rw (at-pos a d k, at-pos a d (nearest a d)) at (l (pos (nearest a d)) (λ z. h (sym (ap natAbs z))))))
 
 -- ---- the theorem
 pub nearest-whole : (s : Bool) (m : ℕ) (e : ℤ) → NearestTo (fin s m e) (rounded (fin s m e))
@@ -113,13 +117,16 @@ only-nearest true m e k n =
     let d = down e in
     sym (negℤ-negℤ k)
     ∙ ap negℤ (only a d (down-pos e) (negℤ k) (λ j h.
-    rw (flipped a d k, flipped a d (negℤ j), negℤ-negℤ j, ← abs-neg k) at (n .least (negℤ j) (λ z. h (sym (negℤ-negℤ j) ∙ ap negℤ z)))))
+    rw (flipped a d k, flipped a d (negℤ j), negℤ-negℤ j, ← abs-neg k) at
+    (n .least (negℤ j) (λ z. h (sym (negℤ-negℤ j) ∙ ap negℤ z)))))
 
 -- and it is off by a half at most
 pub within-half : (s : Bool) (m : ℕ) (e : ℤ) → 2 * off (fin s m e) (rounded (fin s m e)) ≤ down e
 unfolding rounded magnitude
-within-half false m e = rw (at-pos (m * up e) (down e) (nearest (m * up e) (down e))) (nearest-is (m * up e) (down e) (down-pos e) .near)
+within-half false m e =
+    rw (at-pos (m * up e) (down e) (nearest (m * up e) (down e))) (nearest-is (m * up e) (down e) (down-pos e) .near)
 within-half true m e =
     let a = m * up e in
     let d = down e in
-    rw (flipped a d (negℤ (pos (nearest a d))), negℤ-negℤ (pos (nearest a d)), at-pos a d (nearest a d)) (nearest-is a d (down-pos e) .near)
+    rw (flipped a d (negℤ (pos (nearest a d))), negℤ-negℤ (pos (nearest a d)), at-pos a d (nearest a d))
+    (nearest-is a d (down-pos e) .near)

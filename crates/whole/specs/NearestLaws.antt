@@ -55,21 +55,24 @@ nearest-is n d p = go (ltb (2 * r) d) (ltb d (2 * r)) refl refl
         go2 (yes l) = inl (omega arith)
         go2 (no l) = inr (omega arith)
 
-    go : (a b : Bool) → ltb (2 * (n % d)) d ≡ a → ltb d (2 * (n % d)) ≡ b → Near n d (cond a (n / d) (cond b (n / d + 1) (n / d + n / d % 2)))
+    go : (a b : Bool) → ltb (2 * (n % d)) d ≡ a → ltb d (2 * (n % d)) ≡ b
+        → Near n d (cond a (n / d) (cond b (n / d + 1) (n / d + n / d % 2)))
     go true b e f = let h = ltb-true (2 * (n % d)) d e in record { near = omega (arith, whole, low); even = λ z. absurd (omega (arith, whole, low)) }
     go false true e f = let h = ltb-true d (2 * (n % d)) f in record { near = omega (arith, whole, low, step); even = λ z. absurd (omega (arith, whole, low, step)) }
     go false false e f =
         let h : 2 * (n % d) ≡ d = omega (arith, ltb-false (2 * (n % d)) d e, ltb-false d (2 * (n % d)) f) in
         record {
           near = elim (odd-or (n / d)) [
-            | inl z ↦ rw z (let x : (n / d + 0) * d ≡ n / d * d = omega arith in rw x (tie-low n d (n % d) (n / d * d) whole h))
+            | inl z ↦ rw z (let x : (n / d + 0) * d
+                ≡ n / d * d = omega arith in rw x (tie-low n d (n % d) (n / d * d) whole h))
             | inr z ↦ rw z (rw step (tie-high n d (n % d) (n / d * d) whole h))
           ];
           even = λ z. even-up (n / d);
         }
 
 -- ---- every other whole number is farther off, or as far and then r is even
-half-off : (n d u v : ℕ) → 2 * apart n u ≤ d → (u + d ≤ v) ⊎ (v + d ≤ u) → (apart n u < apart n v) ⊎ ((apart n u ≡ apart n v) × (2 * apart n u ≡ d))
+half-off : (n d u v : ℕ) → 2 * apart n u ≤ d → (u + d ≤ v) ⊎ (v + d ≤ u)
+    → (apart n u < apart n v) ⊎ ((apart n u ≡ apart n v) × (2 * apart n u ≡ d))
 half-off n d u v h (inl g) = go (decLt (apart n u) (apart n v))
   where
     go : Dec (apart n u < apart n v) → (apart n u < apart n v) ⊎ ((apart n u ≡ apart n v) × (2 * apart n u ≡ d))
@@ -98,7 +101,8 @@ other d r k h = go (decLt r k)
             go2 (yes z) = z
             go2 (no z) = absurd (b (omega arith))
 
-pub near-least : (n d r : ℕ) → Near n d r → (k : ℕ) → (k ≡ r → ⊥) → (apart n (r * d) < apart n (k * d)) ⊎ ((apart n (r * d) ≡ apart n (k * d)) × (r % 2 ≡ 0))
+pub near-least : (n d r : ℕ) → Near n d r → (k : ℕ) → (k ≡ r → ⊥)
+    → (apart n (r * d) < apart n (k * d)) ⊎ ((apart n (r * d) ≡ apart n (k * d)) × (r % 2 ≡ 0))
 near-least n d r g k h = elim (half-off n d (r * d) (k * d) (g .near) (other d r k h)) [
   | inl l ↦ inl l
   | inr z ↦ inr (z .0, g .even (z .1))
@@ -113,7 +117,8 @@ two-on d r k h a b =
     let l : suc r < k = omega arith in
     omega (arith, above d (suc r) k l, suc-mul r d)
 
-both-even : (n d r k : ℕ) → 0 < d → 2 * apart n (r * d) ≡ d → 2 * apart n (k * d) ≡ d → r % 2 ≡ 0 → k % 2 ≡ 0 → (k ≡ r → ⊥) → ⊥
+both-even : (n d r k : ℕ) → 0 < d → 2 * apart n (r * d) ≡ d → 2 * apart n (k * d) ≡ d → r % 2 ≡ 0 → k % 2 ≡ 0
+    → (k ≡ r → ⊥) → ⊥
 both-even n d r k p a b e f h = go (decLt r k) (decLt k r)
   where
     go : Dec (r < k) → Dec (k < r) → ⊥
@@ -134,7 +139,8 @@ near-only n d r k p g f = go (eqb k r) refl
 
     go : (b : Bool) → eqb k r ≡ b → k ≡ r
     go true e = eqb-true k r e
-    go false e = let h = eqb-false k r e in absurd (go2 h (f h) (half-off n d (r * d) (k * d) (g .near) (other d r k h)))
+    go false e =
+        let h = eqb-false k r e in absurd (go2 h (f h) (half-off n d (r * d) (k * d) (g .near) (other d r k h)))
 
 -- ---- small and great
 pub nearest-none : (n d : ℕ) → 2 * n < d → nearest n d ≡ 0
@@ -158,7 +164,8 @@ nearest-most n d b p h = go (decLt b (nearest n d))
 rest-same : (a b c d q : ℕ) → q * b + a % b ≡ a → q * d + c % d ≡ c → a * d ≡ c * b → a % b * d ≡ c % d * b
 rest-same a b c d q e f h =
     let x : (q * b + a % b) * d ≡ (q * d + c % d) * b = ap (λ (t : ℕ). t * d) e ∙ h ∙ ap (λ (t : ℕ). t * b) (sym f) in
-    let y : q * b * d + a % b * d ≡ q * d * b + c % d * b = sym (add-mul (q * b) (a % b) d) ∙ x ∙ add-mul (q * d) (c % d) b in
+    let y : q * b * d + a % b * d ≡ q * d * b + c % d * b = sym (add-mul (q * b) (a % b) d) ∙ x
+    ∙ add-mul (q * d) (c % d) b in
     let z : q * b * d ≡ q * d * b = mul-right-comm q b d in
     plain (q * b * d) (q * d * b) (a % b * d) (c % d * b) z y
   where
@@ -167,10 +174,12 @@ rest-same a b c d q e f h =
 
 -- x / b and u / d are one fraction: they stand alike to 1
 like : (x b u d : ℕ) → 0 < b → 0 < d → x * d ≡ u * b → x < b → u < d
-like x b u d p q h l = lt-of-mul-lt-mul-right b (subst (λ (t : ℕ). t < d * b) h (subst (λ (t : ℕ). x * d < t) (mul-comm b d) (mul-lt-mul-of-pos-right l q)))
+like x b u d p q h l = lt-of-mul-lt-mul-right b
+    (subst (λ (t : ℕ). t < d * b) h (subst (λ (t : ℕ). x * d < t) (mul-comm b d) (mul-lt-mul-of-pos-right l q)))
 
 like-over : (x b u d : ℕ) → 0 < b → 0 < d → x * d ≡ u * b → b < x → d < u
-like-over x b u d p q h l = lt-of-mul-lt-mul-right b (subst (λ (t : ℕ). d * b < t) h (subst (λ (t : ℕ). t < x * d) (mul-comm b d) (mul-lt-mul-of-pos-right l q)))
+like-over x b u d p q h l = lt-of-mul-lt-mul-right b
+    (subst (λ (t : ℕ). d * b < t) h (subst (λ (t : ℕ). t < x * d) (mul-comm b d) (mul-lt-mul-of-pos-right l q)))
 
 same-test : (a b c d : ℕ) → (a < b → c < d) → (c < d → a < b) → ltb a b ≡ ltb c d
 same-test a b c d f g = go (decLt a b)
@@ -188,7 +197,10 @@ nearest-same a b c d p q h =
     let e : a / b ≡ c / d = div-same a b c d p q h in
     let f : a / b * d + c % d ≡ c = ap (λ (t : ℕ). t * d + c % d) e ∙ div-add-mod' c d in
     let r = rest-same a b c d (a / b) (div-add-mod' a b) f h in
-    let t : 2 * (a % b) * d ≡ 2 * (c % d) * b = mul-assoc 2 (a % b) d ∙ ap (λ (z : ℕ). 2 * z) r ∙ sym (mul-assoc 2 (c % d) b) in
-    let u : ltb (2 * (a % b)) b ≡ ltb (2 * (c % d)) d = same-test (2 * (a % b)) b (2 * (c % d)) d (like (2 * (a % b)) b (2 * (c % d)) d p q t) (like (2 * (c % d)) d (2 * (a % b)) b q p (sym t)) in
-    let v : ltb b (2 * (a % b)) ≡ ltb d (2 * (c % d)) = same-test b (2 * (a % b)) d (2 * (c % d)) (like-over (2 * (a % b)) b (2 * (c % d)) d p q t) (like-over (2 * (c % d)) d (2 * (a % b)) b q p (sym t)) in
+    let t : 2 * (a % b) * d ≡ 2 * (c % d) * b = mul-assoc 2 (a % b) d ∙ ap (λ (z : ℕ). 2 * z) r
+    ∙ sym (mul-assoc 2 (c % d) b) in
+    let u : ltb (2 * (a % b)) b ≡ ltb (2 * (c % d)) d = same-test (2 * (a % b)) b (2 * (c % d)) d
+    (like (2 * (a % b)) b (2 * (c % d)) d p q t) (like (2 * (c % d)) d (2 * (a % b)) b q p (sym t)) in
+    let v : ltb b (2 * (a % b)) ≡ ltb d (2 * (c % d)) = same-test b (2 * (a % b)) d (2 * (c % d))
+    (like-over (2 * (a % b)) b (2 * (c % d)) d p q t) (like-over (2 * (c % d)) d (2 * (a % b)) b q p (sym t)) in
     λ i. cond (u i) (e i) (cond (v i) (e i + 1) (e i + e i % 2))

@@ -1,4 +1,5 @@
--- 02, L8: a float's exact value as a whole number, "nearest, ties to even, with a minus sign where negative and plain 0 for zero". Definitions only.
+-- 02, L8: a float's exact value as a whole number, "nearest, ties to even, with a minus sign where negative and plain 0
+-- for zero". Definitions only.
 use Prim.Native.Nat.{ℕ, _+_, _*_, _/_, _%_}
 use mathlib.Core.Bool.{Bool, true, false, cond}
 use lib.Dec.{ltb}

@@ -34,7 +34,10 @@ sized (fin s m e) p =
       m = m;
       e = e;
       is = refl;
-      most = subst (λ (z : ℕ). z ≤ 1000000000000000 * down e) (mul-one N) (or-le (N * 1) (1000000000000000 * down e) (ltb (N * 1) (1000000000000000 * down e)) (eqb (N * 1) (1000000000000000 * down e)) (ltb→lt (N * 1) (1000000000000000 * down e)) (eqb→eq (N * 1) (1000000000000000 * down e)) p);
+      most = subst (λ (z : ℕ). z ≤ 1000000000000000 * down e) (mul-one N)
+          (or-le (N * 1) (1000000000000000 * down e) (ltb (N * 1) (1000000000000000 * down e))
+          (eqb (N * 1) (1000000000000000 * down e)) (ltb→lt (N * 1) (1000000000000000 * down e))
+          (eqb→eq (N * 1) (1000000000000000 * down e)) p);
       rounds = refl;
     }
 
