@@ -141,10 +141,10 @@ pub record Decomposed (radius : Float) (ks : List Kernel) : Type 0 where
       (fittedAll (length ks) (length (allPieces (decomposedAll radius ks))) (worstFrom +0 (decomposedAll radius ks)))
       (write run 0 (sixes (allPieces (decomposedAll radius ks))))
 
--- ---- a list of calls, from the store s that an opening or a carry left and its machine m
+-- ---- a list of calls, from the store s that an opening, a carry or lines left and its machine m
 pub record Follows (q : ℕ) (exF : List Float) (exW : List ℕ) (m : Machine) (s : Store) (cs : List Call) : Type 0 where
   -- "For every list of puts, clears, reweighs, advances and readings, refused ones among them", and of reports of what
-  -- is finished (02, L7), pages (02, L8) and squeezes: "Demand 3's list may hold it" (02, L12)
+  -- is finished (02, L7), pages (02, L8), a store's lines (02, L10) and squeezes: "Demand 3's list may hold it" (02, L12)
   pub calls : Each q exF exW (m .mesh) m s cs
   -- the machine after the list, and so after each part of it: the pieces in its places, which the runs hold, are those
   -- of its kernels or came by a carry, and no place has more steps than its need
