@@ -130,7 +130,7 @@ impl Store {
             )
         };
         Refusal::check(told.no)?;
-        Ok(Store { floats, words })
+        Ok(Store { floats, words, carried: false })
     }
 }
 
