@@ -501,7 +501,7 @@ class Store:
         verts, faces = lines.counts(run)
         runs = Runs(FLOATS_BEFORE_MESH + 3 * verts, WORDS_BEFORE_MESH + 3 * faces)
         call("store_read", *runs.lent(), *run.lent())
-        return cls._of(runs)
+        return cls._of(runs, False)
 
     def copy(self) -> "Store":
         """A store like this one, with memory of its own."""
