@@ -51,15 +51,15 @@ __version__ = "0.1.0"
 
 __all__ = [
     "ALL_LAYERS", "LAYERS", "MAX_FACES", "MAX_PIECES", "MAX_TRACK", "MAX_VERTICES", "PLACES", "RAW", "REFUSALS",
-    "BadKernelLine", "BadLine", "BadMatrix", "BadTrack", "Bill", "Convention", "Exponent", "Fit", "FlatPivot", "FloatStateError",
-    "Floats", "Held", "Items", "Kernel", "KernelList", "Loader", "LoadersDiffer", "LooseCorner", "ManyKernels",
-    "MassReport", "NoFigure", "NoLayer", "NoPlace", "NotClosed", "Oversize", "Pieces", "Placed", "Ragged", "Refused",
-    "ShortList", "ShortPage", "ShortStore", "ShortText", "SnapshotError", "Solution", "Steps", "Store", "StoreReport", "Unfinished",
-    "UnknownRefusal",
-    "Unsound", "Vacant", "arc", "bill", "body_volume", "check_float_state", "closed", "convert", "decompose",
-    "decompose_list", "densitize", "exp", "field_mass", "homogeneous", "kernel_from_file", "kernel_volume", "log",
-    "log10", "mass", "power", "radial_g", "rho0", "root", "solve", "source_calibrate", "source_density_at",
-    "source_enclosed_volume", "source_kernel_volume", "source_normalize", "ten", "volume_centroid",
+    "BadKernelLine", "BadLine", "BadMatrix", "BadTrack", "Bill", "Convention", "Exponent", "Fit", "FlatPivot",
+    "FloatStateError", "Floats", "Held", "Items", "Kernel", "KernelList", "Loader", "LoadersDiffer", "LooseCorner",
+    "ManyKernels", "MassReport", "NoFigure", "NoLayer", "NoPlace", "NotClosed", "Oversize", "Pieces", "Placed",
+    "Ragged", "Refused", "ShortList", "ShortPage", "ShortStore", "ShortText", "SnapshotError", "Solution", "Steps",
+    "Store", "StoreReport", "Unfinished", "UnknownRefusal", "Unsound", "Vacant", "arc", "bill", "body_volume",
+    "check_float_state", "closed", "convert", "decompose", "decompose_list", "densitize", "exp", "field_mass",
+    "homogeneous", "kernel_from_file", "kernel_volume", "log", "log10", "mass", "power", "radial_g", "rho0", "root",
+    "solve", "source_calibrate", "source_density_at", "source_enclosed_volume", "source_kernel_volume",
+    "source_normalize", "ten", "volume_centroid",
 ]
 
 # Users know these names by this package, and so do messages, pickles and doctests.

@@ -2,8 +2,8 @@
 
 A snapshot is, numbers with their lowest byte first: the eight bytes `CAUCHY02`; the count of floats and the count of
 words, eight bytes each; the floats, eight bytes each, by their bits; the words, four bytes each; and the CRC-64/XZ of
-all bytes before it, eight bytes. One that begins with `CAUCHY01` is the same in the form before layers, with three words
-to a place: it is read too, and its store carried over; none is written.
+all bytes before it, eight bytes. One that begins with `CAUCHY01` is the same in the form before layers, with three
+words to a place: it is read too, and its store carried over; none is written.
 """
 import struct
 from functools import lru_cache

@@ -483,8 +483,8 @@ class Store:
     @classmethod
     def from_lines(cls, text: Union[bytes, bytearray, memoryview]) -> "Store":
         r"""The store of such lines, as `open(path, "rb").read()` gives them, with all work to do: what their opening
-        and then their puts, one by one, would leave. The puts may be in any order, and of two into one place the later one
-        stands. A put may lack ` (layer N)`, and is then in layer 0. Where one line is refused, all are.
+        and then their puts, one by one, would leave. The puts may be in any order, and of two into one place the later
+        one stands. A put may lack ` (layer N)`, and is then in layer 0. Where one line is refused, all are.
 
         >>> store = Store(500, [0, 0, 0, 1, 0, 0, 0, 1, 0], [0, 1, 2])
         >>> store.put(4, Kernel((0, 0, 0), 1, 2, 1), layer=15).need, store.advance(1).left
