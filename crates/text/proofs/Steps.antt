@@ -1,7 +1,7 @@
 -- One step of a token at a position: what `rest` is there, and what the token's definition makes of it. Assumes nothing.
 use mathlib.Core.Path.{_≡_, refl, sym, ap, _∙_}
 use mathlib.Core.List.{List, [], _∷_}
-use mathlib.Core.Bool.{true, false, _&&_, and-false, and-eq-true-iff}
+use mathlib.Core.Bool.{Bool, true, false, _&&_, and-false, and-eq-true-iff}
 use Prim.Native.Nat.{ℕ, zero, suc, _+_, _-_, _*_, _^_, _<_, _≤_}
 use native.Mathlib.Nat.{pow-suc, pow-le-pow-right, lt-of-lt-of-le}
 use native.Mathlib.Numerals.{add-one}
@@ -9,20 +9,34 @@ use native.Mathlib.Decide.{decLt}
 use native.Mathlib.Omega.{arith}
 use lib.ListN.{length, drop, getD}
 use lib.Seq.{drop-cons, drop-length}
-use lib.Dec.{lit<, ltb}
+use lib.Dec.{lit<, ltb, eqb}
 use borrow.Author.Tests.{le-leb, lt-leb, eq-eqb, ne-eqb, lt-ltb, le-ltb, ltb-true}
-use Rattle.text.specs.Text.{Text, lost, left, rest, literal, digit, pattern, patternFrom, decimalFrom, decimal, missing, Got}
-use Rattle.text.specs.TextLaws.{rest-past, rest-whole, rest-cons, rest-next, rest-none, hexes, no-pattern}
+use Rattle.text.specs.Text.{Text, lost, left, rest, literal, keepIf, digit, pattern, patternFrom, decimalFrom, decimal, missing, Got}
+use Rattle.text.specs.TextLaws.{rest-out, rest-past, rest-whole, rest-cons, rest-next, rest-none, hexes, no-pattern}
 
-module _ (p s : List ℕ) (i k : ℕ) (hi : i < length p) where
-  pub literal-same : k < length s → getD s k 0 ≡ getD p i 0 → literal (drop i p) (rest s k) ≡ literal (drop (i + 1) p) (rest s (k + 1))
-  literal-same hk e = rw (drop-cons p i 0 hi, rest-cons s k hk, rest-next s k hk, eq-eqb _ _ e, add-one i)
+-- a byte of the literal more
+pub literal-turn : (p s : List ℕ) (i k : ℕ) → i < length p → k < length s
+    → literal (drop i p) (rest s k) ≡ keepIf (eqb (getD s k 0) (getD p i 0)) (literal (drop (i + 1) p) (rest s (k + 1)))
+literal-turn p s i k hi hk = rw (drop-cons p i 0 hi, rest-cons s k hk, rest-next s k hk, add-one i) refl
 
-  pub literal-other : k < length s → (getD s k 0 ≡ getD p i 0 → ⊥) → literal (drop i p) (rest s k) ≡ lost
-  literal-other hk e = rw (drop-cons p i 0 hi, rest-cons s k hk, ne-eqb _ _ e)
+pub keep-both : (a b : Bool) (t : Text) → keepIf (a && b) t ≡ keepIf a (keepIf b t)
+keep-both true b t = refl
+keep-both false b t = refl
 
-  pub literal-short : length s ≤ k → literal (drop i p) (rest s k) ≡ lost
-  literal-short hk = rw (drop-cons p i 0 hi) (rest-none (λ t. literal (getD p i 0 ∷ drop (suc i) p) t ≡ lost) s k hk refl refl)
+keep-lost : (a : Bool) → keepIf a lost ≡ lost
+keep-lost true = refl
+keep-lost false = refl
+
+-- fewer bytes than the literal has
+pub literal-few : (p s : List ℕ) (at : ℕ) → length s < at + length p → literal p (rest s at) ≡ lost
+literal-few [] s at h = rw (rest-out s at (omega arith)) refl
+literal-few (a ∷ p) s at h = go (decLt at (length s)) (literal-few p s (at + 1) (omega arith))
+  where
+    go : Dec (at < length s) → literal p (rest s (at + 1)) ≡ lost → literal (a ∷ p) (rest s at) ≡ lost
+    go (no n) ih = rest-none (λ t. literal (a ∷ p) t ≡ lost) s at (omega arith) refl refl
+    go (yes l) ih =
+        let e : literal p (left (drop (suc at) s)) ≡ lost = ap (literal p) (sym (rest-next s at l)) ∙ ih in
+        rw (rest-cons s at l, e) (keep-lost (eqb (getD s at 0) a))
 
 pub literal-all : (t : Text) → literal [] t ≡ t
 literal-all lost = refl

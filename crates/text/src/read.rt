@@ -2,8 +2,8 @@
 // token stands.
 ghost use mathlib.Core.Path.{_≡_};
 ghost use mathlib.Core.Bool.{true};
-ghost use Prim.Native.Nat.{_+_, _-_, _^_, _<_, _≤_};
-ghost use lib.Dec.{ltb};
+ghost use Prim.Native.Nat.{_+_, _-_, _^_, _/_, _*_, _<_, _≤_};
+ghost use lib.Dec.{ltb, leb};
 ghost use lib.ListN.{length, drop};
 ghost use Rattle.text.specs.Text.{rest, got, literal, digit, pattern, float, decimalFrom, decimal};
 ghost use Rattle.text.specs.TextLaws.{hexes};
@@ -26,23 +26,26 @@ pub struct Real {
     pub at: usize,
 }
 
-// The position after the bytes `p`, which are to stand at `at`.
+// The position after the bytes `p`, which are to stand at `at`. All are looked at before any is refused.
 pub fn read_bytes(s: &[u8], at: usize, p: &[u8]) -> usize
     ensures { λ r. ⌜ rest (now (s .entry)) r ≡ literal (now (p .entry)) (rest (now (s .entry)) at) ⌝ }
 {
-    let mut k = at;
+    if at > s.len() {
+        return s.len() + 1;
+    }
+    if s.len() - at < p.len() {
+        return s.len() + 1;
+    }
+    let mut all = true;
     let mut i = 0;
     while i < p.len() {
-        if k >= s.len() {
-            return s.len() + 1;
-        }
-        if s[k] != p[i] {
-            return s.len() + 1;
-        }
-        k += 1;
+        all = all & (s[at + i] == p[i]);
         i += 1;
     }
-    k
+    if all {
+        return at + p.len();
+    }
+    s.len() + 1
 }
 
 // Whether a byte is a digit, of which those from 10 on are upper-case letters.
@@ -59,16 +62,6 @@ fn digit_of(b: u8) -> u64
 {
     let n = b as u64;
     n % 16 + 9 * (n / 64)
-}
-
-// The value of a digit, 16 for a byte that is none.
-fn digit_value(b: u8) -> u64
-    ensures { λ r. ⌜ r ≡ digit b ⌝ }
-{
-    if is_digit(b) {
-        return digit_of(b);
-    }
-    16
 }
 
 // Whether sixteen upper-case hexadecimal digits stand at `at`. All are looked at before any is refused: a branch
@@ -134,20 +127,48 @@ pub fn read_float(s: &[u8], at: usize) -> Real
     }
 }
 
+// Whether a byte is a decimal digit.
+fn is_decimal(b: u8) -> bool
+    ensures { λ r. ⌜ r ≡ ltb (digit b) 10 ⌝ }
+{
+    (b >= 48) & (b < 58)
+}
+
+// The value of a decimal digit.
+fn decimal_of(b: u8) -> u64
+    requires { ⌜ digit b < 10 ⌝ }
+    ensures { λ r. ⌜ r ≡ digit b ⌝ }
+{
+    b as u64 - 48
+}
+
+// Whether a number with one digit more is within `most`. Below a tenth of `most`, which is worked out once for a
+// number, any digit is: the division is for what is left.
+fn has_room(v: u64, d: u64, most: u64, tenth: u64) -> bool
+    requires { ⌜ (d < 10) × (9 ≤ most) × (tenth ≡ most / 10) ⌝ }
+    ensures { λ r. ⌜ r ≡ leb (v * 10 + d) most ⌝ }
+{
+    if v < tenth {
+        return true;
+    }
+    v <= (most - d) / 10
+}
+
 // The decimal digits after those that make `first`.
 fn read_digits(s: &[u8], at: usize, first: u64, most: u64) -> Word64
     requires { ⌜ (at ≤ length (now s)) × (9 ≤ most) × (first ≤ most) ⌝ }
     ensures { λ r. ⌜ got (now (s .entry)) (r .val) (r .at) ≡ decimalFrom most first (drop at (now (s .entry))) ⌝ }
     ensures { λ r. ⌜ r .val ≤ most ⌝ }
 {
+    let tenth = most / 10;
     let mut k = at;
     let mut v = first;
     while k < s.len() {
-        let d = digit_value(s[k]);
-        if d >= 10 {
+        if !is_decimal(s[k]) {
             return Word64 { val: v, at: k };
         }
-        if v > (most - d) / 10 {
+        let d = decimal_of(s[k]);
+        if !has_room(v, d, most, tenth) {
             return Word64 {
                 val: 0,
                 at: s.len() + 1,
@@ -171,13 +192,13 @@ fn read_decimal(s: &[u8], at: usize, most: u64) -> Word64
             at: s.len() + 1,
         };
     }
-    let d = digit_value(s[at]);
-    if d >= 10 {
+    if !is_decimal(s[at]) {
         return Word64 {
             val: 0,
             at: s.len() + 1,
         };
     }
+    let d = decimal_of(s[at]);
     if d == 0 {
         return Word64 { val: 0, at: at + 1 };
     }
