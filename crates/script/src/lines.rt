@@ -1,7 +1,7 @@
 // Each line read at a position. No function here has a `requires`: at a position past the end no line stands.
 ghost use mathlib.Core.Path.{_≡_};
 ghost use Rattle.text.specs.Text.{rest, got};
-ghost use Rattle.text.specs.Form.{end, either, map, _&_};
+ghost use Rattle.text.specs.Form.{end, either, three, map, _&_};
 ghost use Rattle.text.specs.Form.{read as form};
 ghost use Rattle.forms.specs.Forms.{putEnd};
 ghost use Rattle.script.specs.Lines.{openLine, vertLine, faceLine, layerEnd, putLine};
@@ -16,6 +16,7 @@ use forms::parts::vertex;
 use text::read::Word32;
 use text::read::read_bytes;
 use text::read::read_u32;
+use text::read::skip_float;
 
 // A put, and the position after it.
 pub struct Entry {
@@ -56,6 +57,23 @@ pub fn read_vert(s: &[u8], at: usize) -> ReadThree
         z: p.z,
         at: read_bytes(s, p.at, b"\n"),
     }
+}
+
+// The position after h h h, which are not worked out.
+fn skip_three(s: &[u8], at: usize) -> usize
+    ensures { λ r. ⌜ rest (now (s .entry)) r ≡ form (three end) (rest (now (s .entry)) at) .text ⌝ }
+{
+    let x = skip_float(s, at);
+    let y = skip_float(s, read_bytes(s, x, b" "));
+    skip_float(s, read_bytes(s, y, b" "))
+}
+
+// The position after (vert h h h), whose floats are not worked out.
+pub fn skip_vert(s: &[u8], at: usize) -> usize
+    ensures { λ r. ⌜ rest (now (s .entry)) r ≡ form vertLine (rest (now (s .entry)) at) .text ⌝ }
+{
+    let p = skip_three(s, read_bytes(s, at, b"(vert "));
+    read_bytes(s, read_bytes(s, p, b")"), b"\n")
 }
 
 // (face N N N)

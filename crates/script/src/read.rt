@@ -23,6 +23,7 @@ use crate::lines::read_face;
 use crate::lines::read_open;
 use crate::lines::read_put;
 use crate::lines::read_vert;
+use crate::lines::skip_vert;
 use base::refusal::Checked;
 use base::refusal::Refusal;
 use kernel::kernel::Kernel;
@@ -46,11 +47,11 @@ fn check_verts(s: &[u8], at: usize, n: usize) -> usize
     let mut k = at;
     let mut i: usize = 0;
     while i < n {
-        let p = read_vert(s, k);
-        if p.at > s.len() {
+        let p = skip_vert(s, k);
+        if p > s.len() {
             return s.len() + 1;
         }
-        k = p.at;
+        k = p;
         i += 1;
     }
     k

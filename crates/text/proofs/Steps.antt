@@ -3,7 +3,7 @@ use mathlib.Core.Path.{_≡_, refl, sym, ap, _∙_}
 use mathlib.Core.List.{List, [], _∷_}
 use mathlib.Core.Bool.{Bool, true, false, _&&_, and-false, and-eq-true-iff}
 use Prim.Native.Nat.{ℕ, zero, suc, _+_, _-_, _*_, _^_, _<_, _≤_}
-use native.Mathlib.Nat.{pow-suc, pow-le-pow-right, lt-of-lt-of-le}
+use native.Mathlib.Nat.{add-zero, pow-suc, pow-le-pow-right, lt-of-lt-of-le}
 use native.Mathlib.Numerals.{add-one}
 use native.Mathlib.Decide.{decLt}
 use native.Mathlib.Omega.{arith}
@@ -98,6 +98,20 @@ pattern-done v t = refl
 pub hexes-done : (t : Text) → hexes 0 t ≡ true
 unfolding hexes
 hexes-done t = refl
+
+-- where the digits stand, the text after them is left
+pub pattern-after : (s : List ℕ) (k at v : ℕ) → at + k ≤ length s → hexes k (rest s at) ≡ true → patternFrom k v (rest s at) .text ≡ rest s (at + k)
+unfolding hexes patternFrom
+pattern-after s zero at v h g = rw add-zero refl
+pattern-after s (suc k) at v h g =
+    let hk : at < length s = omega arith in
+    let b = getD s at 0 in
+    let e : rest s at ≡ left (b ∷ drop (suc at) s) = rest-cons s at hk in
+    let both = and-eq-true-iff (ltb (digit b) 16) (hexes k (left (drop (suc at) s))) .0 (rw e at g) in
+    let n : rest s (at + 1) ≡ left (drop (suc at) s) = rest-next s at hk in
+    let m : at + suc k ≡ at + 1 + k = omega arith in
+    let ih = pattern-after s k (at + 1) (v * 16 + digit b) (omega arith) (ap (hexes k) n ∙ both .1) in
+    rw (e, both .0, m, sym n) ih
 
 module _ (s : List ℕ) (most k v : ℕ) (hk : k < length s) where
   decimal-cons : decimalFrom most v (drop k s) ≡ decimalFrom most v (getD s k 0 ∷ drop (suc k) s)

@@ -127,6 +127,22 @@ pub fn read_float(s: &[u8], at: usize) -> Real
     }
 }
 
+// The position after a float, which is not worked out.
+pub fn skip_float(s: &[u8], at: usize) -> usize
+    ensures { λ r. ⌜ rest (now (s .entry)) r ≡ float (rest (now (s .entry)) at) .text ⌝ }
+{
+    if at > s.len() {
+        return s.len() + 1;
+    }
+    if s.len() - at < 16 {
+        return s.len() + 1;
+    }
+    if has_pattern(s, at) {
+        return at + 16;
+    }
+    s.len() + 1
+}
+
 // Whether a byte is a decimal digit.
 fn is_decimal(b: u8) -> bool
     ensures { λ r. ⌜ r ≡ ltb (digit b) 10 ⌝ }

@@ -5,7 +5,7 @@ use Prim.Native.Nat.{_+_, _-_, _≤_}
 use native.Mathlib.Omega.{arith}
 use native.Mathlib.Nat.{sub-zero}
 use Rattle.text.specs.Text.{rest, Got}
-use Rattle.text.specs.Form.{Vals, _&_}
+use Rattle.text.specs.Form.{Vals, read}
 use Rattle.text.specs.TextLaws.{rest-past, rest-out}
 use Rattle.script.specs.Lines.{vertLine}
 use Rattle.script.specs.ReadOf.{linesFrom}
@@ -22,19 +22,21 @@ abbrev μ-loop : tie.MeasureT-loop
 
 returns : tie.Need-returns Inv-loop μ-loop
 returns c =
-    let a = c .before .before .before .before .before .before .args in
-    let l = c .before .before .before .before .loop in
+    let a = c .before .before .before .before .before .args in
+    let l = c .before .before .before .loop in
     let m = a .n - (l .i + 1) in
-    let p = c .before .before .read-vert in
-    rest-past (a .s .now) ∙ sym (from-lost vertLine m) ∙ (λ j. linesFrom vertLine m (sym (rest-out (a .s .now) (p .result .at) (c .if1 .taken)) j) .text)
-    ∙ sym (ap (λ (g : Got (List (Vals vertLine))). g .text) (from-more vertLine (a .n) (l .i) (rest (a .s .now) (l .k)) (rest (a .s .now) (p .result .at)) (p .result .x & p .result .y & p .result .z & tt) (c .before .before .before .loop-test .taken) (p .ensures))) ∙ l .inv .1
+    let p = c .before .skip-vert in
+    let v = read vertLine (rest (a .s .now) (l .k)) in
+    rest-past (a .s .now) ∙ sym (from-lost vertLine m) ∙ (λ j. linesFrom vertLine m (sym (rest-out (a .s .now) (p .result) (c .if1 .taken)) j) .text)
+    ∙ sym (ap (λ (g : Got (List (Vals vertLine))). g .text) (from-more vertLine (a .n) (l .i) (rest (a .s .now) (l .k)) (rest (a .s .now) (p .result)) (v .val) (c .before .before .loop-test .taken) (λ j. record { val = v .val; text = p .ensures j }))) ∙ l .inv .1
 
 loop-again : tie.Need-loop-again Inv-loop μ-loop
 loop-again c =
-    let a = c .before .before .before .before .before .before .args in
-    let l = c .before .before .before .before .loop in
-    let p = c .before .before .read-vert in
-    (omega arith, sym (ap (λ (g : Got (List (Vals vertLine))). g .text) (from-more vertLine (a .n) (l .i) (rest (a .s .now) (l .k)) (rest (a .s .now) (p .result .at)) (p .result .x & p .result .y & p .result .z & tt) (c .before .before .before .loop-test .taken) (p .ensures))) ∙ l .inv .1)
+    let a = c .before .before .before .before .before .args in
+    let l = c .before .before .before .loop in
+    let p = c .before .skip-vert in
+    let v = read vertLine (rest (a .s .now) (l .k)) in
+    (omega arith, sym (ap (λ (g : Got (List (Vals vertLine))). g .text) (from-more vertLine (a .n) (l .i) (rest (a .s .now) (l .k)) (rest (a .s .now) (p .result)) (v .val) (c .before .before .loop-test .taken) (λ j. record { val = v .val; text = p .ensures j }))) ∙ l .inv .1)
 
 returns-2 : tie.Need-returns-2 Inv-loop μ-loop
 returns-2 c =
