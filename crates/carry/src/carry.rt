@@ -13,6 +13,9 @@ use crate::check::check_carry;
 use base::refusal::Checked;
 use layout::offsets::COORDS;
 use layout::offsets::CORNERS;
+use layout::offsets::DONE;
+use layout::offsets::FINISHED;
+use layout::offsets::LAYER;
 use layout::offsets::PLACES;
 use layout::offsets::STATE;
 use layout::offsets::WIDTH;
@@ -31,9 +34,9 @@ fn write_rows(words: &mut [u32], old_words: &[u32])
         let at = WIDTH * i;
         let from = OLD_WIDTH * i;
         words[STATE + at] = old_words[STATE + from];
-        words[STATE + 1 + at] = old_words[STATE + 1 + from];
-        words[STATE + 2 + at] = old_words[STATE + 2 + from];
-        words[STATE + 3 + at] = 0;
+        words[FINISHED + at] = old_words[FINISHED + from];
+        words[DONE + at] = old_words[DONE + from];
+        words[LAYER + at] = 0;
         i += 1;
     }
 }

@@ -1,4 +1,6 @@
-// Refusals 4 to 7 of a call on a store. No exported check has a `requires`.
+// Refusals 4 to 7 of a call on a store, and 16 of a layer. The checks that a call makes have no `requires`. Internal:
+// `room`, `long_enough` and `words_sound`, by which they are made for any words to a place, have one and are called by
+// proved code alone.
 ghost use mathlib.Core.Path.{_≡_};
 ghost use mathlib.Core.Bool.{_&&_};
 ghost use Prim.Native.Nat.{_+_, _*_, _≤_};
@@ -8,6 +10,9 @@ ghost use Rattle.base.specs.Loops.{every};
 ghost use Rattle.layout.specs.Layout.{width, placeLimit, coordsFrom, stateFrom, cornersFrom, facesOf};
 ghost use Rattle.layout.specs.Soundness.{longEnough, placeSound, placeSoundAt, layerSound, layerCheck, sound, storeCheck, placeCheck, filledCheck};
 use crate::offsets::COORDS;
+use crate::offsets::DONE;
+use crate::offsets::FINISHED;
+use crate::offsets::LAYER;
 use crate::offsets::LAYERS;
 use crate::offsets::PIECES;
 use crate::offsets::PLACES;
@@ -78,18 +83,13 @@ fn record_sound(words: &[u32], q: usize, i: usize) -> bool
 {
     let at = q * i;
     let status = words[STATE + at];
-    if !place_sound(
-        status,
-        words[STATE + 1 + at],
-        words[STATE + 2 + at],
-        words[1],
-    ) {
+    if !place_sound(status, words[FINISHED + at], words[DONE + at], words[1]) {
         return false;
     }
     if q < WIDTH {
         return true;
     }
-    layer_sound(status, words[STATE + 3 + at])
+    layer_sound(status, words[LAYER + at])
 }
 
 // Whether every place's words go together.

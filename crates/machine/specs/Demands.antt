@@ -149,6 +149,7 @@ pub record Follows (q : ℕ) (exF : List Float) (exW : List ℕ) (m : Machine) (
   -- the machine after the list, and so after each part of it: the pieces in its places, which the runs hold, are those
   -- of its kernels or came by a carry, and no place has more steps than its need
   pub valid : Valid (after-all m cs .mesh) (after-all m cs .places)
+  -- of a place that a put filled these are the pieces worked afresh; a place that a carry filled starts from its own
   pub pieces : Decomposed (m .mesh .radius) (kernelsOf (after-all m cs .places))
   -- "After the list, with charged summed over the puts' answers and done over the advances', done + left + dropped =
   -- charged": left "is what an advance of 0 then answers", dropped is the machine's. What m had charged is 0 after an

@@ -32,6 +32,8 @@ use layout::offsets::CORNERS;
 use layout::offsets::LAYERS;
 use layout::runs::zero_floats;
 use layout::runs::zero_words;
+use mesh::check::FACE_LIMIT;
+use mesh::check::VERTEX_LIMIT;
 use store::put::put_sound;
 
 // The answer of the reader: vertices, faces, lines of puts.
@@ -137,10 +139,10 @@ fn check_limits(
     ensures { λ r. ⌜ r ≡ verdict (ltb vertexLimit verts) (ltb faceLimit faces) below
         (leb (coordsFrom + 3 * verts) floats) (leb (cornersFrom width + 3 * faces) words) placed layered ⌝ }
 {
-    if verts > 1_048_576 {
+    if verts > VERTEX_LIMIT {
         return Checked::Failed(Refusal::Oversize);
     }
-    if faces > 2_097_152 {
+    if faces > FACE_LIMIT {
         return Checked::Failed(Refusal::Oversize);
     }
     if !below {

@@ -1,4 +1,4 @@
-// Put. The exported call has no `requires`; a refused one changes nothing.
+// Put. The exported call has no `requires`; a refused one changes nothing. Internal: `put_sound`, which has one.
 ghost use mathlib.Core.Path.{_≡_};
 ghost use mathlib.Core.List.{[], _∷_};
 ghost use Prim.Native.Nat.{_+_, _*_, _≤_, _<_};
