@@ -23,7 +23,8 @@ use Rattle.advance.specs.Steps.{Work, work, oneFace}
 module _ (t : ℕ → Triangle) (c : V3) (m base p : ℕ) where
   -- what k faces of one piece, from d on, leave in the floats
   abbrev pub chunked : List Float → ℕ → ℕ → ℕ → List Float
-  chunked fs n d k = set fs (base + 3 * n + 2) (times (faceStep t c (getD fs (base + 3 * n) nan)) k d (getD fs (base + 3 * n + 2) nan))
+  chunked fs n d k =
+      set fs (base + 3 * n + 2) (times (faceStep t c (getD fs (base + 3 * n) nan)) k d (getD fs (base + 3 * n + 2) nan))
 
   -- k steps in one piece, none of them its last
   pub chunk-more : (fs : List Float) (n d b : ℕ) → n < p → base + 3 * n + 2 < length fs → (k : ℕ) → d + k < m → k ≤ b
@@ -43,7 +44,8 @@ module _ (t : ℕ → Triangle) (c : V3) (m base p : ℕ) where
       (ap (λ (z : Float). work (set fs at z) n (d + suc k) (b - suc k)) (sym (times-suc g k d (getD fs at nan)))))
 
   -- the same where the last of them ends the piece
-  pub chunk-end : (fs : List Float) (n d b : ℕ) → n < p → base + 3 * n + 2 < length fs → (k : ℕ) → d + suc k ≡ m → suc k ≤ b
+  pub chunk-end : (fs : List Float) (n d b : ℕ) → n < p → base + 3 * n + 2 < length fs → (k : ℕ) → d + suc k ≡ m
+      → suc k ≤ b
       → iterate (oneFace t c m base p) (suc k) (work fs n d b) ≡ work (chunked fs n d (suc k)) (n + 1) 0 (b - suc k)
   unfolding oneFace
   chunk-end fs n d b hf hl k hk hn =
@@ -58,13 +60,15 @@ module _ (t : ℕ → Triangle) (c : V3) (m base p : ℕ) where
       (ap (λ (z : Float). work (set fs at z) (n + 1) 0 (b - suc k)) (sym (times-suc g k d (getD fs at nan)))))
 
   -- a place that is finished, or no step left: nothing happens
-  pub idle : (k : ℕ) (r : Work) → ltb (r .finished) p && ltb 0 (r .budget) ≡ false → iterate (oneFace t c m base p) k r ≡ r
+  pub idle : (k : ℕ) (r : Work) → ltb (r .finished) p && ltb 0 (r .budget) ≡ false
+      → iterate (oneFace t c m base p) k r ≡ r
   unfolding oneFace
   idle zero r e = refl
   idle (suc k) r e = rw (idle k r e, e) refl
 
 -- ---- up to b steps at a place, no further than the end of its current piece
-module _ (t : ℕ → Triangle) (c : V3) (m base : ℕ) (fs : List Float) (n d b : ℕ) (h : d < m) (hl : base + 3 * n + 2 < length fs) where
+module _ (t : ℕ → Triangle) (c : V3) (m base : ℕ) (fs : List Float) (n d b : ℕ) (h : d < m)
+    (hl : base + 3 * n + 2 < length fs) where
   abbrev upTo : Work
   upTo = iterate (oneFace t c m base (n + 1)) b (work fs n d b)
 
@@ -80,17 +84,23 @@ module _ (t : ℕ → Triangle) (c : V3) (m base : ℕ) (fs : List Float) (n d b
 
   -- the steps end before it
   pub piece-more : (k : ℕ) → k ≡ b → d + k < m → upTo ≡ work (chunked t c m base (n + 1) fs n d k) n (d + k) (b - k)
-  piece-more k e hk = ap (λ (j : ℕ). iterate (oneFace t c m base (n + 1)) j (work fs n d b)) (sym e) ∙ chunk-more t c m base (n + 1) fs n d b (omega arith) hl k hk (omega arith)
+  piece-more k e hk =
+      ap (λ (j : ℕ). iterate (oneFace t c m base (n + 1)) j (work fs n d b)) (sym e)
+      ∙ chunk-more t c m base (n + 1) fs n d b (omega arith) hl k hk (omega arith)
 
 -- what `chunk` leaves
 pub left-chunk : (f f′ : List Float) (w : List ℕ) (vs ms : ℕ) (c : V3) (base n d k : ℕ)
-    → f′ ≡ set f (base + 3 * n + 2) (volumeFrom (held width f w vs ms) c (getD f (base + 3 * n) nan) d (d + k) (getD f (base + 3 * n + 2) nan))
+    → f′
+    ≡ set f (base + 3 * n + 2)
+    (volumeFrom (held width f w vs ms) c (getD f (base + 3 * n) nan) d (d + k) (getD f (base + 3 * n + 2) nan))
     → f′ ≡ chunked (held width f w vs ms) c ms base (n + 1) f n d k
 unfolding volumeFrom
 left-chunk f f′ w vs ms c base n d k r = let e : d + k - d ≡ k = omega arith in rw e at r
 
-pub meshed-same : (f f₀ : List Float) (w : List ℕ) (vs ms : ℕ) → length f ≡ length f₀ → Meshed width f₀ w vs ms → Meshed width f w vs ms
-meshed-same f f₀ w vs ms e m = record { floats = rw e (m .floats); words = m .words; verts = m .verts; faces = m .faces; corners = m .corners }
+pub meshed-same : (f f₀ : List Float) (w : List ℕ) (vs ms : ℕ) → length f ≡ length f₀ → Meshed width f₀ w vs ms
+    → Meshed width f w vs ms
+meshed-same f f₀ w vs ms e m =
+    record { floats = rw e (m .floats); words = m .words; verts = m .verts; faces = m .faces; corners = m .corners }
 
 -- ---- the loop over a place's pieces
 module _ (f₀ : List Float) (w : List ℕ) (vs ms i p n₀ d₀ b₀ : ℕ) where
@@ -107,13 +117,19 @@ module _ (f₀ : List Float) (w : List ℕ) (vs ms i p n₀ d₀ b₀ : ℕ) whe
     pub spent : b ≤ b₀
     pub state : work f n d b ≡ iterate stepHere (b₀ - b) (work f₀ n₀ d₀ b₀)
 
-  later : (k b : ℕ) (f f′ : List Float) (n d n′ d′ : ℕ) → k ≤ b → b ≤ b₀ → work f n d b ≡ iterate stepHere (b₀ - b) (work f₀ n₀ d₀ b₀)
-      → iterate stepHere k (work f n d b) ≡ work f′ n′ d′ (b - k) → work f′ n′ d′ (b - k) ≡ iterate stepHere (b₀ - (b - k)) (work f₀ n₀ d₀ b₀)
+  later : (k b : ℕ) (f f′ : List Float) (n d n′ d′ : ℕ) → k ≤ b → b ≤ b₀
+      → work f n d b ≡ iterate stepHere (b₀ - b) (work f₀ n₀ d₀ b₀)
+      → iterate stepHere k (work f n d b) ≡ work f′ n′ d′ (b - k)
+      → work f′ n′ d′ (b - k) ≡ iterate stepHere (b₀ - (b - k)) (work f₀ n₀ d₀ b₀)
   later k b f f′ n d n′ d′ hk hb s t =
       let e : b₀ - (b - k) ≡ b₀ - b + k = omega arith in
-      sym t ∙ (ap (iterate stepHere k) s ∙ (sym (iterate-add stepHere (b₀ - b) k (work f₀ n₀ d₀ b₀)) ∙ ap (λ (j : ℕ). iterate stepHere j (work f₀ n₀ d₀ b₀)) (sym e)))
+      sym t
+      ∙ (ap (iterate stepHere k) s
+      ∙ (sym (iterate-add stepHere (b₀ - b) k (work f₀ n₀ d₀ b₀))
+      ∙ ap (λ (j : ℕ). iterate stepHere j (work f₀ n₀ d₀ b₀)) (sym e)))
 
-  module _ (hf : coordsFrom ≤ length f₀) (hi : i < 32) (hp : p ≤ 16) (f : List Float) (n d b : ℕ) (g : Going f n d b) (h : n < p) (hb : b ≡ 0 → ⊥) where
+  module _ (hf : coordsFrom ≤ length f₀) (hi : i < 32) (hp : p ≤ 16) (f : List Float) (n d b : ℕ) (g : Going f n d b)
+      (h : n < p) (hb : b ≡ 0 → ⊥) where
     abbrev t : ℕ → Triangle
     t = held width f₀ w vs ms
 
@@ -136,7 +152,9 @@ module _ (f₀ : List Float) (w : List ℕ) (vs ms i p n₀ d₀ b₀ : ℕ) whe
             part = λ _. omega arith;
             low = omega arith;
             spent = omega (arith, g .spent);
-            state = later (suc k) b f (next (suc k)) n d (n + 1) 0 (omega arith) (g .spent) (g .state) (chunk-end _ _ _ _ _ f n d b h (omega arith) k (omega arith) (omega arith));
+            state =
+                later (suc k) b f (next (suc k)) n d (n + 1) 0 (omega arith) (g .spent) (g .state)
+                (chunk-end _ _ _ _ _ f n d b h (omega arith) k (omega arith) (omega arith));
           },
           omega arith,
         )
@@ -151,13 +169,17 @@ module _ (f₀ : List Float) (w : List ℕ) (vs ms i p n₀ d₀ b₀ : ℕ) whe
             part = λ _. omega arith;
             low = omega arith;
             spent = omega (arith, g .spent);
-            state = later k b f (next k) n d n (d + k) (omega arith) (g .spent) (g .state) (chunk-more _ _ _ _ _ f n d b h (omega arith) k (omega arith) (omega arith));
+            state =
+                later k b f (next k) n d n (d + k) (omega arith) (g .spent) (g .state)
+                (chunk-more _ _ _ _ _ f n d b h (omega arith) k (omega arith) (omega arith));
           },
           omega arith,
         )
 
     -- what `run_piece` leaves
-    pub turn : (r : Work) → r ≡ iterate (oneFace (held width f w vs ms) (centreAt f₀ i) ms (225 + 48 * i) (n + 1)) b (work f n d b) → Onward r
+    pub turn : (r : Work)
+        → r ≡ iterate (oneFace (held width f w vs ms) (centreAt f₀ i) ms (225 + 48 * i) (n + 1)) b (work f n d b)
+        → Onward r
     turn r e = go (ltb b (ms - d)) refl
       where
         z : d < ms
@@ -170,12 +192,21 @@ module _ (f₀ : List Float) (w : List ℕ) (vs ms i p n₀ d₀ b₀ : ℕ) whe
         q = rw (g .mesh) at e
 
         go : (x : Bool) → ltb b (ms - d) ≡ x → Onward r
-        go true u = let v = ltb-true b (ms - d) u in subst Onward (sym (q ∙ piece-more t (centreAt f₀ i) ms (225 + 48 * i) f n d b z l b refl (omega arith))) (turn-more b refl (omega arith))
-        go false u = let v = ltb-false b (ms - d) u in subst Onward (sym (q ∙ piece-end t (centreAt f₀ i) ms (225 + 48 * i) f n d b z l (ms - d) refl v)) (turn-end (ms - d) refl v)
+        go true u =
+            let v = ltb-true b (ms - d) u in
+            subst Onward (sym (q ∙ piece-more t (centreAt f₀ i) ms (225 + 48 * i) f n d b z l b refl (omega arith)))
+            (turn-more b refl (omega arith))
+        go false u =
+            let v = ltb-false b (ms - d) u in
+            subst Onward (sym (q ∙ piece-end t (centreAt f₀ i) ms (225 + 48 * i) f n d b z l (ms - d) refl v))
+            (turn-end (ms - d) refl v)
 
   -- it ends where no step is left, or no piece
-  pub stopped : (f : List Float) (n d b : ℕ) → Going f n d b → ltb n p && ltb 0 b ≡ false → work f n d b ≡ iterate stepHere b₀ (work f₀ n₀ d₀ b₀)
+  pub stopped : (f : List Float) (n d b : ℕ) → Going f n d b → ltb n p && ltb 0 b ≡ false
+      → work f n d b ≡ iterate stepHere b₀ (work f₀ n₀ d₀ b₀)
   stopped f n d b g e =
       let q : b₀ - b + b ≡ b₀ = omega (arith, g .spent) in
       sym (idle _ _ _ _ _ b (work f n d b) e) ∙ (ap (iterate stepHere b) (g .state)
-      ∙ (sym (iterate-add stepHere (b₀ - b) b (work f₀ n₀ d₀ b₀)) ∙ ap (λ (j : ℕ). iterate stepHere j (work f₀ n₀ d₀ b₀)) q))
+      ∙
+      (sym (iterate-add stepHere (b₀ - b) b (work f₀ n₀ d₀ b₀))
+      ∙ ap (λ (j : ℕ). iterate stepHere j (work f₀ n₀ d₀ b₀)) q))

@@ -52,10 +52,14 @@ pub record Standing : Type 0 where
 abbrev pub standing : List Float → List ℕ → ℕ → Standing
 standing fs ws b = record { floats = fs; words = ws; budget = b }
 
+-- place i, of `count` pieces, at work until its steps are spent
+abbrev pub workedFrom : (ℕ → Triangle) → V3 → ℕ → ℕ → ℕ → Work → Work
+workedFrom t c m i count r = iterate (oneFace t c m (piecesFrom i) count) (r .budget) r
+
 -- the steps that place i takes of them
 unfoldable pub placeWork : ℕ → (ℕ → Triangle) → ℕ → ℕ → Standing → Work
 placeWork q t m i s =
-    iterate (oneFace t (centreAt (s .floats) i) m (piecesFrom i) (statusOf q (s .words) i - 1)) (s .budget)
+    workedFrom t (centreAt (s .floats) i) m i (statusOf q (s .words) i - 1)
     (work (s .floats) (finishedOf q (s .words) i) (doneOf q (s .words) i) (s .budget))
 
 -- with its words written back

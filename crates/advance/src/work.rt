@@ -9,7 +9,7 @@ ghost use Rattle.volume.specs.Volume.{volumeFrom};
 ghost use Rattle.layout.specs.Layout.{centreAt, width, placeLimit, piecesFrom, coordsFrom, statusOf, finishedOf, doneOf};
 ghost use Rattle.layout.specs.SoundLaws.{Ready, Meshed, Worded};
 ghost use Rattle.layout.specs.Left.{held};
-ghost use Rattle.advance.specs.Steps.{work, oneFace, standing, placeWork, stored, placesRun};
+ghost use Rattle.advance.specs.Steps.{work, workedFrom, standing, placeWork, stored, placesRun};
 use layout::left::pieces;
 use layout::offsets::COORDS;
 use layout::offsets::CORNERS;
@@ -118,7 +118,10 @@ fn run_place(
     requires { ⌜ Meshed width (now floats) (now words) verts faces ⌝
         ∗ ⌜ Ready faces i count (start .finished) (start .done) ⌝ }
     ensures { λ r. ⌜ work (now (floats .exit)) (r .finished) (r .done) (r .budget)
-        ≡ iterate (oneFace (held width (now (floats .entry)) (now (words .entry)) verts faces) (centreAt (now (floats .entry)) i) faces (piecesFrom i) count) (start .budget) (work (now (floats .entry)) (start .finished) (start .done) (start .budget)) ⌝ ∗ ⌜ (r .finished ≤ count) × (r .done ≤ faces) ⌝ }
+        ≡ workedFrom (held width (now (floats .entry)) (now (words .entry)) verts faces)
+        (centreAt (now (floats .entry)) i) faces i count
+        (work (now (floats .entry)) (start .finished) (start .done) (start .budget)) ⌝
+        ∗ ⌜ (r .finished ≤ count) × (r .done ≤ faces) ⌝ }
 {
     let at = KERNEL_SIZE * i;
     let c = V3 {

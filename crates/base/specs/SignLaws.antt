@@ -161,7 +161,11 @@ zero-over (fin t n d) h = go (eqb n 0) refl h
         (cond b nan (round binary64 (unlike false t) (0 * 1 * down d) (n * up d * 1))) ≡ true → ⊥
     go true e k = false≢true k
     go false e k = zero-not-above (unlike false t)
-        (sym (ap (lt +0) (round-zero (unlike false t) (0 * 1 * down d) (n * up d * 1) (zero-mul (down d)) (mul-pos (mul-pos (some e) (up-pos d)) (lit< tt)))) ∙ k)
+        (sym
+        (ap (lt +0)
+        (round-zero (unlike false t) (0 * 1 * down d) (n * up d * 1) (zero-mul (down d))
+        (mul-pos (mul-pos (some e) (up-pos d)) (lit< tt))))
+        ∙ k)
 
 -- it is the same with all three signs turned
 pub quotient-neg : (x y z : Float) → lt +0 ((x ⊖ y) ⊘ z) ≡ true → (neg x ⊖ neg y) ⊘ neg z ≡ (x ⊖ y) ⊘ z

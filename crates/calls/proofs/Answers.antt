@@ -29,7 +29,7 @@ use Rattle.advance.specs.declared.advance.Advanced.the-variants.{Steps, Refused
 use Rattle.readings.specs.ReportAnswer.{reportRead}
 use Rattle.readings.specs.declared.reports.Reported.{Reported}
 use Rattle.readings.specs.declared.reports.Reported.the-variants.{Report, Refused as Unreported}
-use Rattle.forms.specs.Answers.{openAnswer, putAnswer, densityAnswer, advanceAnswer, clearAnswer, reweighAnswer, reportAnswer}
+use Rattle.forms.specs.Answers.{openAnswer, putAnswer, densityAnswer, advanceAnswer, clearAnswer, reweighAnswer, reportAnswer, reportIn}
 use Rattle.calls.specs.Texts.{lined, noText, openText, putText, densityText, advanceText, clearText, reweighText, reportText}
 
 -- a text that is another one
@@ -38,7 +38,8 @@ wrote-as {o} {o′ = o′} {at} {r} e w = subst (λ (l : List ℕ). Wrote o at l
 
 -- a call that answers a, whose text is t, leaves the store and writes the text that its definition says
 pub answering : (text : Answer → List ℕ) {a : Answer} {s : After} {fs : List Float} {ws t o o′ : List ℕ} {r : ℕ} →
-    text a ≡ t → after a fs ws ≡ s → Wrote o 0 t r o′ → (fs ≡ s .floats) × ((ws ≡ s .words) × Wrote o 0 (text (s .reply)) r o′)
+    text a ≡ t → after a fs ws ≡ s → Wrote o 0 t r o′
+    → (fs ≡ s .floats) × ((ws ≡ s .words) × Wrote o 0 (text (s .reply)) r o′)
 answering text u e w = ((λ i. e i .floats), ((λ i. e i .words), wrote-as (sym u ∙ (λ i. text (e i .reply))) w))
 
 -- a reading that answers a, whose text is t, writes the text that its definition says
@@ -55,7 +56,8 @@ pub open-refused : {x : Opened} {r : Refusal} → x ≡ Unopened r → openText 
 unfolding openText
 open-refused {r} e = rw (e, never-zero r) refl
 
-pub put-done : (place : ℕ) {x : Placed} {p n : ℕ} {f : Fit} → x ≡ Needs p n f → putText place (placed x) ≡ lined (print putAnswer (place & p & n & tt))
+pub put-done : (place : ℕ) {x : Placed} {p n : ℕ} {f : Fit} → x ≡ Needs p n f
+    → putText place (placed x) ≡ lined (print putAnswer (place & p & n & tt))
 unfolding putText
 put-done place e = rw (e) refl
 
@@ -63,23 +65,28 @@ pub put-refused : (place : ℕ) {x : Placed} {r : Refusal} → x ≡ Unplaced r 
 unfolding putText
 put-refused place {r} e = rw (e, never-zero r) refl
 
-pub clear-done : (place : ℕ) {x : Edited} → x ≡ Done → clearText place (edited x) ≡ lined (print clearAnswer (place & tt))
+pub clear-done : (place : ℕ) {x : Edited} → x ≡ Done
+    → clearText place (edited x) ≡ lined (print clearAnswer (place & tt))
 unfolding clearText
 clear-done place e = rw (e) refl
 
-pub clear-refused : (place : ℕ) {x : Edited} {r : Refusal} → x ≡ Unedited r → clearText place (edited x) ≡ noText (number r)
+pub clear-refused : (place : ℕ) {x : Edited} {r : Refusal} → x ≡ Unedited r
+    → clearText place (edited x) ≡ noText (number r)
 unfolding clearText
 clear-refused place {r} e = rw (e, never-zero r) refl
 
-pub reweigh-done : (place : ℕ) {x : Edited} → x ≡ Done → reweighText place (edited x) ≡ lined (print reweighAnswer (place & tt))
+pub reweigh-done : (place : ℕ) {x : Edited} → x ≡ Done
+    → reweighText place (edited x) ≡ lined (print reweighAnswer (place & tt))
 unfolding reweighText
 reweigh-done place e = rw (e) refl
 
-pub reweigh-refused : (place : ℕ) {x : Edited} {r : Refusal} → x ≡ Unedited r → reweighText place (edited x) ≡ noText (number r)
+pub reweigh-refused : (place : ℕ) {x : Edited} {r : Refusal} → x ≡ Unedited r
+    → reweighText place (edited x) ≡ noText (number r)
 unfolding reweighText
 reweigh-refused place {r} e = rw (e, never-zero r) refl
 
-pub advance-done : {x : Advanced} {d l : ℕ} → x ≡ Steps d l → advanceText (advanced x) ≡ lined (print advanceAnswer (d & l & tt))
+pub advance-done : {x : Advanced} {d l : ℕ} → x ≡ Steps d l
+    → advanceText (advanced x) ≡ lined (print advanceAnswer (d & l & tt))
 unfolding advanceText
 advance-done e = rw (e) refl
 
@@ -87,7 +94,8 @@ pub advance-refused : {x : Advanced} {r : Refusal} → x ≡ Unadvanced r → ad
 unfolding advanceText
 advance-refused {r} e = rw (e, never-zero r) refl
 
-pub density-done : {x : Measured} {v : Float} → x ≡ Value v → densityText (measuredAs x) ≡ lined (print densityAnswer (v & tt))
+pub density-done : {x : Measured} {v : Float} → x ≡ Value v
+    → densityText (measuredAs x) ≡ lined (print densityAnswer (v & tt))
 unfolding densityText
 density-done e = rw (e) refl
 
@@ -95,9 +103,9 @@ pub density-refused : {x : Measured} {r : Refusal} → x ≡ Unmeasured r → de
 unfolding densityText
 density-refused {r} e = rw (e, never-zero r) refl
 
-pub report-done : {x : Reported} {m : MassReport} {filled pieces : ℕ} {worst : Float} → x ≡ Report m filled pieces worst →
-    reportText (reportRead x) ≡ lined (print reportAnswer
-    (m .«raw_mass» & m .«rho0_scale» & m .«rho0_mass» & m .«applied_scale» & m .«applied_mass» & m .«target_mass» & m .volume & filled & pieces & worst & tt))
+pub report-done : {x : Reported} {m : MassReport} {filled pieces : ℕ} {worst : Float}
+    → x ≡ Report m filled pieces worst
+    → reportText (reportRead x) ≡ lined (print reportAnswer (reportIn m filled pieces worst))
 unfolding reportText
 report-done e = rw (e) refl
 

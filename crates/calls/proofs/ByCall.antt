@@ -18,9 +18,15 @@ use Rattle.calls.specs.Calls.{Called, called, looked, asKernel, callOf}
 
 -- the runs and what was written, where another call is made that is the same
 pub calling : {x y : Called} {fs : List Float} {ws o o′ : List ℕ} {r : ℕ} → x ≡ y →
-    (r ≤ 256) × ((fs ≡ y .floats) × ((ws ≡ y .words) × Wrote o 0 (y .text) r o′)) → (r ≤ 256) × ((fs ≡ x .floats) × ((ws ≡ x .words) × Wrote o 0 (x .text) r o′))
-calling {o} {o′ = o′} {r} e (b, (f, (v, w))) =
-    (b, (f ∙ (λ i. sym e i .floats), (v ∙ (λ i. sym e i .words), subst (λ (t : List ℕ). Wrote o 0 t r o′) (λ i. sym e i .text) w)))
+    (r ≤ 256) × ((fs ≡ y .floats) × ((ws ≡ y .words) × Wrote o 0 (y .text) r o′))
+    → (r ≤ 256) × ((fs ≡ x .floats) × ((ws ≡ x .words) × Wrote o 0 (x .text) r o′))
+calling {o} {o′ = o′} {r} e (b, (f, (v, w))) = (
+  b,
+  (
+    f ∙ (λ i. sym e i .floats),
+    (v ∙ (λ i. sym e i .words), subst (λ (t : List ℕ). Wrote o 0 t r o′) (λ i. sym e i .text) w),
+  ),
+)
 
 -- a call that leaves the store as it is
 pub looking : {x : Called} {fs : List Float} {ws t o o′ : List ℕ} {r : ℕ} → x ≡ looked fs ws t →
@@ -28,12 +34,14 @@ pub looking : {x : Called} {fs : List Float} {ws t o o′ : List ℕ} {r : ℕ} 
 looking e (b, w) = calling e (b, (refl, (refl, w)))
 
 -- ---- each call
-pub put-call : (fs : List Float) (ws : List ℕ) {c : Call} {place : ℕ} {x y z sigma w alpha : Float} → c ≡ Put place x y z sigma w alpha →
+pub put-call : (fs : List Float) (ws : List ℕ) {c : Call} {place : ℕ} {x y z sigma w alpha : Float}
+    → c ≡ Put place x y z sigma w alpha →
     callOf fs ws c ≡ called (putText place) (putStep width fs ws place (asKernel x y z sigma w alpha) 0)
 unfolding callOf
 put-call fs ws e = rw (e) refl
 
-pub clear-call : (fs : List Float) (ws : List ℕ) {c : Call} {place : ℕ} → c ≡ Clear place → callOf fs ws c ≡ called (clearText place) (clearStep width fs ws place)
+pub clear-call : (fs : List Float) (ws : List ℕ) {c : Call} {place : ℕ} → c ≡ Clear place
+    → callOf fs ws c ≡ called (clearText place) (clearStep width fs ws place)
 unfolding callOf
 clear-call fs ws e = rw (e) refl
 
@@ -42,7 +50,8 @@ pub reweigh-call : (fs : List Float) (ws : List ℕ) {c : Call} {place : ℕ} {w
 unfolding callOf
 reweigh-call fs ws e = rw (e) refl
 
-pub advance-call : (fs : List Float) (ws : List ℕ) {c : Call} {n : ℕ} → c ≡ Advance n → callOf fs ws c ≡ called advanceText (advanceStep width fs ws n)
+pub advance-call : (fs : List Float) (ws : List ℕ) {c : Call} {n : ℕ} → c ≡ Advance n
+    → callOf fs ws c ≡ called advanceText (advanceStep width fs ws n)
 unfolding callOf
 advance-call fs ws e = rw (e) refl
 

@@ -54,5 +54,6 @@ unfoldable pub reportText : Answer → List ℕ
 reportText a =
     told
     (print reportAnswer
-    (floatOf a 0 & floatOf a 1 & floatOf a 2 & floatOf a 3 & floatOf a 4 & floatOf a 5 & floatOf a 6 & countOf a 0 & countOf a 1 & floatOf a 7 & tt))
+    (floatOf a 0 & floatOf a 1 & floatOf a 2 & floatOf a 3 & floatOf a 4 & floatOf a 5 & floatOf a 6 & countOf a 0
+    & countOf a 1 & floatOf a 7 & tt))
     a

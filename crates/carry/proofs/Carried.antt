@@ -25,13 +25,16 @@ pub record Carries (fs : List Float) (ws : List ℕ) (gs : List Float) (us : Lis
   pub words : cornersFrom width + 3 * facesOf ws ≤ length us
   pub floats : coordsFrom + 3 * vertsOf ws ≤ length gs
 
-pub carry-passes : (fs : List Float) (ws : List ℕ) (gs : List Float) (us : List ℕ) → carryCheck fs ws gs us ≡ Passed → Carries fs ws gs us
+pub carry-passes : (fs : List Float) (ws : List ℕ) (gs : List Float) (us : List ℕ) → carryCheck fs ws gs us ≡ Passed
+    → Carries fs ws gs us
 unfolding carryCheck storeCheck
 carry-passes fs ws gs us h = go (longEnough oldWidth fs ws) (roomFor ws gs us) (sound oldWidth ws) refl refl refl
   where
-    go : (a b d : Bool) → longEnough oldWidth fs ws ≡ a → roomFor ws gs us ≡ b → sound oldWidth ws ≡ d → Carries fs ws gs us
+    go : (a b d : Bool) → longEnough oldWidth fs ws ≡ a → roomFor ws gs us ≡ b → sound oldWidth ws ≡ d
+        → Carries fs ws gs us
     go true true true x y z =
-        let r = both (leb (cornersFrom width + 3 * facesOf ws) (length us)) (leb (coordsFrom + 3 * vertsOf ws) (length gs)) y in
+        let r = both (leb (cornersFrom width + 3 * facesOf ws) (length us))
+        (leb (coordsFrom + 3 * vertsOf ws) (length gs)) y in
         record {
           old = fine oldWidth fs ws (rw (x, z) refl);
           words = leb-true (cornersFrom width + 3 * facesOf ws) (length us) (r .0);
@@ -57,12 +60,16 @@ pub none-rowed : (l ws : List ℕ) → Rowed l ws 0 l
 unfolding carriedRows
 none-rowed l ws = record { within = omega arith; long = refl; same = sym (write-none l 2) }
 
-module _ {l ws : List ℕ} {k : ℕ} {u : List ℕ} (c : Rowed l ws k u) (h : k < placeLimit) (b : cornersFrom width ≤ length l) where
+module _ {l ws : List ℕ} {k : ℕ} {u : List ℕ} (c : Rowed l ws k u) (h : k < placeLimit)
+    (b : cornersFrom width ≤ length l) where
   abbrev row : List ℕ
   row = statusOf oldWidth ws k ∷ finishedOf oldWidth ws k ∷ doneOf oldWidth ws k ∷ 0 ∷ []
 
   abbrev filled : List ℕ
-  filled = set (set (set (set u (2 + 4 * k) (statusOf oldWidth ws k)) (3 + 4 * k) (finishedOf oldWidth ws k)) (4 + 4 * k) (doneOf oldWidth ws k)) (5 + 4 * k) 0
+  filled =
+      set
+      (set (set (set u (2 + 4 * k) (statusOf oldWidth ws k)) (3 + 4 * k) (finishedOf oldWidth ws k)) (4 + 4 * k)
+      (doneOf oldWidth ws k)) (5 + 4 * k) 0
 
   filled-is : filled ≡ write l 2 (carriedRows ws (k + 1))
   unfolding carriedRows

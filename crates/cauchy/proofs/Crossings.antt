@@ -1,4 +1,5 @@
--- An answer can be read off what C gets: the number is 0 just where nothing is refused, and no value is lost. Assumes nothing.
+-- An answer can be read off what C gets: the number is 0 just where nothing is refused, and no value is lost. Assumes
+-- nothing.
 use Prim.Native.Nat.{ℕ}
 use mathlib.Core.Path.{_≡_, refl}
 use mathlib.Core.Bool.{cond}
@@ -52,7 +53,8 @@ use Rattle.cauchy.specs.StoreCrossing.{openedFrom, placedFrom, stepsFrom
 
 -- the reply of a number and values, which count where the number is 0
 abbrev pub told : ℕ → List ℕ → List Float → Answer
-told n ns xs = cond (eqb n 0) (record { refusal = 0; counts = ns; floats = xs }) (record { refusal = n; counts = []; floats = [] })
+told n ns xs =
+    cond (eqb n 0) (record { refusal = 0; counts = ns; floats = xs }) (record { refusal = n; counts = []; floats = [] })
 
 -- the solver's reply, where the number 11 comes with a column and any other refusal with none
 abbrev pub toldSolved : CauchySolved → Answer
@@ -67,11 +69,14 @@ flat column = refl
 pub bad-matrix : toldSolved (solvedFrom (solvedAs (Refused BadMatrix))) ≡ solvedAs (Refused BadMatrix)
 bad-matrix = refl
 
-pub decomposes : (d : Decomposed) → let c = piecesFrom (decomposedAs d) in told (c .no) (c .pieces ∷ c .fit .kind ∷ c .fit .column ∷ []) (c .error ∷ c .fit .pivot ∷ []) ≡ decomposedAs d
+pub decomposes : (d : Decomposed)
+    → let c = piecesFrom (decomposedAs d) in
+    told (c .no) (c .pieces ∷ c .fit .kind ∷ c .fit .column ∷ []) (c .error ∷ c .fit .pivot ∷ []) ≡ decomposedAs d
 decomposes (decomposing.Written n e f) = refl
 decomposes (decomposing.Refused r) = rw (never-zero r) refl
 
-pub list-decomposes : (d : DecomposedList) → let c = listPiecesFrom (listedAs d) in told (c .no) (c .kernels ∷ c .pieces ∷ []) (c .error ∷ []) ≡ listedAs d
+pub list-decomposes : (d : DecomposedList)
+    → let c = listPiecesFrom (listedAs d) in told (c .no) (c .kernels ∷ c .pieces ∷ []) (c .error ∷ []) ≡ listedAs d
 list-decomposes (spreading.Written n m e) = refl
 list-decomposes (spreading.Refused r) = rw (never-zero r) refl
 
@@ -79,7 +84,9 @@ pub opens : (o : Opened) → let c = openedFrom (opened o) in told (c .no) (c .v
 opens (opening.Mesh verts faces) = refl
 opens (opening.Refused r) = rw (never-zero r) refl
 
-pub places : (p : Placed) → let c = placedFrom (placed p) in told (c .no) (c .pieces ∷ c .need ∷ c .fit .kind ∷ c .fit .column ∷ []) (c .fit .pivot ∷ []) ≡ placed p
+pub places : (p : Placed)
+    → let c = placedFrom (placed p) in
+    told (c .no) (c .pieces ∷ c .need ∷ c .fit .kind ∷ c .fit .column ∷ []) (c .fit .pivot ∷ []) ≡ placed p
 places (placing.Needs pieces need fit) = refl
 places (placing.Refused r) = rw (never-zero r) refl
 
@@ -91,7 +98,10 @@ pub values : (d : Measured) → let c = valueFrom (measuredAs d) in told (c .no)
 values (measured.Value x) = refl
 values (measured.Refused r) = rw (never-zero r) refl
 
-pub reports : (d : Reported) → let c = reportFrom (reportRead d) in let s = reported (c .report) (c .kernels) (c .pieces) (c .error) in told (c .no) (s .counts) (s .floats) ≡ reportRead d
+pub reports : (d : Reported)
+    → let c = reportFrom (reportRead d) in
+    let s = reported (c .report) (c .kernels) (c .pieces) (c .error) in
+    told (c .no) (s .counts) (s .floats) ≡ reportRead d
 reports (reporting.Report mass filled pieces error) = refl
 reports (reporting.Refused r) = rw (never-zero r) refl
 
@@ -107,6 +117,7 @@ pub bills : (b : Billed) → let c = billFrom (billed b) in told (c .no) (c .ste
 bills (billing.Due steps floats) = refl
 bills (billing.Refused r) = rw (never-zero r) refl
 
-pub converts : (o : Converted) → let c = convertedFrom (convertedAs o) in told (c .no) (c .kernels ∷ []) [] ≡ convertedAs o
+pub converts : (o : Converted)
+    → let c = convertedFrom (convertedAs o) in told (c .no) (c .kernels ∷ []) [] ≡ convertedAs o
 converts (converting.Written n) = refl
 converts (converting.Refused r) = rw (never-zero r) refl

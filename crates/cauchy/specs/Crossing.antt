@@ -57,12 +57,20 @@ noFit = record { kind = 0; column = 0; pivot = +0 }
 
 -- and as an answer carries it: kind and column from count i on, the pivot at float j
 abbrev pub fitFrom : ℕ → ℕ → Answer → CauchyFit
-fitFrom i j a = record { kind = getD (a .counts) i 0; column = getD (a .counts) (i + 1) 0; pivot = getD (a .floats) j +0 }
+fitFrom i j a =
+    record { kind = getD (a .counts) i 0; column = getD (a .counts) (i + 1) 0; pivot = getD (a .floats) j +0 }
 
 -- ---- a kernel's pieces
 abbrev pub piecesFrom : Answer → CauchyPieces
-piecesFrom a = record { no = a .refusal; pieces = getD (a .counts) 0 0; error = getD (a .floats) 0 +0; fit = fitFrom 1 1 a }
+piecesFrom a =
+    record { no = a .refusal; pieces = getD (a .counts) 0 0; error = getD (a .floats) 0 +0; fit = fitFrom 1 1 a }
 
 -- ---- a list's pieces
 abbrev pub listPiecesFrom : Answer → CauchyListPieces
-listPiecesFrom a = record { no = a .refusal; kernels = getD (a .counts) 0 0; pieces = getD (a .counts) 1 0; error = getD (a .floats) 0 +0 }
+listPiecesFrom a =
+    record {
+      no = a .refusal;
+      kernels = getD (a .counts) 0 0;
+      pieces = getD (a .counts) 1 0;
+      error = getD (a .floats) 0 +0;
+    }

@@ -46,7 +46,8 @@ openedFrom a = record { no = a .refusal; verts = getD (a .counts) 0 0; faces = g
 
 -- put: "pieces and need", and how the fit ended
 abbrev pub placedFrom : Answer → CauchyPlaced
-placedFrom a = record { no = a .refusal; pieces = getD (a .counts) 0 0; need = getD (a .counts) 1 0; fit = fitFrom 2 0 a }
+placedFrom a =
+    record { no = a .refusal; pieces = getD (a .counts) 0 0; need = getD (a .counts) 1 0; fit = fitFrom 2 0 a }
 
 -- advance: "done, beside left"
 abbrev pub stepsFrom : Answer → CauchySteps

@@ -136,7 +136,8 @@ proper {v} (x ∷ y ∷ z ∷ ks) d s e n =
     two = and-eq-true-iff (not (eqb x y) && not (eqb y z)) (not (eqb z x)) .0 three .0
 
     this : (p q : ℕ) → p < v → q < v → not (eqb p q) ≡ true → same (edge p q) e ≡ true → Proper v e
-    this p q hp hq w m = rw (← same-is (edge p q) e m) (record { tail = hp; head = hq; apart = eqb-false p q (not-true (eqb p q) w) })
+    this p q hp hq w m =
+        rw (← same-is (edge p q) e m) (record { tail = hp; head = hq; apart = eqb-false p q (not-true (eqb p q) w) })
 
     go : (p q r : Bool) → same (edge x y) e ≡ p → same (edge y z) e ≡ q → same (edge z x) e ≡ r
         → 1 ≤ cond p 1 0 + (cond q 1 0 + (cond r 1 0 + occurrences e (edges ks)))
@@ -207,9 +208,12 @@ edged c (x ∷ y ∷ z ∷ ks) n = go (eqb (code x y) c) (eqb (code y z) c) (eqb
   where
     go : (p q r : Bool) → eqb (code x y) c ≡ p → eqb (code y z) c ≡ q → eqb (code z x) c ≡ r
         → (1 ≤ tally c ks → Edged c ks) → Edged c (x ∷ y ∷ z ∷ ks)
-    go true q r i j k f = record { a = x; b = y; number = eqb-true (code x y) c i; occurs = rw (same-self (edge x y)) (omega arith) }
-    go false true r i j k f = record { a = y; b = z; number = eqb-true (code y z) c j; occurs = rw (same-self (edge y z)) (omega arith) }
-    go false false true i j k f = record { a = z; b = x; number = eqb-true (code z x) c k; occurs = rw (same-self (edge z x)) (omega arith) }
+    go true q r i j k f =
+        record { a = x; b = y; number = eqb-true (code x y) c i; occurs = rw (same-self (edge x y)) (omega arith) }
+    go false true r i j k f =
+        record { a = y; b = z; number = eqb-true (code y z) c j; occurs = rw (same-self (edge y z)) (omega arith) }
+    go false false true i j k f =
+        record { a = z; b = x; number = eqb-true (code z x) c k; occurs = rw (same-self (edge z x)) (omega arith) }
     go false false false i j k f =
         let p = is-no (code x y) c (eqb-false (code x y) c i) in
         let q = is-no (code y z) c (eqb-false (code y z) c j) in
@@ -289,7 +293,8 @@ swept {ks = ks} d h s false f = passes-is ks d (unmatched-fails d h s (f .1 refl
 
 -- ---- a mesh that passes the check of 1, 2 and 3
 pub passed-below : (n : ℕ) (ks : List ℕ) → meshCheck n ks ≡ Passed → Below (n / 3) ks
-passed-below n ks h = let s = passed-sound {n = n} {corners = ks} h in record { corner = λ k l. let g = s .corner k l in omega arith }
+passed-below n ks h =
+    let s = passed-sound {n = n} {corners = ks} h in record { corner = λ k l. let g = s .corner k l in omega arith }
 
 pub passed-limits : (n : ℕ) (ks : List ℕ) → meshCheck n ks ≡ Passed → (n / 3 ≤ 1048576) × (length ks ≤ 6291456)
 unfolding meshCheck

@@ -135,7 +135,15 @@ pub gathered-none : {ks xs : List ℕ} {low : ℕ} {b : Batch} → b .count ≡ 
 unfolding copies
 gathered-none {ks} {xs} {low} {b} z d l e h =
     record {
-      sound = record { long = l; room = omega arith; listed = d; first = omega arith; last = e; within = all-none (omega arith) };
+      sound =
+          record {
+            long = l;
+            room = omega arith;
+            listed = d;
+            first = omega arith;
+            last = e;
+            within = all-none (omega arith);
+          };
       same = λ c f g. ap (λ (n : ℕ). copies c xs n + tally c ks) z ∙ zero-add (tally c ks);
       stuck = λ g. absurd (omega arith);
     }
@@ -148,7 +156,15 @@ unfolding tally
 face-put {ks} {low} {i} g h r f =
     let s = g .sound in
     record {
-      sound = record { long = f .long ∙ s .long; room = let e = f .more in omega arith; listed = s .listed; first = s .first; last = s .last; within = f .within (s .within) };
+      sound =
+          record {
+            long = f .long ∙ s .long;
+            room = let e = f .more in omega arith;
+            listed = s .listed;
+            first = s .first;
+            last = s .last;
+            within = f .within (s .within);
+          };
       same = λ c k j.
           let t = ap (tally c) (peel ks i h) in
           let o = g .same c k j in
@@ -160,7 +176,12 @@ face-put {ks} {low} {i} g h r f =
 -- the faces from i to j have no number of the range
 further : {ks : List ℕ} {low i j : ℕ} {b : Batch} {xs : List ℕ} → Gathered ks low b xs i
     → ((c : ℕ) → 2 * low ≤ c → c < 2 * b .end → tally c (drop j ks) ≡ tally c (drop i ks)) → Gathered ks low b xs j
-further {b = b} {xs = xs} g f = record { sound = g .sound; same = λ c h l. ap (λ (z : ℕ). copies c xs (b .count) + z) (f c h l) ∙ g .same c h l; stuck = g .stuck }
+further {b = b} {xs = xs} g f =
+    record {
+      sound = g .sound;
+      same = λ c h l. ap (λ (z : ℕ). copies c xs (b .count) + z) (f c h l) ∙ g .same c h l;
+      stuck = g .stuck;
+    }
 
 pub gathered-at : {ks : List ℕ} {low i j : ℕ} {b : Batch} {xs : List ℕ} → Gathered ks low b xs i → i ≡ j
     → Gathered ks low b xs j
@@ -199,7 +220,8 @@ module _ {low m : ℕ} {b : Batch} {xs ys : List ℕ} (t : Sound low b xs) (four
       let v = o .rising .order i (m - 1) (omega arith) (omega arith) (omega arith) in
       omega arith
 
-  pub halved : {d : ℕ} → d ≤ 384 → Halved low b xs (record { count = m; end = getD ys (b .count / 2) 0 / 2; depth = d }) ys
+  pub halved : {d : ℕ} → d ≤ 384
+      → Halved low b xs (record { count = m; end = getD ys (b .count / 2) 0 / 2; depth = d }) ys
   halved l =
       let f = k .fewer in
       let n = b .count in
@@ -207,7 +229,15 @@ module _ {low m : ℕ} {b : Batch} {xs ys : List ℕ} (t : Sound low b xs) (four
       let last = t .last in
       let room = t .room in
       record {
-        sound = record { long = o .moved .long ∙ t .long; room = omega arith; listed = l; first = t .first; last = omega arith; within = record { at = λ i a h. (inner i (omega arith) .0, earlier i h) } };
+        sound =
+            record {
+              long = o .moved .long ∙ t .long;
+              room = omega arith;
+              listed = l;
+              first = t .first;
+              last = omega arith;
+              within = record { at = λ i a h. (inner i (omega arith) .0, earlier i h) };
+            };
         half = f;
         less = omega arith;
         same = λ c h. sym (copies-past c ys m n (omega arith) (λ i a g. later c h i a g (ltb i (n / 2)) refl))
@@ -455,7 +485,14 @@ apart {first} {last} {x} {r} {w} f rb wb ex el e = go (leb first x) refl (leb x 
 -- ---- faces that are listed
 pub listed-none : {ks ps : List ℕ} {first last size from : ℕ} → Listed ks first last size from from ps 0
 unfolding behind
-listed-none = record { rising = λ q h. absurd (omega arith); short = λ q h. absurd (omega arith); between = λ q h. absurd (omega arith); stops = omega arith; rest = within-none (omega arith) }
+listed-none =
+    record {
+      rising = λ q h. absurd (omega arith);
+      short = λ q h. absurd (omega arith);
+      between = λ q h. absurd (omega arith);
+      stops = omega arith;
+      rest = within-none (omega arith);
+    }
 
 -- so many faces farther, of which none is near
 pub listed-on : {ks ps : List ℕ} {first last size from to next m : ℕ} → Listed ks first last size from to ps m

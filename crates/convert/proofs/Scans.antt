@@ -1,4 +1,5 @@
--- The lines of a text, read one after the other: how many, whether both loaders agree, and what is left. Assumes nothing.
+-- The lines of a text, read one after the other: how many, whether both loaders agree, and what is left. Assumes
+-- nothing.
 use mathlib.Core.Path.{_≡_, refl, sym, ap, _∙_}
 use mathlib.Core.List.{List, [], _∷_}
 use mathlib.Core.Bool.{Bool, true, false, _&&_, and-true, and-assoc}
@@ -68,23 +69,32 @@ module _ (s : List ℕ) (d : Float) where
       }
 
   one-more : (n k : ℕ) → n < length s → k < length s
-      → after n k ≡ record { val = fileLine (rest s k) .val ∷ fileLines (length s - (n + 1)) (fileLine (rest s k) .text) .val; text = fileLines (length s - (n + 1)) (fileLine (rest s k) .text) .text }
+      → after n k
+      ≡ record {
+        val = fileLine (rest s k) .val ∷ fileLines (length s - (n + 1)) (fileLine (rest s k) .text) .val;
+        text = fileLines (length s - (n + 1)) (fileLine (rest s k) .text) .text;
+      }
   unfolding fileLines
   one-more n k h p =
       let e : length s - n ≡ suc (length s - (n + 1)) = omega arith in
       rw (e, rest-cons s k p) refl
 
-  pub line-scanned : {n k k′ : ℕ} {b b′ : Bool} {f : FileKernel} → Scanned n k b → n < length s → k < length s → got s f k′ ≡ fileLine (rest s k) → b′ ≡ (b && alike d f) → Scanned (n + 1) k′ b′
+  pub line-scanned : {n k k′ : ℕ} {b b′ : Bool} {f : FileKernel} → Scanned n k b → n < length s → k < length s
+      → got s f k′ ≡ fileLine (rest s k) → b′ ≡ (b && alike d f) → Scanned (n + 1) k′ b′
   line-scanned {n} {k} {k′} {b} {b′} {f} z h p e g =
       let m = length s - (n + 1) in
       let q : after n k ≡ record { val = f ∷ after (n + 1) k′ .val; text = after (n + 1) k′ .text }
-      = one-more n k h p ∙ sym (λ i. record { val = e i .val ∷ fileLines m (e i .text) .val; text = fileLines m (e i .text) .text }) in
+      = one-more n k h p
+      ∙ sym (λ i. record { val = e i .val ∷ fileLines m (e i .text) .val; text = fileLines m (e i .text) .text }) in
       let c = ap (λ (x : Got (List FileKernel)). length (x .val)) q in
       record {
         within = omega arith;
         count = omega (arith, z .count, c);
         text = z .text ∙ ap (λ (x : Got (List FileKernel)). x .text) q;
-        agree = z .agree ∙ ap (λ (x : Got (List FileKernel)). b && allAlike d (x .val)) q ∙ sym (and-assoc b (alike d f) (allAlike d (after (n + 1) k′ .val))) ∙ sym (ap (λ (x : Bool). x && allAlike d (after (n + 1) k′ .val)) g);
+        agree =
+            z .agree ∙ ap (λ (x : Got (List FileKernel)). b && allAlike d (x .val)) q
+            ∙ sym (and-assoc b (alike d f) (allAlike d (after (n + 1) k′ .val)))
+            ∙ sym (ap (λ (x : Bool). x && allAlike d (after (n + 1) k′ .val)) g);
       }
 
   -- what was found, where no line is left to be read
@@ -103,7 +113,10 @@ module _ (s : List ℕ) (d : Float) where
       }
 
   pub found-end : {n k : ℕ} {b : Bool} → Scanned n k b → length s ≤ k → Found n k b
-  found-end {n} {k} z h = found z (rest-none (λ (t : Text). fileLines (length s - n) t ≡ nothing t) s k h (at-lost (length s - n)) (at-end (length s - n)))
+  found-end {n} {k} z h =
+      found z
+      (rest-none (λ (t : Text). fileLines (length s - n) t ≡ nothing t) s k h (at-lost (length s - n))
+      (at-end (length s - n)))
 
   pub found-many : {n k : ℕ} {b : Bool} → Scanned n k b → length s ≤ n → Found n k b
   found-many {n} {k} z h =

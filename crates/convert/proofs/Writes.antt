@@ -37,19 +37,24 @@ module _ (s : List ℕ) (n : ℕ) (load : FileKernel → Kernel) (xs : List Floa
       let e : n - 0 ≡ n = omega arith in
       record { within = omega arith; same = rw (e, rest-all s) refl; long = refl }
 
-  one-more : (i k : ℕ) → i < n → linesIn (n - i) (rest s k) ≡ fileLine (rest s k) .val ∷ linesIn (n - (i + 1)) (fileLine (rest s k) .text)
+  one-more : (i k : ℕ) → i < n
+      → linesIn (n - i) (rest s k) ≡ fileLine (rest s k) .val ∷ linesIn (n - (i + 1)) (fileLine (rest s k) .text)
   unfolding linesIn
   one-more i k h =
       let e : n - i ≡ suc (n - (i + 1)) = omega arith in
       rw e refl
 
-  pub line-laid : {i k k′ : ℕ} {f : FileKernel} {ys zs : List Float} {q : Kernel} → Laid i k ys → i < n → got s f k′ ≡ fileLine (rest s k) → q ≡ load f → zs ≡ kernelSet ys i q → Laid (i + 1) k′ zs
+  pub line-laid : {i k k′ : ℕ} {f : FileKernel} {ys zs : List Float} {q : Kernel} → Laid i k ys → i < n
+      → got s f k′ ≡ fileLine (rest s k) → q ≡ load f → zs ≡ kernelSet ys i q → Laid (i + 1) k′ zs
   line-laid {i} {k} {k′} {f} {ys} {zs} l h e g w =
       let m = n - (i + 1) in
-      let a : linesIn (n - i) (rest s k) ≡ f ∷ linesIn m (rest s k′) = one-more i k h ∙ sym (λ j. e j .val ∷ linesIn m (e j .text)) in
+      let a : linesIn (n - i) (rest s k) ≡ f ∷ linesIn m (rest s k′)
+      = one-more i k h ∙ sym (λ j. e j .val ∷ linesIn m (e j .text)) in
       record {
         within = omega arith;
-        same = (λ j. laidFrom (map load (linesIn m (rest s k′))) (add-one i j) (w j)) ∙ (λ j. laidFrom (map load (linesIn m (rest s k′))) (suc i) (kernelSet ys i (g j)))
+        same =
+            (λ j. laidFrom (map load (linesIn m (rest s k′))) (add-one i j) (w j))
+            ∙ (λ j. laidFrom (map load (linesIn m (rest s k′))) (suc i) (kernelSet ys i (g j)))
             ∙ sym (ap (λ (fs : List FileKernel). laidFrom (map load fs) i ys) a) ∙ l .same;
         long = rw (w, kernel-set-length) (l .long);
       }
@@ -75,10 +80,24 @@ module _ (s : List ℕ) (d : Float) (loader : Loader) (xs : List Float) {n : ℕ
     module _ (room : n ≤ length xs / 6) {checked : Checked} (strict : checked ≡ strictCheck loader same) where
       pub differs : {r : Refusal} → checked ≡ Failed r → outcome (refused r) xs ≡ conversion s d loader xs
       unfolding conversion
-      differs e = rw (← text, not-false good full, ← lines, le-leb (6 * n) (length xs) (omega arith), ← agree, ← strict, e) refl
+      differs e =
+          rw (← text, not-false good full, ← lines, le-leb (6 * n) (length xs) (omega arith), ← agree, ← strict, e) refl
 
-      pub writes : {ys : List Float} → checked ≡ Passed → ys ≡ laidFrom (map (loaded loader d) (linesIn n (left s))) 0 xs → outcome (counted (n ∷ [])) ys ≡ conversion s d loader xs
+      pub writes : {ys : List Float} → checked ≡ Passed
+          → ys ≡ laidFrom (map (loaded loader d) (linesIn n (left s))) 0 xs
+          → outcome (counted (n ∷ [])) ys ≡ conversion s d loader xs
       unfolding conversion
       writes e w =
-          let a : linesIn n (left s) ≡ filed s = ap (λ (m : ℕ). linesIn m (left s)) lines ∙ first-lines (length s) (left s) in
-          rw (← text, not-false good full, le-leb (6 * length (filed s)) (length xs) (omega (arith, lines)), ← agree, ← strict, e, w, a, lines) refl
+          let a : linesIn n (left s) ≡ filed s
+          = ap (λ (m : ℕ). linesIn m (left s)) lines ∙ first-lines (length s) (left s) in
+          rw (
+            ← text,
+            not-false good full,
+            le-leb (6 * length (filed s)) (length xs) (omega (arith, lines)),
+            ← agree,
+            ← strict,
+            e,
+            w,
+            a,
+            lines,
+          ) refl

@@ -31,7 +31,9 @@ to-of-exponent (Given alpha) = refl
 to-of-exponent Missing = refl
 
 to-of : (f : FileKernel) → toFile (ofFile f) ≡ f
-to-of f = (λ i. record { x = f .x; y = f .y; z = f .z; sigma = f .sigma; w = f .w; exponent = to-of-exponent (f .exponent) i })
+to-of f =
+    (λ i.
+    record { x = f .x; y = f .y; z = f .z; sigma = f .sigma; w = f .w; exponent = to-of-exponent (f .exponent) i })
 
 of-to-exponent : (v : Vals givenForm ⊎ Vals missingForm) → ofExponent (toExponent (v, tt)) ≡ v
 of-to-exponent (inl v) = refl

@@ -27,7 +27,13 @@ givenOr (Given alpha) default = alpha
 givenOr Missing default = default
 
 unfoldable pub sourceOf : Float → FileKernel → Kernel
-sourceOf default f = record { c = inMetres (lengthsOf f) .0; sigma = inMetres (lengthsOf f) .1; w = f .w; alpha = givenOr (f .exponent) default }
+sourceOf default f =
+    record {
+      c = inMetres (lengthsOf f) .0;
+      sigma = inMetres (lengthsOf f) .1;
+      w = f .w;
+      alpha = givenOr (f .exponent) default;
+    }
 
 -- "for a named loader, and a strict form", whose kernels are both loaders'
 unfoldable pub loaded : Loader → Float → FileKernel → Kernel

@@ -36,7 +36,8 @@ stands-rest s k = go (leb k (length s))
     go false = refl
 
 -- what a form says of a text from its start on
-pub whole-as : (f : Form) (to : Vals f → Line) (s : List ℕ) (l : Line) (k : ℕ) → got s l k ≡ map to (read f (rest s 0)) → ifEnded (rest s k) l ≡ whole f to s
+pub whole-as : (f : Form) (to : Vals f → Line) (s : List ℕ) (l : Line) (k : ℕ) → got s l k ≡ map to (read f (rest s 0))
+    → ifEnded (rest s k) l ≡ whole f to s
 whole-as f to s l k e =
     (λ i. ifEnded (e i .text) (e i .val))
     ∙ (λ i. ifEnded (read f (rest-all s i) .text) (to (read f (rest-all s i) .val)))

@@ -22,9 +22,14 @@ three-append x y z t =
     ∙ (λ i. floatText x ++ (32 ∷ (floatText y ++ (32 ∷ append-assoc (floatText z) [] t i))))
 
 -- a text after bytes, and then another
-pub then-on : (p t : List ℕ) {o u o′ o″ : List ℕ} {at r r′ : ℕ} → Wrote o at (p ++ t) r o′ → Wrote o′ r u r′ o″ → Wrote o at (p ++ (t ++ u)) r′ o″
-then-on p t {o} {u} {o″ = o″} {at} {r′ = r′} a b = subst (λ (l : List ℕ). Wrote o at l r′ o″) (append-assoc p t u) (then a b)
+pub then-on : (p t : List ℕ) {o u o′ o″ : List ℕ} {at r r′ : ℕ} → Wrote o at (p ++ t) r o′ → Wrote o′ r u r′ o″
+    → Wrote o at (p ++ (t ++ u)) r′ o″
+then-on p t {o} {u} {o″ = o″} {at} {r′ = r′} a b =
+    subst (λ (l : List ℕ). Wrote o at l r′ o″) (append-assoc p t u) (then a b)
 
-pub then-three : (p : List ℕ) (x y z : Float) {o t o′ o″ : List ℕ} {at r r′ : ℕ} → Wrote o at (p ++ print (three end) (x & y & z & tt)) r o′ → Wrote o′ r t r′ o″
+pub then-three : (p : List ℕ) (x y z : Float) {o t o′ o″ : List ℕ} {at r r′ : ℕ}
+    → Wrote o at (p ++ print (three end) (x & y & z & tt)) r o′ → Wrote o′ r t r′ o″
     → Wrote o at (p ++ afterThree x y z t) r′ o″
-then-three p x y z {o} {t} {o″ = o″} {at} {r′ = r′} a b = subst (λ (l : List ℕ). Wrote o at (p ++ l) r′ o″) (three-append x y z t) (then-on p (print (three end) (x & y & z & tt)) a b)
+then-three p x y z {o} {t} {o″ = o″} {at} {r′ = r′} a b =
+    subst (λ (l : List ℕ). Wrote o at (p ++ l) r′ o″) (three-append x y z t)
+    (then-on p (print (three end) (x & y & z & tt)) a b)

@@ -1,5 +1,8 @@
 -- 01, "Remainder", program `bench`: the forms of the lines that it prints. Definitions only.
-use Rattle.text.specs.Form.{Form, end, real, say, u32, u64, three}
+use Prim.Native.Nat.{ℕ}
+use lib.Ieee.{Float}
+use Rattle.text.specs.Form.{Form, Vals, end, real, say, u32, u64, three, _&_}
+use Rattle.density.specs.declared.report.MassReport.{MassReport}
 
 -- "prints vertices and faces, then pieces and need, the density, done and left"
 abbrev pub openAnswer : Form
@@ -28,6 +31,11 @@ counts = say " (kernels " (u32 (say ") (pieces " (u32 (say ") (error " (real (sa
 -- "(report h h h h h h h (kernels N) (pieces N) (error h))", "the first seven in `MassReport` order"
 abbrev pub reportAnswer : Form
 reportAnswer = say "(report " (three (say " " (three (say " " (real counts)))))
+
+abbrev pub reportIn : MassReport → ℕ → ℕ → Float → Vals reportAnswer
+reportIn m kernels pieces error =
+    m .«raw_mass» & m .«rho0_scale» & m .«rho0_mass» & m .«applied_scale» & m .«applied_mass» & m .«target_mass»
+    & m .volume & kernels & pieces & error & tt
 
 -- "any refusal (no N)"
 abbrev pub noAnswer : Form

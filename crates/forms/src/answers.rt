@@ -6,7 +6,7 @@ ghost use Prim.Native.Nat.{_+_, _≤_};
 ghost use lib.ListN.{length};
 ghost use Rattle.text.specs.Print.{Wrote, decimalText};
 ghost use Rattle.text.specs.Form.{end, print, three, _&_};
-ghost use Rattle.forms.specs.Answers.{openAnswer, putAnswer, densityAnswer, advanceAnswer, clearAnswer, reweighAnswer, counts, reportAnswer, noAnswer};
+ghost use Rattle.forms.specs.Answers.{openAnswer, putAnswer, densityAnswer, advanceAnswer, clearAnswer, reweighAnswer, counts, reportAnswer, reportIn, noAnswer};
 use density::report::MassReport;
 use text::write::write_bytes;
 use text::write::write_real;
@@ -120,7 +120,7 @@ pub fn write_report(
     requires { ⌜ at + 256 ≤ length (now out) ⌝ }
     ensures { λ r. ⌜ r ≤ at + 255 ⌝ }
     ensures { λ r. ⌜ Wrote (now (out .entry)) at
-        (print reportAnswer (m .«raw_mass» & m .«rho0_scale» & m .«rho0_mass» & m .«applied_scale» & m .«applied_mass» & m .«target_mass» & m .volume & kernels & pieces & error & tt)) r (now (out .exit)) ⌝ }
+        (print reportAnswer (reportIn m kernels pieces error)) r (now (out .exit)) ⌝ }
 {
     let a = write_three(out, at, b"(report ", m.raw_mass, m.rho0_scale, m.rho0_mass);
     let b = write_three(out, a, b" ", m.applied_scale, m.applied_mass, m.target_mass);

@@ -1,4 +1,5 @@
--- One point: where its radius is small the series is the factor, where it is large the quotient is, and what the tests of both tell. Assumes nothing.
+-- One point: where its radius is small the series is the factor, where it is large the quotient is, and what the tests
+-- of both tell. Assumes nothing.
 use mathlib.Core.Path.{_≡_, refl, sym, ap, _∙_, subst⁻¹}
 use mathlib.Core.Logic.{inl, inr}
 use mathlib.Core.Bool.{Bool, true, false, _&&_, cond, true≢false, false≢true}
@@ -52,8 +53,15 @@ unfolding lt le eq abs ofBits
 plain nan h = absurd (false≢true h)
 plain (inf true) h = absurd (false≢true h)
 plain (inf false) h = record { same = refl; plus = refl; over = refl }
-plain (fin true m e) h = let a = tenths * 1 * down e in absurd (no-zero a (eqb a (m * up e * 2 ^ 55)) (eqb a 0) refl (mul-pos {m = tenths * 1} (lit< tt) (down-pos e)) h)
-plain (fin false m e) h = record { same = refl; plus = refl; over = let a = tenths * 1 * down e in let b = m * up e * 2 ^ 55 in le-ltb b a (ordered a b (subst⁻¹ T h tt)) }
+plain (fin true m e) h =
+    let a = tenths * 1 * down e in
+    absurd (no-zero a (eqb a (m * up e * 2 ^ 55)) (eqb a 0) refl (mul-pos {m = tenths * 1} (lit< tt) (down-pos e)) h)
+plain (fin false m e) h =
+    record {
+      same = refl;
+      plus = refl;
+      over = let a = tenths * 1 * down e in let b = m * up e * 2 ^ 55 in le-ltb b a (ordered a b (subst⁻¹ T h tt));
+    }
 
 arc-is : (t : Float) (b : Bool) → lt one t ≡ b → arcAbs t ≡ turned t (arcCore (halved (halved (inverted t))))
 unfolding arcAbs turned inverted
@@ -112,7 +120,9 @@ pub radicand-of : (v : Float) → Within 0 1 v → Within 1 2 (radicand v)
 radicand-of v h = one-plus-within 0 1 (v ⊗ v) (lit< tt) (lit< tt) (square-within v h)
 
 pub halved-of : (v r : Float) → Within 0 1 v → Within 1 2 r → Within 0 1 (v ⊘ (one ⊕ r))
-halved-of v r h k = quotient-within v (one ⊕ r) h (at-least 2 3 1 (one ⊕ r) (le-of-lt (lit< tt)) (one-plus-within 1 2 r (lit< tt) (lit< tt) k))
+halved-of v r h k =
+    quotient-within v (one ⊕ r) h
+    (at-least 2 3 1 (one ⊕ r) (le-of-lt (lit< tt)) (one-plus-within 1 2 r (lit< tt) (lit< tt) k))
 
 -- ---- on one side of 0.1 or the other
 tenth-large : Large tenth
@@ -143,7 +153,8 @@ raised-same : (t : Float) → Large t → raised t ≡ t
 unfolding raised
 raised-same t h = rw h refl
 
-pub one-side : (t : Float) {u s g h : Float} → Sided t → u ≡ raised t → s ≡ radialG u → (Small t → g ≡ radialG t) → h ≡ cond (le tenth t) s g → h ≡ radialG t
+pub one-side : (t : Float) {u s g h : Float} → Sided t → u ≡ raised t → s ≡ radialG u → (Small t → g ≡ radialG t)
+    → h ≡ cond (le tenth t) s g → h ≡ radialG t
 one-side t {u} {s} {g} {h} d e f k c = go (le tenth t) refl d
   where
     go : (b : Bool) → le tenth t ≡ b → Sided t → h ≡ radialG t

@@ -191,7 +191,14 @@ module _ (q : ℕ) (test : ℕ → Bool) (ws : List ℕ) (long : cornersFrom q �
       ready : (i s n d : ℕ) (b : Bool) → i < 32 → Ready m i (s - 1) n d
           → Ready m i (cond b s 0 - 1) (cond b n 0) (cond b d 0)
       ready i s n d true h r = r
-      ready i s n d false h r = record { place = h; pieces = omega arith; fits = omega arith; part = λ l. absurd (omega arith); low = omega arith }
+      ready i s n d false h r =
+          record {
+            place = h;
+            pieces = omega arith;
+            fits = omega arith;
+            part = λ l. absurd (omega arith);
+            low = omega arith;
+          }
 
       low : (l : ℕ) (b : Bool) → l < layerLimit → cond b l 0 < layerLimit
       low l true h = h
@@ -210,7 +217,13 @@ module _ (q : ℕ) (three : 3 ≤ q) (test : ℕ → Bool) (fs : List Float) (ws
   place-sound : (i : ℕ) → i < 32 → placeSoundAt q ws i ≡ true → placeSoundAt q vs i ≡ true
   unfolding placeSoundAt placeSound layerSound
   place-sound i h e =
-      rw (hid-status q test ws long three i h, hid-finished q test ws long three i h, hid-done q test ws long three i h, hid-layer q test ws long three i h, hid-faces q test ws long)
+      rw (
+        hid-status q test ws long three i h,
+        hid-finished q test ws long three i h,
+        hid-done q test ws long three i h,
+        hid-layer q test ws long three i h,
+        hid-faces q test ws long,
+      )
       (go (statusOf q ws i) (finishedOf q ws i) (doneOf q ws i) (layerOf q ws i) (facesOf ws) (test i) e)
     where
       go : (s n d l m : ℕ) (b : Bool) → placeSound s n d m && layerSound s l ≡ true

@@ -109,4 +109,9 @@ pub front-left : (q : ℕ) → 3 ≤ q → (ws : List ℕ) (m k : ℕ) → k ≤
 unfolding leftOf
 front-left q three ws m zero h = refl
 front-left q three ws m (suc k) h =
-    rw (front-left q three ws m k (omega arith), front-status q three ws k h, front-finished q three ws k h, front-done q three ws k h) refl
+    rw (
+      front-left q three ws m k (omega arith),
+      front-status q three ws k h,
+      front-finished q three ws k h,
+      front-done q three ws k h,
+    ) refl

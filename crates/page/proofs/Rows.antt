@@ -38,7 +38,8 @@ module _ (fs : List Float) (i s : ℕ) (e : s ≡ 0) where
   none-total v = rw none-is (sym (+ℤ-idr v))
 
 -- a filled place of p pieces and the mass m
-module _ (fs : List Float) (i s p : ℕ) (n : s ≡ 0 → ⊥) (e : p ≡ s - 1) (m : Float) (g : m ≡ fold massStep (heldAt fs i p) +0) where
+module _ (fs : List Float) (i s p : ℕ) (n : s ≡ 0 → ⊥) (e : p ≡ s - 1) (m : Float)
+    (g : m ≡ fold massStep (heldAt fs i p) +0) where
   mass-is : rawMass (heldAt fs i p) ≡ m
   mass-is = mass-sum (heldAt fs i p) ∙ sym g
 
@@ -65,5 +66,6 @@ module _ (fs : List Float) (i s p : ℕ) (n : s ≡ 0 → ⊥) (e : p ≡ s - 1)
     line-is : placeLine i p v ≡ linesOf (rowAt fs i s)
     line-is = ap (placeLine i p) h ∙ sym (append-nil (placeLine i p (rounded m))) ∙ ap linesOf (sym one-is)
 
-    pub one-written : {o o′ : List ℕ} {at r : ℕ} → Wrote o at (placeLine i p v) r o′ → Wrote o at (linesOf (rowAt fs i s)) r o′
+    pub one-written : {o o′ : List ℕ} {at r : ℕ} → Wrote o at (placeLine i p v) r o′
+        → Wrote o at (linesOf (rowAt fs i s)) r o′
     one-written {o} {o′} {at} {r} w = subst (λ (l : List ℕ). Wrote o at l r o′) line-is w

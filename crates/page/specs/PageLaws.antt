@@ -184,7 +184,8 @@ module _ (q : ℕ) (fs : List Float) (ws : List ℕ) where
       go : (b : Bool) → allPrintable (cond b [] (row k (s - 1) m ∷ [])) ≡ true
           → AllFair (cond b [] (row k (s - 1) m ∷ []))
       go true f = tt
-      go false f = (record { place = omega arith; pieces = omega arith; mass = and-eq-true-iff (printable m) true .0 f .0 }, tt)
+      go false f =
+          (record { place = omega arith; pieces = omega arith; mass = and-eq-true-iff (printable m) true .0 f .0 }, tt)
 
   module _ (ms : ℕ) (w : Worded q ws ms) where
     pub rows-fair : (n : ℕ) → n ≤ 32 → allPrintable (heldRows q fs ws n) ≡ true → AllFair (heldRows q fs ws n)

@@ -132,7 +132,12 @@ unfolding digits
 starts zero n = record { first = glyph (n % 10); others = []; is = refl; low = glyph-low (n % 10) }
 starts (suc j) n =
     let s = starts j (n / 10) in
-    record { first = s .first; others = s .others ++ (glyph (n % 10) ∷ []); is = ap (λ (l : List ℕ). l ++ (glyph (n % 10) ∷ [])) (s .is); low = s .low }
+    record {
+      first = s .first;
+      others = s .others ++ (glyph (n % 10) ∷ []);
+      is = ap (λ (l : List ℕ). l ++ (glyph (n % 10) ∷ [])) (s .is);
+      low = s .low;
+    }
 
 some-digits : (f n : ℕ) → lengthFrom f n ≡ suc (lengthFrom f n - 1)
 unfolding lengthFrom
@@ -175,7 +180,13 @@ cut a k p c u e f = rw (← e, ← f) (ap (take (length c)) (drop-append-seam p 
 
 -- a line of 44 columns, those of its mass, and a newline
 ended : (p t : List ℕ) → length p ≡ 44 → length t ≡ 20 → Visible p → Visible t → Line (p ++ (t ++ (10 ∷ [])))
-ended p t a b u v = record { chars = p ++ t; text = sym (append-assoc p t (10 ∷ [])); wide = length-append p t ∙ omega arith; visible = visible-append p t u v }
+ended p t a b u v =
+    record {
+      chars = p ++ t;
+      text = sym (append-assoc p t (10 ∷ []));
+      wide = length-append p t ∙ omega arith;
+      visible = visible-append p t u v;
+    }
 
 mass-back : (l p : List ℕ) (v : ℤ) → natAbs v < 100000000000000000 → l ≡ p ++ (right 20 (wholeText v) ++ (10 ∷ []))
     → length p ≡ 44 → (t : List ℕ) → readMass (l ++ t) ≡ exactly v

@@ -37,7 +37,8 @@ laid-length n k p xs = go (p .count) 0 xs
 
 module _ (ks : List Float) (radius : Float) where
   -- ---- how many
-  count-next : (i : ℕ) {k : Kernel} {p : Pieces} → k ≡ kernelAt ks i → p ≡ decomposed k radius → pieceCount ks radius (i + 1) ≡ pieceCount ks radius i + p .count
+  count-next : (i : ℕ) {k : Kernel} {p : Pieces} → k ≡ kernelAt ks i → p ≡ decomposed k radius
+      → pieceCount ks radius (i + 1) ≡ pieceCount ks radius i + p .count
   unfolding pieceCount
   count-next i h g = rw (add-one i, g, h) refl
 
@@ -47,7 +48,8 @@ module _ (ks : List Float) (radius : Float) where
   count-more i (suc j) = rw add-suc (omega (arith, count-more i j))
 
   -- the pieces of a kernel of the first n are among theirs
-  pub next-within : (i n : ℕ) {k : Kernel} {p : Pieces} → i < n → k ≡ kernelAt ks i → p ≡ decomposed k radius → pieceCount ks radius i + p .count ≤ pieceCount ks radius n
+  pub next-within : (i n : ℕ) {k : Kernel} {p : Pieces} → i < n → k ≡ kernelAt ks i → p ≡ decomposed k radius
+      → pieceCount ks radius i + p .count ≤ pieceCount ks radius n
   next-within i n l h g =
       let e : i + 1 + (n - (i + 1)) ≡ n = omega arith in
       rw (count-next i h g, e) at (count-more (i + 1) (n - (i + 1)))
@@ -62,15 +64,19 @@ module _ (ks : List Float) (radius : Float) where
   pub room-for-16 : (n room : ℕ) → n ≤ room / 16 → true ≡ leb (pieceCount ks radius n) room
   room-for-16 n room h = sym (le-leb (pieceCount ks radius n) room (omega (arith, count-most n)))
 
-  pub room-next : (i : ℕ) {left room : ℕ} {k : Kernel} {p : Pieces} → left + pieceCount ks radius i ≡ room → k ≡ kernelAt ks i → p ≡ decomposed k radius
+  pub room-next : (i : ℕ) {left room : ℕ} {k : Kernel} {p : Pieces} → left + pieceCount ks radius i ≡ room
+      → k ≡ kernelAt ks i → p ≡ decomposed k radius
       → p .count ≤ left → left - p .count + pieceCount ks radius (i + 1) ≡ room
   room-next i r h g l = omega (arith, count-next i h g)
 
-  pub no-room : (i n : ℕ) {left room : ℕ} {k : Kernel} {p : Pieces} → left + pieceCount ks radius i ≡ room → i < n → k ≡ kernelAt ks i → p ≡ decomposed k radius
+  pub no-room : (i n : ℕ) {left room : ℕ} {k : Kernel} {p : Pieces} → left + pieceCount ks radius i ≡ room → i < n
+      → k ≡ kernelAt ks i → p ≡ decomposed k radius
       → left < p .count → false ≡ leb (pieceCount ks radius n) room
-  no-room i n {room = room} r l h g o = sym (lt-leb (pieceCount ks radius n) room (omega (arith, next-within i n l h g)))
+  no-room i n {room = room} r l h g o =
+      sym (lt-leb (pieceCount ks radius n) room (omega (arith, next-within i n l h g)))
 
-  pub room-for-all : (i n left : ℕ) {room : ℕ} → left + pieceCount ks radius i ≡ room → i ≡ n → true ≡ leb (pieceCount ks radius n) room
+  pub room-for-all : (i n left : ℕ) {room : ℕ} → left + pieceCount ks radius i ≡ room → i ≡ n
+      → true ≡ leb (pieceCount ks radius n) room
   room-for-all i n left {room} r e = rw (← e) (sym (le-leb (pieceCount ks radius i) room (omega (arith, r))))
 
   -- ---- the first i kernels are written over xs: so many pieces, the greatest error, and the run
@@ -85,7 +91,8 @@ module _ (ks : List Float) (radius : Float) where
   none-spread xs = record { count = refl; error = refl; words = refl; long = refl }
 
   -- one kernel more
-  pub kernel-spread : {xs ys ys' : List Float} {i m : ℕ} {e e' : Float} {k : Kernel} {p : Pieces} → Spread xs i m e ys → k ≡ kernelAt ks i → p ≡ decomposed k radius
+  pub kernel-spread : {xs ys ys' : List Float} {i m : ℕ} {e e' : Float} {k : Kernel} {p : Pieces} → Spread xs i m e ys
+      → k ≡ kernelAt ks i → p ≡ decomposed k radius
       → ys' ≡ laid m k p ys → e' ≡ greater e (p .error) → Spread xs (i + 1) (m + p .count) e' ys'
   unfolding pieceCount greatestError spread
   kernel-spread {i = i} s h g l w =
@@ -97,11 +104,13 @@ module _ (ks : List Float) (radius : Float) where
       }
 
   pub spread-all : {xs ys : List Float} {i n m : ℕ} {e : Float} → Spread xs i m e ys → i ≡ n
-      → outcome (fittedAll n m e) ys ≡ outcome (fittedAll n (pieceCount ks radius n) (greatestError ks radius n)) (spread ks radius n xs)
+      → outcome (fittedAll n m e) ys
+      ≡ outcome (fittedAll n (pieceCount ks radius n) (greatestError ks radius n)) (spread ks radius n xs)
   spread-all s h = rw (← h, s .count, s .error, s .words) refl
 
   -- ---- what `decompose_list` answers, with a check and a test as they came out
-  pub room-of : (n size : ℕ) {b : Bool} → b ≡ leb (pieceCount ks radius n) (size / 6) → b ≡ true → 6 * pieceCount ks radius n ≤ size
+  pub room-of : (n size : ℕ) {b : Bool} → b ≡ leb (pieceCount ks radius n) (size / 6) → b ≡ true
+      → 6 * pieceCount ks radius n ≤ size
   room-of n size h t = omega (arith, leb-true (pieceCount ks radius n) (size / 6) (sym h ∙ t))
 
   module _ (xs : List Float) {checked : Checked} (found : checked ≡ listCheck ks) where
@@ -109,13 +118,24 @@ module _ (ks : List Float) (radius : Float) where
     unfolding listDecomposition
     not-sixes e = rw (← found, e) refl
 
-    module _ (sixes : checked ≡ Passed) {b : Bool} (room : b ≡ leb (pieceCount ks radius (length ks / 6)) (length xs / 6)) where
+    module _ (sixes : checked ≡ Passed) {b : Bool}
+        (room : b ≡ leb (pieceCount ks radius (length ks / 6)) (length xs / 6)) where
       pub too-short : b ≡ false → outcome (refused ShortList) xs ≡ listDecomposition ks radius xs
       unfolding listDecomposition
       too-short t =
           let m = pieceCount ks radius (length ks / 6) in
-          rw (← found, sixes, lt-leb (6 * m) (length xs) (omega (arith, leb-false m (length xs / 6) (sym room ∙ t)))) refl
+          rw (← found, sixes, lt-leb (6 * m) (length xs) (omega (arith, leb-false m (length xs / 6) (sym room ∙ t))))
+          refl
 
-      pub writes-all : b ≡ true → outcome (fittedAll (length ks / 6) (pieceCount ks radius (length ks / 6)) (greatestError ks radius (length ks / 6))) (spread ks radius (length ks / 6) xs) ≡ listDecomposition ks radius xs
+      pub writes-all : b ≡ true
+          → outcome
+          (fittedAll (length ks / 6) (pieceCount ks radius (length ks / 6)) (greatestError ks radius (length ks / 6)))
+          (spread ks radius (length ks / 6) xs)
+          ≡ listDecomposition ks radius xs
       unfolding listDecomposition
-      writes-all t = rw (← found, sixes, le-leb (6 * pieceCount ks radius (length ks / 6)) (length xs) (room-of (length ks / 6) (length xs) room t)) refl
+      writes-all t =
+          rw (
+            ← found,
+            sixes,
+            le-leb (6 * pieceCount ks radius (length ks / 6)) (length xs) (room-of (length ks / 6) (length xs) room t),
+          ) refl

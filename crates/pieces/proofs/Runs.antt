@@ -19,11 +19,13 @@ module _ (k : Kernel) (radius : Float) (p : Pieces) (e : p ≡ decomposed k radi
   pub few : p .count ≤ 16
   few = rw e (at-most-16 k radius)
 
-  pub refuses : (xs : List Float) → length xs < 6 * p .count → outcome (refused ShortList) xs ≡ decomposition k radius xs
+  pub refuses : (xs : List Float) → length xs < 6 * p .count
+      → outcome (refused ShortList) xs ≡ decomposition k radius xs
   unfolding decomposition
   refuses xs h = rw (← e, lt-leb (6 * p .count) (length xs) h) refl
 
   pub writes : (fit : Fit) → fit ≡ fitOf k radius → (xs ys : List Float) → 6 * p .count ≤ length xs → ys ≡ laid 0 k p xs
       → outcome (fittedOne (p .count) (p .error) fit) ys ≡ decomposition k radius xs
   unfolding decomposition
-  writes fit f xs ys h l = rw (← e, ← f, le-leb (6 * p .count) (length xs) h) (ap (outcome (fittedOne (p .count) (p .error) fit)) l)
+  writes fit f xs ys h l =
+      rw (← e, ← f, le-leb (6 * p .count) (length xs) h) (ap (outcome (fittedOne (p .count) (p .error) fit)) l)

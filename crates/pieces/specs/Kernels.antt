@@ -17,7 +17,13 @@ use Rattle.pieces.specs.FitEnd.{fitOf, kindOf, columnOf, pivotOf}
 
 -- piece i of a kernel: its centre, the piece's sigma, "its weight is w times the coefficient"
 unfoldable pub pieceAt : Kernel → Pieces → ℕ → Kernel
-pieceAt k p i = record { c = k .c; sigma = getD (p .sigma) i nan; w = k .w ⊗ getD (p .coefficient) i nan; alpha = pieceAlpha (k .alpha) }
+pieceAt k p i =
+    record {
+      c = k .c;
+      sigma = getD (p .sigma) i nan;
+      w = k .w ⊗ getD (p .coefficient) i nan;
+      alpha = pieceAlpha (k .alpha);
+    }
 
 -- the pieces laid over a run in order, behind its first n kernels
 abbrev pub layAt : ℕ → Kernel → Pieces → ℕ → List Float → List Float

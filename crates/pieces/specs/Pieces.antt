@@ -39,7 +39,11 @@ mostPieces alpha = cond (stays alpha) 1 (sizeOf (delta alpha) .terms)
 -- what is fitted: radius' = max(radius, 1), umax = max(sigma·radius', 1)
 abbrev pub curveOf : Kernel → Float → Curve
 curveOf k radius =
-    record { alpha = k .alpha; samples = sizeOf (delta (k .alpha)) .samples; reach = log10 (greater one (k .sigma ⊗ greater one radius)) }
+    record {
+      alpha = k .alpha;
+      samples = sizeOf (delta (k .alpha)) .samples;
+      reach = log10 (greater one (k .sigma ⊗ greater one radius));
+    }
 
 -- ---- the pieces
 
@@ -55,7 +59,12 @@ itself k = record { count = 1; sigma = set zeros 0 (k .sigma); coefficient = set
 unfoldable pub keep : Pieces → Float → Float → Pieces
 keep p sigma coefficient =
     cond (lt keepLimit (abs coefficient))
-    (record { count = p .count + 1; sigma = set (p .sigma) (p .count) sigma; coefficient = set (p .coefficient) (p .count) coefficient; error = p .error })
+    (record {
+      count = p .count + 1;
+      sigma = set (p .sigma) (p .count) sigma;
+      coefficient = set (p .coefficient) (p .count) coefficient;
+      error = p .error;
+    })
     p
 
 -- every term in order, of sigma times its scale

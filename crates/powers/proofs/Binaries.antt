@@ -32,7 +32,8 @@ module _ (n sig ex : ℕ) (s : Scaled n sig ex) where
   scaled-size =
       let low : 2 ^ 52 * 2 ^ ex ≤ n * 2 ^ 52 = rw (← s .value) (mul-le-mul-right (2 ^ ex) (s .least)) in
       let high : n * 2 ^ 52 < 2 ^ 53 * 2 ^ ex = rw (← s .value) (mul-lt-mul-of-pos-right (s .most) (pow-pos ex)) in
-      size-is ex n (le-of-mul-le-mul-right (rw (mul-comm (2 ^ 52) (2 ^ ex)) at low) (pow-pos 52)) (lt-of-mul-lt-mul-right (2 ^ 52) (rw (pow-succ' 2 ex) (regroup (2 ^ ex) (n * 2 ^ 52) high)))
+      size-is ex n (le-of-mul-le-mul-right (rw (mul-comm (2 ^ 52) (2 ^ ex)) at low) (pow-pos 52))
+      (lt-of-mul-lt-mul-right (2 ^ 52) (rw (pow-succ' 2 ex) (regroup (2 ^ ex) (n * 2 ^ 52) high)))
     where
       regroup : (p a : ℕ) → a < 2 ^ 53 * p → a < 2 * p * 2 ^ 52
       regroup p a h = omega arith
@@ -42,11 +43,15 @@ module _ (n sig ex : ℕ) (s : Scaled n sig ex) where
       let own : sig * 2 ^ 1074 ≡ sig * 2 ^ 1022 * 2 ^ 52 = sym (mul-assoc sig (2 ^ 1022) (2 ^ 52)) in
       let cap : sig * 2 ^ 1022 < 2 ^ 2098 = lt-of-lt-of-le (shl-lt 53 1022 (s .most)) (lit≤ tt) in
       let b = sig + 4602678819172646912 in
-      let v : HasValue (ofBits binary64 b) false (sig * 2 ^ 1022) (2 ^ 1074) = rw (pattern sig (s .least) (s .most)) at (bits-value b (omega arith)) in
+      let v : HasValue (ofBits binary64 b) false (sig * 2 ^ 1022) (2 ^ 1074)
+      = rw (pattern sig (s .least) (s .most)) at (bits-value b (omega arith)) in
       sym (round-same binary64 false n (2 ^ ex) sig (2 ^ 52) (pow-pos ex) (pow-pos 52) (sym (s .value)) ∙
-      unique (round binary64 false sig (2 ^ 52)) (ofBits binary64 b) false sig (2 ^ 52) (sig * 2 ^ 1022) (2 ^ 1074) (pow-pos 52) (pow-pos 1074) (round-fits binary64 false sig (2 ^ 52)) (ofBits-fits binary64 b) (round-exact binary64 false sig (2 ^ 52) sig 1022 (pow-pos 52) (s .most) cap own) v own)
+      unique (round binary64 false sig (2 ^ 52)) (ofBits binary64 b) false sig (2 ^ 52) (sig * 2 ^ 1022) (2 ^ 1074)
+      (pow-pos 52) (pow-pos 1074) (round-fits binary64 false sig (2 ^ 52)) (ofBits-fits binary64 b)
+      (round-exact binary64 false sig (2 ^ 52) sig 1022 (pow-pos 52) (s .most) cap own) v own)
 
-module _ (b : Float) (f : T (fits binary64 b)) (p : T (positive b)) (sig ex : ℕ) (s : Scaled (unitsAt (toBits binary64 b)) sig ex) where
+module _ (b : Float) (f : T (fits binary64 b)) (p : T (positive b)) (sig ex : ℕ)
+    (s : Scaled (unitsAt (toBits binary64 b)) sig ex) where
   units : unitsIn binary64 b ≡ unitsAt (toBits binary64 b)
   units = units-is b (unitsAt (toBits binary64 b)) (own-units b f (bits-under b f p))
 

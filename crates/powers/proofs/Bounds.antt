@@ -33,13 +33,16 @@ some-pos a b h = omega arith
 under : (m : ℕ) (e : ℤ) (n : ℕ) (d : ℤ) → T (le (fin true m e) (fin false (suc n) d))
 unfolding le lt
 under m e n d =
-    or-i (ltb 0 (m * up e * down d + suc n * up d * down e)) _ (lt→ltb 0 (m * up e * down d + suc n * up d * down e) (some-pos (m * up e * down d) (suc n * up d * down e) (mul-pos (mul-pos (zero-lt-suc n) (up-pos d)) (down-pos e))))
+    or-i (ltb 0 (m * up e * down d + suc n * up d * down e)) _
+    (lt→ltb 0 (m * up e * down d + suc n * up d * down e)
+    (some-pos (m * up e * down d) (suc n * up d * down e) (mul-pos (mul-pos (zero-lt-suc n) (up-pos d)) (down-pos e))))
 
 low-units : (b : Bool) (q k n : ℕ) (d : ℤ) → T (le (cond b (odd 54 true q k 1074) (inf true)) (fin false (suc n) d))
 unfolding odd le lt
 low-units false q k n d = tt
 low-units true zero k n d = under 0 (pos 0) n d
-low-units true (suc q) k n d = under (suc q / 2 ^ trailingZeros 54 (suc q)) (minus (k + trailingZeros 54 (suc q)) 1074) n d
+low-units true (suc q) k n d =
+    under (suc q / 2 ^ trailingZeros 54 (suc q)) (minus (k + trailingZeros 54 (suc q)) 1074) n d
 
 low-all : (q k n : ℕ) (d : ℤ) → T (le (units binary64 true q k) (fin false (suc n) d))
 unfolding units
@@ -90,7 +93,10 @@ module _ (n d : ℕ) (p : 0 < d) where
   last h true t = down-case (n * 2 - 1 * d) (d * 2) fifth (third h)
   last h false t = up-case (n * 2 - 1 * d) (d * 2) fifth (fourth (ltb-false (1 * d) (n * 2) t))
 
-  both : n ≤ 1080 * d → (b : Bool) → ltb (n * 2) (1 * d) ≡ b → Within (cond b (round binary64 false (1 * d - n * 2) (d * 2)) (round binary64 (ltb (1 * d) (n * 2)) (n * 2 - 1 * d) (d * 2)))
+  both : n ≤ 1080 * d → (b : Bool) → ltb (n * 2) (1 * d) ≡ b
+      → Within
+      (cond b (round binary64 false (1 * d - n * 2) (d * 2))
+      (round binary64 (ltb (1 * d) (n * 2)) (n * 2 - 1 * d) (d * 2)))
   both h true t = up-case (1 * d - n * 2) (d * 2) fifth second
   both h false t = last h (ltb (1 * d) (n * 2)) refl
 
@@ -102,7 +108,9 @@ bounds (inf false) a b c = absurd (true≢false b)
 bounds (fin false m e) a b c =
     let N = m * up e in
     let D = down e in
-    let l : N * 1 < 1024 * D = or-lt (1024 * D) (N * 1) (ltb (1024 * D) (N * 1)) (eqb (1024 * D) (N * 1)) (ltb-false (1024 * D) (N * 1)) (eqb-false (1024 * D) (N * 1)) b in
+    let l : N * 1 < 1024 * D
+    = or-lt (1024 * D) (N * 1) (ltb (1024 * D) (N * 1)) (eqb (1024 * D) (N * 1)) (ltb-false (1024 * D) (N * 1))
+    (eqb-false (1024 * D) (N * 1)) b in
     up-case (N * 2 + 1 * D) (D * 2) (fifth N D (down-pos e)) (first N D (down-pos e) (rw mul-one at l))
 bounds (fin true m e) a b c =
     let N = m * up e in

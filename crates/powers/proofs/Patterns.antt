@@ -24,7 +24,8 @@ pow-up c h =
     let d : c + 1022 + 52 - 1074 ≡ c = omega arith in
     rw (e, field-alone (c + 1022) (omega arith), le-leb 1074 (c + 1022 + 52) l, d)
 
-pub pow-down : (c : ℕ) → 1 ≤ c → c ≤ 1022 → ofBits binary64 ((1023 - c) * 2 ^ 52 % 2 ^ 64) ≡ fin false 1 (negsuc (c - 1))
+pub pow-down : (c : ℕ) → 1 ≤ c → c ≤ 1022
+    → ofBits binary64 ((1023 - c) * 2 ^ 52 % 2 ^ 64) ≡ fin false 1 (negsuc (c - 1))
 pow-down c l h =
     let e : (1023 - c) * 2 ^ 52 % 2 ^ 64 ≡ suc (1022 - c) * 2 ^ 52 = omega arith in
     let lt : 1022 - c + 52 < 1074 = omega arith in

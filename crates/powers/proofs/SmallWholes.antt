@@ -1,4 +1,5 @@
--- The tests by which T finds a whole argument of at most 22, and a number that is none of those that were asked for. Assumes nothing.
+-- The tests by which T finds a whole argument of at most 22, and a number that is none of those that were asked for.
+-- Assumes nothing.
 use mathlib.Core.Path.{_≡_, refl, sym, ap, _∙_, subst}
 use mathlib.Core.Bool.{Bool, true, false, _&&_, false≢true}
 use Prim.Native.Nat.{ℕ, zero, suc, _+_, _*_, _/_, _≤_, _<_, min}
@@ -70,7 +71,8 @@ not-small (fin s m e) h =
     rw (lt-leb (a / d) 22 (many-of a d (down-pos e) (ltb-false (a * 1) (23 * d) h))) refl
 
 -- what the code looks at, its size below 23, tells whether y is such a whole number, and which
-pub tested : (y size f : Float) (k : ℕ) → size ≡ abs y → k ≡ toUnsigned 64 size → f ≡ whole k → lt size twentyThree ≡ true → (k ≡ cut y) × (smallWhole y ≡ eq size f)
+pub tested : (y size f : Float) (k : ℕ) → size ≡ abs y → k ≡ toUnsigned 64 size → f ≡ whole k
+    → lt size twentyThree ≡ true → (k ≡ cut y) × (smallWhole y ≡ eq size f)
 unfolding smallWhole
 tested y size f k a t n h =
     let c = cut-of y (subst (λ (x : Float). lt x twentyThree ≡ true) a h) in
@@ -108,5 +110,7 @@ has-digits y f h = go (smallWhole y) refl
         let v = small-value y e in
         let k = cut y in
         let z = round binary64 (sign y) k 1 in
-        let same : y ≡ z = whole-unique binary64 y z (sign y) k f (round-fits binary64 (sign y) k 1) (v .1) (round-whole binary64 (sign y) k (le-trans (v .0) (lit≤ tt))) in
+        let same : y ≡ z
+        = whole-unique binary64 y z (sign y) k f (round-fits binary64 (sign y) k 1) (v .1)
+        (round-whole binary64 (sign y) k (le-trans (v .0) (lit≤ tt))) in
         absurd (subst T (ap (λ (x : Float). eq (x ⊕ shift ⊖ shift) x) (sym same) ∙ h) (stay (sign y) k (v .0)))

@@ -45,30 +45,40 @@ small (fin false m e) p q =
       m = m;
       e = e;
       is = refl;
-      above = subst (λ (z : ℕ). 0 < z) (mul-one N) (subst (λ (z : ℕ). z < N * 1) (zero-mul (down e)) (ltb→lt (0 * down e) (N * 1) p));
-      most = subst (λ (z : ℕ). z ≤ 1080 * down e) (mul-one N) (or-le (N * 1) (1080 * down e) (ltb (N * 1) (1080 * down e)) (eqb (N * 1) (1080 * down e)) (ltb→lt (N * 1) (1080 * down e)) (eqb→eq (N * 1) (1080 * down e)) q);
+      above =
+          subst (λ (z : ℕ). 0 < z) (mul-one N)
+          (subst (λ (z : ℕ). z < N * 1) (zero-mul (down e)) (ltb→lt (0 * down e) (N * 1) p));
+      most =
+          subst (λ (z : ℕ). z ≤ 1080 * down e) (mul-one N)
+          (or-le (N * 1) (1080 * down e) (ltb (N * 1) (1080 * down e)) (eqb (N * 1) (1080 * down e))
+          (ltb→lt (N * 1) (1080 * down e)) (eqb→eq (N * 1) (1080 * down e)) q);
     }
 
 -- ---- comparing a float whose value is t
-cmp-true : (z : Float) (t : ℕ) → HasValue z false t 1 → (m : ℕ) (e : ℤ) → lt z (fin false m e) ≡ true → t * down e < m * up e
+cmp-true : (z : Float) (t : ℕ) → HasValue z false t 1 → (m : ℕ) (e : ℤ) → lt z (fin false m e) ≡ true
+    → t * down e < m * up e
 unfolding lt
 cmp-true nan t v m e h = absurd v
 cmp-true (inf s) t v m e h = absurd v
 cmp-true (fin true p g) t v m e h = absurd (true≢false (v .0))
 cmp-true (fin false p g) t v m e h =
     let q : p * up g ≡ t * down g = sym (mul-one (p * up g)) ∙ v .1 in
-    let l : t * down g * down e < m * up e * down g = subst (λ (y : ℕ). y * down e < m * up e * down g) q (ltb-true (p * up g * down e) (m * up e * down g) h) in
+    let l : t * down g * down e < m * up e * down g
+    = subst (λ (y : ℕ). y * down e < m * up e * down g) q (ltb-true (p * up g * down e) (m * up e * down g) h) in
     lt-of-mul-lt-mul-right (down g) (subst (λ (y : ℕ). y < m * up e * down g) (mul-right-comm t (down g) (down e)) l)
 
-cmp-false : (z : Float) (t : ℕ) → HasValue z false t 1 → (m : ℕ) (e : ℤ) → lt z (fin false m e) ≡ false → m * up e ≤ t * down e
+cmp-false : (z : Float) (t : ℕ) → HasValue z false t 1 → (m : ℕ) (e : ℤ) → lt z (fin false m e) ≡ false
+    → m * up e ≤ t * down e
 unfolding lt
 cmp-false nan t v m e h = absurd v
 cmp-false (inf s) t v m e h = absurd v
 cmp-false (fin true p g) t v m e h = absurd (true≢false (v .0))
 cmp-false (fin false p g) t v m e h =
     let q : p * up g ≡ t * down g = sym (mul-one (p * up g)) ∙ v .1 in
-    let l : m * up e * down g ≤ t * down g * down e = subst (λ (y : ℕ). m * up e * down g ≤ y * down e) q (ltb-false (p * up g * down e) (m * up e * down g) h) in
-    le-of-mul-le-mul-right (subst (λ (y : ℕ). m * up e * down g ≤ y) (mul-right-comm t (down g) (down e)) l) (down-pos g)
+    let l : m * up e * down g ≤ t * down g * down e
+    = subst (λ (y : ℕ). m * up e * down g ≤ y * down e) q (ltb-false (p * up g * down e) (m * up e * down g) h) in
+    le-of-mul-le-mul-right (subst (λ (y : ℕ). m * up e * down g ≤ y) (mul-right-comm t (down g) (down e)) l)
+    (down-pos g)
 
 -- ---- the quotient, rounded up
 part : (n q d r : ℕ) → 0 < d → q + r ≡ n → q < n → n + (d - 1) ≡ q + d + (r - 1)
@@ -86,11 +96,13 @@ pred-lt d p = omega arith
 up-one : (n d : ℕ) → 0 < d → n / d * d < n → (n + (d - 1)) / d ≡ suc (n / d)
 up-one n d p l =
     let t = n / d in
-    let e : n + (d - 1) ≡ suc t * d + (n % d - 1) = part n (t * d) d (n % d) p (div-add-mod' n d) l ∙ ap (λ (y : ℕ). y + (n % d - 1)) (sym (suc-mul t d)) in
+    let e : n + (d - 1) ≡ suc t * d + (n % d - 1)
+    = part n (t * d) d (n % d) p (div-add-mod' n d) l ∙ ap (λ (y : ℕ). y + (n % d - 1)) (sym (suc-mul t d)) in
     ap (λ (y : ℕ). y / d) e ∙ digits-div (suc t) (fewer (n % d) d p (mod-lt n p))
 
 up-none : (n d : ℕ) → 0 < d → n ≤ n / d * d → (n + (d - 1)) / d ≡ n / d
-up-none n d p l = ap (λ (y : ℕ). y / d) (last n (n / d * d) d (n % d) (div-add-mod' n d) l) ∙ digits-div (n / d) (pred-lt d p)
+up-none n d p l =
+    ap (λ (y : ℕ). y / d) (last n (n / d * d) d (n % d) (div-add-mod' n d) l) ∙ digits-div (n / d) (pred-lt d p)
 
 one-of : (n d : ℕ) → 0 < d → 0 < n → 1 * d ≤ n + (d - 1)
 one-of n d p l = omega arith
@@ -122,7 +134,9 @@ module _ (x : Float) (k : Small x) where
 
   pub below-top : T (lt x (fin false 1 (pos 64)))
   unfolding lt
-  below-top = rw (k .is) (lt→ltb (k .m * up (k .e) * 1) (18446744073709551616 * down (k .e)) (omega (arith, k .most, down-pos (k .e))))
+  below-top =
+      rw (k .is)
+      (lt→ltb (k .m * up (k .e) * 1) (18446744073709551616 * down (k .e)) (omega (arith, k .most, down-pos (k .e))))
 
   quotient : N / D ≤ 1080
   unfolding N D
@@ -142,17 +156,23 @@ module _ (x : Float) (k : Small x) where
   unfolding raised ofInt N D
   raised-more h =
       let t = N / D in
-      let h1 : lt (ofInt binary64 (pos t)) x ≡ true = subst (λ (y : ℕ). lt (ofInt binary64 (pos y)) x ≡ true) truncated h in
-      let h2 : lt (round binary64 false t 1) (fin false (k .m) (k .e)) ≡ true = subst (λ (y : Float). lt (round binary64 false t 1) y ≡ true) (k .is) h1 in
-      ap (λ (y : ℕ). y + 1) truncated ∙ add-one t ∙ sym (up-one N D D-pos (cmp-true (round binary64 false t 1) t held (k .m) (k .e) h2)) ∙ sym (ap raised (k .is))
+      let h1 : lt (ofInt binary64 (pos t)) x ≡ true
+      = subst (λ (y : ℕ). lt (ofInt binary64 (pos y)) x ≡ true) truncated h in
+      let h2 : lt (round binary64 false t 1) (fin false (k .m) (k .e)) ≡ true
+      = subst (λ (y : Float). lt (round binary64 false t 1) y ≡ true) (k .is) h1 in
+      ap (λ (y : ℕ). y + 1) truncated ∙ add-one t
+      ∙ sym (up-one N D D-pos (cmp-true (round binary64 false t 1) t held (k .m) (k .e) h2)) ∙ sym (ap raised (k .is))
 
   pub raised-same : lt (ofInt binary64 (pos (toUnsigned 64 x))) x ≡ false → toUnsigned 64 x ≡ raised x
   unfolding raised ofInt N D
   raised-same h =
       let t = N / D in
-      let h1 : lt (ofInt binary64 (pos t)) x ≡ false = subst (λ (y : ℕ). lt (ofInt binary64 (pos y)) x ≡ false) truncated h in
-      let h2 : lt (round binary64 false t 1) (fin false (k .m) (k .e)) ≡ false = subst (λ (y : Float). lt (round binary64 false t 1) y ≡ false) (k .is) h1 in
-      truncated ∙ sym (up-none N D D-pos (cmp-false (round binary64 false t 1) t held (k .m) (k .e) h2)) ∙ sym (ap raised (k .is))
+      let h1 : lt (ofInt binary64 (pos t)) x ≡ false
+      = subst (λ (y : ℕ). lt (ofInt binary64 (pos y)) x ≡ false) truncated h in
+      let h2 : lt (round binary64 false t 1) (fin false (k .m) (k .e)) ≡ false
+      = subst (λ (y : Float). lt (round binary64 false t 1) y ≡ false) (k .is) h1 in
+      truncated ∙ sym (up-none N D D-pos (cmp-false (round binary64 false t 1) t held (k .m) (k .e) h2))
+      ∙ sym (ap raised (k .is))
 
   pub raised-above : 1 ≤ raised x
   unfolding raised N D
@@ -167,13 +187,15 @@ neg-pred : (r : ℕ) → 1 ≤ r → negℤ (pos r) ≡ negsuc (r - 1)
 neg-pred zero h = absurd (lt-irrefl 0 h)
 neg-pred (suc r) h = ap negsuc (sym (less r))
 
-pub floor-neg : (w : Float) → T (lt (bits 0) (neg w)) → T (le (neg w) (fin false 135 (pos 3))) → floor w ≡ negsuc (raised (neg w) - 1)
+pub floor-neg : (w : Float) → T (lt (bits 0) (neg w)) → T (le (neg w) (fin false 135 (pos 3)))
+    → floor w ≡ negsuc (raised (neg w) - 1)
 unfolding lt le eq ofBits neg raised
 floor-neg nan p q = absurd p
 floor-neg (inf true) p q = absurd q
 floor-neg (inf false) p q = absurd p
 floor-neg (fin false m e) p q = absurd p
-floor-neg (fin true m e) p q = neg-pred (raised (fin false m e)) (raised-above (fin false m e) (small (fin false m e) p q))
+floor-neg (fin true m e) p q =
+    neg-pred (raised (fin false m e)) (raised-above (fin false m e) (small (fin false m e) p q))
 
 pub ofInt-neg : (c : ℕ) → 1 ≤ c → ofInt binary64 (negsuc (c - 1)) ≡ neg (ofInt binary64 (pos c))
 unfolding ofInt
@@ -204,7 +226,9 @@ unfolding lt le eq cut toUnsigned
 positive-part m e h =
     let N = m * up e in
     let D = down e in
-    let l : N * 2 ≤ 2049 * D = or-le (N * 2) (2049 * D) (ltb (N * 2) (2049 * D)) (eqb (N * 2) (2049 * D)) (ltb→lt (N * 2) (2049 * D)) (eqb→eq (N * 2) (2049 * D)) h in
+    let l : N * 2 ≤ 2049 * D
+    = or-le (N * 2) (2049 * D) (ltb (N * 2) (2049 * D)) (eqb (N * 2) (2049 * D)) (ltb→lt (N * 2) (2049 * D))
+    (eqb→eq (N * 2) (2049 * D)) h in
     let q : N / D ≤ 1024 = le-of-suc-le-suc (div-lt-iff-lt-mul (down-pos e) .1 (half-most N D (down-pos e) l)) in
     let k : min (N / D) 18446744073709551615 ≡ N / D = cut-is (N / D) (le-trans q (lit≤ tt)) in
     record {
@@ -228,7 +252,8 @@ unfolding lt le eq cut toUnsigned raised ofBits
 zero-part m e h =
     let N = m * up e in
     let D = down e in
-    let z : N ≤ 0 = subst (λ (y : ℕ). y ≤ 0) (mul-one N) (subst (λ (y : ℕ). N * 1 ≤ y) (zero-mul D) (ltb-false (0 * D) (N * 1) h)) in
+    let z : N ≤ 0
+    = subst (λ (y : ℕ). y ≤ 0) (mul-one N) (subst (λ (y : ℕ). N * 1 ≤ y) (zero-mul D) (ltb-false (0 * D) (N * 1) h)) in
     record {
       is = ap (λ (y : ℕ). negℤ (pos y)) (zero-raised N D (down-pos e) z);
       most = lit≤ tt;
@@ -236,7 +261,8 @@ zero-part m e h =
       below = lt→ltb 0 (N * 1 + 18446744073709551616 * D) (sum-pos' N D (down-pos e));
     }
 
-pub part-of : (w : Float) → T (le (neg w) (fin false 135 (pos 3))) → T (le w (fin false 2049 (negsuc 0))) → lt (bits 0) (neg w) ≡ false → Part w
+pub part-of : (w : Float) → T (le (neg w) (fin false 135 (pos 3))) → T (le w (fin false 2049 (negsuc 0)))
+    → lt (bits 0) (neg w) ≡ false → Part w
 unfolding le lt eq neg
 part-of nan p q h = absurd p
 part-of (inf true) p q h = absurd p

@@ -15,7 +15,9 @@ use Rattle.powers.specs.Power.{power, tenSteps, wholeTen, smallWhole, te
 
 -- opens what the rows compute with
 unfoldable rows : ℕ
-unfolding add sub mul div neg ofBits ofInt round lt le eq isNan size down signed abs unitsIn squareRoot halved arcSum arcCore arcAbs arc placeOf mantissa logSum logCore logAt logPositive log cut raised scale expSum expAt exp power tenSteps wholeTen smallWhole tenTo
+unfolding add sub mul div neg ofBits ofInt round lt le eq isNan size down signed abs unitsIn squareRoot halved arcSum
+    arcCore arcAbs arc placeOf mantissa logSum logCore logAt logPositive log cut raised scale expSum expAt exp power
+    tenSteps wholeTen smallWhole tenTo
 rows = 0
 
 -- P: power(1, NaN) = 1

@@ -261,8 +261,15 @@ held : (z : Float) → T (fits binary64 z) → T (plain z) → Held z
 held nan f p = absurd p
 held (inf s) f p = absurd p
 held (fin true m e) f p = absurd p
-held (fin false zero e) f p = record { m = 0; i = 0; short = lit< tt; value = (refl, ap (λ (a : ℕ). a * 2 ^ 1074) (zero-mul (up e)) ∙ sym (zero-mul (down e))) }
-held (fin false (suc m) e) f p = let u = units-of false m e f in record { m = suc m; i = shift-of e; short = u .digits; value = (refl, u .value) }
+held (fin false zero e) f p =
+    record {
+      m = 0;
+      i = 0;
+      short = lit< tt;
+      value = (refl, ap (λ (a : ℕ). a * 2 ^ 1074) (zero-mul (up e)) ∙ sym (zero-mul (down e)));
+    }
+held (fin false (suc m) e) f p =
+    let u = units-of false m e f in record { m = suc m; i = shift-of e; short = u .digits; value = (refl, u .value) }
 
 -- what is close to 10^(-k) is nearer than every other float of the sign plus
 nearest : (k : ℕ) (x z : Float) → T (isClose k x) → T (fits binary64 x) → T (fits binary64 z) → T (plain z)

@@ -1,4 +1,5 @@
--- What the program holds is what some bytes leave of the store of zeros: at the start, and after each byte more. Assumes nothing.
+-- What the program holds is what some bytes leave of the store of zeros: at the start, and after each byte more.
+-- Assumes nothing.
 use mathlib.Core.Path.{_≡_, refl, ap, _∙_, subst⁻¹}
 use mathlib.Core.List.{List, [], _∷_, _++_}
 use Prim.Native.Nat.{ℕ}
@@ -18,8 +19,12 @@ fed-last h (a ∷ bs) b = fed-last (feedByte h a .next) bs b
 
 one-more : (h : Held) (b : ℕ) → Reached h → Reached (feedByte h b .next)
 one-more h b r =
-    record { bytes = r .bytes ++ (b ∷ []); same = ap (λ (x : Held). feedByte x b .next) (r .same) ∙ fed-last heldAtFirst (r .bytes) b }
+    record {
+      bytes = r .bytes ++ (b ∷ []);
+      same = ap (λ (x : Held). feedByte x b .next) (r .same) ∙ fed-last heldAtFirst (r .bytes) b;
+    }
 
 pub many-more : {h g : Held} (bytes : List ℕ) (n : ℕ) → g ≡ heldAfter bytes n h → Reached h → Reached g
 many-more {h} bytes n e r =
-    subst⁻¹ Reached e (times-keeps Reached (feedAt bytes) (feedAt bytes) (λ i s p. refl) (λ i s p. one-more s (getD bytes i 0) p) n 0 h r)
+    subst⁻¹ Reached e
+    (times-keeps Reached (feedAt bytes) (feedAt bytes) (λ i s p. refl) (λ i s p. one-more s (getD bytes i 0) p) n 0 h r)

@@ -35,10 +35,12 @@ module _ (l line : List ℕ) (n b : ℕ) where
   unfolding lineWith countWith
   holds-more r (all e m k) = go (ltb n lineRoom) refl
     where
-      go : (t : Bool) → ltb n lineRoom ≡ t → Holds (l ++ (b ∷ [])) (cond t (set line n b) line) (cond t (n + 1) (lineRoom + 1))
+      go : (t : Bool) → ltb n lineRoom ≡ t
+          → Holds (l ++ (b ∷ [])) (cond t (set line n b) line) (cond t (n + 1) (lineRoom + 1))
       go true t =
           let h : n < length line = omega (arith, ltb-true n lineRoom t) in
-          all (omega (arith, length-append l (b ∷ []))) (omega (arith, ltb-true n lineRoom t)) (rw (add-one n) (take-suc-set line n b h ∙ ap (λ (x : List ℕ). x ++ (b ∷ [])) k))
+          all (omega (arith, length-append l (b ∷ []))) (omega (arith, ltb-true n lineRoom t))
+          (rw (add-one n) (take-suc-set line n b h ∙ ap (λ (x : List ℕ). x ++ (b ∷ [])) k))
       go false t = over refl (omega (arith, length-append l (b ∷ []), ltb-false n lineRoom t))
   holds-more r (over e m) = rw (le-ltb n lineRoom (omega arith)) (over refl (omega (arith, length-append l (b ∷ []))))
 
@@ -62,7 +64,8 @@ module _ (line : List ℕ) (n : ℕ) where
   at-end s [] h = rw (eq-eqb n 0 (none h))
   at-end s (b ∷ l) h =
       rw (ne-eqb n 0 (not-none l line n b h))
-      (ap (λ (x : Line). respond s x .text) (holds-line (b ∷ l) h) ∙ sym (append-nil (respond s (parseLine (b ∷ l)) .text)))
+      (ap (λ (x : Line). respond s x .text) (holds-line (b ∷ l) h)
+      ∙ sym (append-nil (respond s (parseLine (b ∷ l)) .text)))
 
 -- the input that is left, from within a line
 from : (s : Session) (l line : List ℕ) (n : ℕ) (input : List ℕ) → length line ≡ lineRoom → Holds l line n
@@ -72,17 +75,22 @@ from s l line n [] r h = at-end line n s l h
 from s l line n (b ∷ input) r h =
     go (eqb b 10)
     (from (respond s (lineIn line n) .next) [] line 0 input r (all refl (omega arith) refl))
-    (from s (l ++ (b ∷ [])) (lineWith line n b) (countWith n) input (room-more l line n b ∙ r) (holds-more l line n b r h))
+    (from s (l ++ (b ∷ [])) (lineWith line n b) (countWith n) input (room-more l line n b ∙ r)
+    (holds-more l line n b r h))
   where
     fed : Bool → Fed
     fed t = cond t (endLine (heldWith s line n)) (record { next = keep (heldWith s line n) b; text = [] })
 
-    go : (t : Bool) → printed (heldWith (respond s (lineIn line n) .next) line 0) input ≡ answersTo (respond s (lineIn line n) .next) (linesFrom [] input)
+    go : (t : Bool)
+        → printed (heldWith (respond s (lineIn line n) .next) line 0) input
+        ≡ answersTo (respond s (lineIn line n) .next) (linesFrom [] input)
         → printed (heldWith s (lineWith line n b) (countWith n)) input ≡ answersTo s (linesFrom (l ++ (b ∷ [])) input)
-        → fed t .text ++ printed (fed t .next) input ≡ answersTo s (cond t (l ∷ linesFrom [] input) (linesFrom (l ++ (b ∷ [])) input))
+        → fed t .text ++ printed (fed t .next) input
+        ≡ answersTo s (cond t (l ∷ linesFrom [] input) (linesFrom (l ++ (b ∷ [])) input))
     go true p q =
         ap (λ (t : List ℕ). respond s (lineIn line n) .text ++ t) p
-        ∙ ap (λ (x : Line). respond s x .text ++ answersTo (respond s x .next) (linesFrom [] input)) (holds-line line n l h)
+        ∙ ap (λ (x : Line). respond s x .text ++ answersTo (respond s x .next) (linesFrom [] input))
+        (holds-line line n l h)
     go false p q = q
 
 -- ---- the theorem: whatever stood in the run of a line's bytes

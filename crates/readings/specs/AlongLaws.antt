@@ -42,7 +42,8 @@ module _ (m : ℕ) (xs ys zs rs : List Float) where
 
   pub lanes-unit : (k : Kernel) (ss : List Float) → lt (abs (k .alpha ⊖ one)) stayLimit ≡ true
       → Lanes m (λ i r. r ≡ getD rs i nan ⊕ term k i) ss → Added m k xs ys zs rs ss
-  lanes-unit k ss h l = record { long = l .long; at = λ i g. l .at i g ∙ ap (λ (v : Float). getD rs i nan ⊕ v) (term-is k i h) }
+  lanes-unit k ss h l =
+      record { long = l .long; at = λ i g. l .at i g ∙ ap (λ (v : Float). getD rs i nan ⊕ v) (term-is k i h) }
 
   pub lanes-units : (k l : Kernel) (ss : List Float) → lt (abs (k .alpha ⊖ one)) stayLimit ≡ true
       → lt (abs (l .alpha ⊖ one)) stayLimit ≡ true
@@ -57,7 +58,11 @@ module _ (m : ℕ) (xs ys zs rs : List Float) where
   -- one after the other
   pub both-added : (k l : Kernel) (ss ts : List Float) → Added m k xs ys zs rs ss → Added m l xs ys zs ss ts
       → BothAdded m k l xs ys zs rs ts
-  both-added k l ss ts a b = record { long = b .long; at = λ i h. b .at i h ∙ ap (λ (v : Float). v ⊕ densityOf l (lane xs ys zs i)) (a .at i h) }
+  both-added k l ss ts a b =
+      record {
+        long = b .long;
+        at = λ i h. b .at i h ∙ ap (λ (v : Float). v ⊕ densityOf l (lane xs ys zs i)) (a .at i h);
+      }
 
 module _ (k : ℕ → Kernel) (n m : ℕ) (xs ys zs : List Float) where
   -- at each point the kernels that are left, added to the sum so far, give the density
@@ -91,7 +96,11 @@ last-sum k n m xs ys zs s a =
     }
 
 pub zeros : (m : ℕ) → m ≤ 64 → Zeros m (replicate 64 +0)
-zeros m h = record { long = length-replicate {A = Float} 64 +0; at = λ i l. getD-replicate {A = Float} 64 i +0 nan (lt-of-lt-of-le l h) }
+zeros m h =
+    record {
+      long = length-replicate {A = Float} 64 +0;
+      at = λ i l. getD-replicate {A = Float} 64 i +0 nan (lt-of-lt-of-le l h);
+    }
 
 -- ---- a stretch of a track
 module _ (f : List Float → Float) (ps : List Float) where
@@ -172,7 +181,8 @@ module _ (f : List Float → Float) (ps : List Float) where
         same = e ∙ (ap (λ (r : List Float). write r k (stretch f ps k m)) (t .same)
             ∙ (ap (λ (j : ℕ). write (write l 0 (along f ps k)) j (stretch f ps k m)) a
             ∙ (write-more l 0 (along f ps k) (stretch f ps k m) (omega arith)
-            ∙ ap (write l 0) (sym (stretch-more 0 k m ∙ ap (λ (j : ℕ). along f ps k ++ stretch f ps j m) (zero-add k))))));
+            ∙ ap (write l 0)
+            (sym (stretch-more 0 k m ∙ ap (λ (j : ℕ). along f ps k ++ stretch f ps j m) (zero-add k))))));
       }
 
   pub one-traced : (l : List Float) (k : ℕ) {o : List Float} {v : Float} → Traced l k o → k < length l

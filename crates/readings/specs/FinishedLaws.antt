@@ -107,7 +107,9 @@ module _ (q : ℕ) (three : 3 ≤ q) (layers : ℕ) (ws : List ℕ) (long : corn
   unfolding heldSeen
   seen-at-once fs =
       let t = take (cornersFrom q) T in
-      rw (complete-body fs, same-held q fs C t 32 at-once, same-filled q fs C t 32 at-once, same-worst q fs C t 32 at-once) refl
+      rw
+      (complete-body fs, same-held q fs C t 32 at-once, same-filled q fs C t 32 at-once, same-worst q fs C t 32 at-once)
+      refl
 
 -- the words that are covered are those of a store whose places are sound
 pub complete-ready : (layers : ℕ) (ws t : List ℕ) (m : ℕ) → t ≡ take (cornersFrom width) (showing width layers true ws)

@@ -81,7 +81,13 @@ module _ (q : ℕ) (three : 3 ≤ q) (fs : List Float) (ws : List ℕ) (ok : sto
 
   none-seen : heldSeen q fs S ≡ seeing [] body 0 +0
   unfolding heldSeen
-  none-seen = rw (none-held q fs S 32 all-empty, none-filled q fs S 32 all-empty, none-worst q fs S 32 all-empty, seen-body q fs ws 0 (fine q fs ws ok .places .long)) refl
+  none-seen =
+      rw (
+        none-held q fs S 32 all-empty,
+        none-filled q fs S 32 all-empty,
+        none-worst q fs S 32 all-empty,
+        seen-body q fs ws 0 (fine q fs ws ok .places .long),
+      ) refl
 
   pub no-layer : (r : Reading) → readStep q fs ws 0 r ≡ answerOf r (seeing [] body 0 +0)
   unfolding readStep layersCheck

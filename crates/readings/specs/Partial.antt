@@ -81,7 +81,12 @@ module _ (q : ℕ) (three : 3 ≤ q) (fs : List Float) (ws : List ℕ) (layers :
     covered-complete : (i : ℕ) → i < 32 → statusOf q covered i - 1 ≤ finishedOf q covered i
     unfolding completeAt
     covered-complete i h =
-        rw (complete-status q three layers ws long i h, complete-finished q three layers ws long i h, seen-status q layers ws long three i h, seen-finished q layers ws long three i h)
+        rw (
+          complete-status q three layers ws long i h,
+          complete-finished q three layers ws long i h,
+          seen-status q layers ws long three i h,
+          seen-finished q layers ws long three i h,
+        )
         (go (statusOf q ws i) (finishedOf q ws i) (inSet layers (layerOf q ws i)) (completeAt q ws i) refl)
       where
         go : (s n : ℕ) (b c : Bool) → eqb n (s - 1) ≡ c → cond c (cond b s 0) 0 - 1 ≤ cond c (cond b n 0) 0
@@ -124,7 +129,13 @@ module _ (q : ℕ) (three : 3 ≤ q) (fs : List Float) (ws : List ℕ) (layers :
       all-seen : heldSeen q fs covered ≡ heldSeen q fs seen
       unfolding heldSeen
       all-seen =
-          rw (complete-body q three layers ws long fs, seen-body q fs ws layers long, same-held q fs covered seen 32 all-covered, same-filled q fs covered seen 32 all-covered, same-worst q fs covered seen 32 all-covered) refl
+          rw (
+            complete-body q three layers ws long fs,
+            seen-body q fs ws layers long,
+            same-held q fs covered seen 32 all-covered,
+            same-filled q fs covered seen 32 all-covered,
+            same-worst q fs covered seen 32 all-covered,
+          ) refl
 
       none-passed : passedOver q layers ws ≡ 0
       unfolding passedOver

@@ -136,11 +136,14 @@ trackCheck coords room =
 
 -- "takes the points, one convention and a lent run for the densities, in point order"; "The scale and the rescaled
 -- weights are worked once for the track"
+abbrev pub densitiesAlong : Float → List Kernel → List Float → ℕ → List Float
+densitiesAlong s ks points count = along (densityAt (map (rescaled s) ks)) points count
+
 abbrev pub tracking : Float → List Kernel → List Float → List Float → Outcome
 tracking s ks points out =
     guardedRun (trackCheck (length points) (length out)) out
     (outcome (counted (length points / 3 ∷ []))
-    (write out 0 (along (densityAt (map (rescaled s) ks)) points (length points / 3))))
+    (write out 0 (densitiesAlong s ks points (length points / 3))))
 
 abbrev pub answerOf : Reading → Seen → Outcome
 answerOf (density v x) s =
@@ -164,12 +167,13 @@ readingOf r left s = cond (needsWork r && ltb 0 left) (refusing r Unfinished) (a
 
 -- ---- as a store's runs hold it: "Readings use pieces and volumes as the store holds them; a piece's alpha is the
 -- kernel's if that kernel stays, else 1, and its weight is w times the coefficient"
+abbrev pub heldPiece : List Float → ℕ → ℕ → Float → Kernel
+heldPiece fs i j w =
+    record { c = centreFloats fs i; sigma = sigmaOf fs i j; w = w; alpha = pieceAlpha (alphaOf fs i) }
+
 abbrev pub heldPart : List Float → ℕ → ℕ → Part
 heldPart fs i j =
-    record {
-      kernel = record { c = centreFloats fs i; sigma = sigmaOf fs i j; w = weightOf fs i ⊗ coefficientOf fs i j; alpha = pieceAlpha (alphaOf fs i) };
-      volume = volumeOf fs i j;
-    }
+    record { kernel = heldPiece fs i j (weightOf fs i ⊗ coefficientOf fs i j); volume = volumeOf fs i j }
 
 -- the first j pieces of place i, and those of the places below k
 abbrev pub heldAt : List Float → ℕ → ℕ → List Part

@@ -61,7 +61,8 @@ seen-as q fs ws layers three long =
     let s = inLayers q layers ws in
     let t = take (cornersFrom q) s in
     let e : (i : ℕ) → i < 32 → statusOf q s i ≡ statusOf q t i = λ i h. sym (front-status q three s i h) in
-    rw (seen-body q fs ws layers long, same-held q fs s t 32 e, same-filled q fs s t 32 e, same-worst q fs s t 32 e) refl
+    rw (seen-body q fs ws layers long, same-held q fs s t 32 e, same-filled q fs s t 32 e, same-worst q fs s t 32 e)
+    refl
 
 -- a reading that is not refused, by the words that are seen
 pub read-seen : (q : ℕ) (fs : List Float) (ws : List ℕ) (layers : ℕ) (r : Reading) → 3 ≤ q
@@ -113,7 +114,12 @@ module _ (layers : ℕ) (only : Bool) (ws : List ℕ) where
   next-looked long k {s} {t} g h = go (test k) refl
     where
       go : (b : Bool) → test k ≡ b → t ≡ cond b s (write s (2 + 4 * k) (replicate 4 0)) → Looked (k + 1) t
-      go true e r = record { low = omega arith; size = ap length r ∙ g .size; same = r ∙ (g .same ∙ shown-next width test ws long k h e) }
+      go true e r =
+          record {
+            low = omega arith;
+            size = ap length r ∙ g .size;
+            same = r ∙ (g .same ∙ shown-next width test ws long k h e);
+          }
       go false e r =
           record {
             low = omega arith;

@@ -21,7 +21,13 @@ use Rattle.readings.specs.Readings.{Part, noKernel, noPart, densityAt, r
 
 -- a kernel with the three floats of its centre written out, as six floats keep it
 abbrev pub whole : Kernel → Kernel
-whole k = record { c = getD (k .c) 0 nan ∷ getD (k .c) 1 nan ∷ getD (k .c) 2 nan ∷ []; sigma = k .sigma; w = k .w; alpha = k .alpha }
+whole k =
+    record {
+      c = getD (k .c) 0 nan ∷ getD (k .c) 1 nan ∷ getD (k .c) 2 nan ∷ [];
+      sigma = k .sigma;
+      w = k .w;
+      alpha = k .alpha;
+    }
 
 -- ---- a list of kernels as six floats each
 pub sixes-length : (ks : List Kernel) → length (sixes ks) ≡ 6 * length ks

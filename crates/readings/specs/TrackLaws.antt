@@ -43,7 +43,12 @@ trackable coords room h = go (eqb (coords % 3) 0) refl (leb (coords / 3) trackLi
     go : (a : Bool) → eqb (coords % 3) 0 ≡ a → (b : Bool) → leb (coords / 3) trackLimit ≡ b → (c : Bool)
         → leb (coords / 3) room ≡ c
         → cond (a && b && c) Passed (Failed BadTrack) ≡ Passed → Trackable coords room
-    go true p true q true r h = record { threes = eqb-true (coords % 3) 0 p; few = leb-true (coords / 3) trackLimit q; fits = leb-true (coords / 3) room r }
+    go true p true q true r h =
+        record {
+          threes = eqb-true (coords % 3) 0 p;
+          few = leb-true (coords / 3) trackLimit q;
+          fits = leb-true (coords / 3) room r;
+        }
     go false p b q c r h = absurd (let o : _≡_ {A = ℕ} 0 1 = cc in omega arith)
     go true p false q c r h = absurd (let o : _≡_ {A = ℕ} 0 1 = cc in omega arith)
     go true p true q false r h = absurd (let o : _≡_ {A = ℕ} 0 1 = cc in omega arith)

@@ -3,9 +3,8 @@
 ghost use mathlib.Core.Path.{_≡_};
 ghost use Prim.Native.Nat.{_≤_, _<_};
 ghost use lib.ListN.{length};
-ghost use Rattle.layout.specs.Layout.{placeLimit, pieceLimit, coordsFrom, centreFloats, alphaOf, sigmaOf};
-ghost use Rattle.pieces.specs.Pieces.{pieceAlpha};
-ghost use Rattle.readings.specs.Readings.{bare, heldPart, rescaled};
+ghost use Rattle.layout.specs.Layout.{placeLimit, pieceLimit, coordsFrom};
+ghost use Rattle.readings.specs.Readings.{bare, heldPiece, heldPart, rescaled};
 use kernel::kernel::Kernel;
 use layout::offsets::ALPHA;
 use layout::offsets::COEFFICIENT;
@@ -19,7 +18,7 @@ use pieces::pieces::piece_alpha;
 // Piece j of place i, with the weight w.
 fn piece_of_weight(floats: &[f64], i: usize, j: usize, w: f64) -> Kernel
     requires { ⌜ (coordsFrom ≤ length (now floats)) × (i < placeLimit) × (j < pieceLimit) ⌝ }
-    ensures { λ r. ⌜ r ≡ record { c = centreFloats (now (floats .entry)) i; sigma = sigmaOf (now (floats .entry)) i j; w = w; alpha = pieceAlpha (alphaOf (now (floats .entry)) i) } ⌝ }
+    ensures { λ r. ⌜ r ≡ heldPiece (now (floats .entry)) i j w ⌝ }
 {
     let at = KERNEL_SIZE * i;
     let alpha = piece_alpha(floats[ALPHA + at]);

@@ -7,8 +7,7 @@ ghost use Rattle.base.specs.Answers.{outcome};
 ghost use Rattle.layout.specs.Layout.{width, placeLimit, coordsFrom};
 ghost use Rattle.layout.specs.SoundLaws.{Worded};
 ghost use Rattle.layout.specs.Runs.{write};
-ghost use Rattle.readings.specs.Along.{along};
-ghost use Rattle.readings.specs.Readings.{bare, rescaled, densityAt, heldAll, trackCheck, readStep};
+ghost use Rattle.readings.specs.Readings.{bare, heldAll, densitiesAlong, trackCheck, readStep};
 ghost use Rattle.readings.specs.Readings;
 ghost use Rattle.readings.specs.TrackAnswer.{trackRead};
 use crate::along::densities;
@@ -56,7 +55,8 @@ fn side_by_side(
     requires { ⌜ coordsFrom ≤ length (now floats) ⌝ ∗ ⌜ Worded width (now words) faces ⌝
         ∗ ⌜ (3 * count ≤ length (now points)) × (count ≤ length (now out)) ⌝ }
     ensures { λ _. ⌜ now (out .exit) ≡ write (now (out .entry)) 0
-        (along (densityAt (map (rescaled s) (map bare (heldAll width (now (floats .entry)) (now (words .entry)) placeLimit)))) (now (points .entry)) count) ⌝ }
+        (densitiesAlong s (map bare (heldAll width (now (floats .entry)) (now (words .entry)) placeLimit))
+        (now (points .entry)) count) ⌝ }
 {
     let n = count_pieces(words, faces);
     let mut kernels = [0.0; 3072];
@@ -77,7 +77,8 @@ fn one_by_one(
     requires { ⌜ coordsFrom ≤ length (now floats) ⌝ ∗ ⌜ Worded width (now words) faces ⌝
         ∗ ⌜ (3 * count ≤ length (now points)) × (count ≤ length (now out)) ⌝ }
     ensures { λ _. ⌜ now (out .exit) ≡ write (now (out .entry)) 0
-        (along (densityAt (map (rescaled s) (map bare (heldAll width (now (floats .entry)) (now (words .entry)) placeLimit)))) (now (points .entry)) count) ⌝ }
+        (densitiesAlong s (map bare (heldAll width (now (floats .entry)) (now (words .entry)) placeLimit))
+        (now (points .entry)) count) ⌝ }
 {
     let mut i: usize = 0;
     while i < count {
@@ -107,7 +108,8 @@ fn trace(
     requires { ⌜ coordsFrom ≤ length (now floats) ⌝ ∗ ⌜ Worded width (now words) faces ⌝
         ∗ ⌜ (3 * count ≤ length (now points)) × (count ≤ length (now out)) ⌝ }
     ensures { λ _. ⌜ now (out .exit) ≡ write (now (out .entry)) 0
-        (along (densityAt (map (rescaled s) (map bare (heldAll width (now (floats .entry)) (now (words .entry)) placeLimit)))) (now (points .entry)) count) ⌝ }
+        (densitiesAlong s (map bare (heldAll width (now (floats .entry)) (now (words .entry)) placeLimit))
+        (now (points .entry)) count) ⌝ }
 {
     if count < 8 {
         one_by_one(floats, words, faces, s, points, count, out);

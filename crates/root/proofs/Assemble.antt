@@ -22,10 +22,16 @@ pub low-bit : (n : ℕ) → bitAnd n 1 ≡ n % 2
 low-bit n = and-mask n 1
 
 -- `sig << odd`
-pub shifted : (sig odd : ℕ) → 2 ^ 52 ≤ sig → sig < 2 ^ 53 → odd < 2 → (2 ^ 52 ≤ sig * 2 ^ odd) × (sig * 2 ^ odd < 2 ^ 54) × (sig * 2 ^ odd % 2 ^ 64 ≡ sig * 2 ^ odd)
+pub shifted : (sig odd : ℕ) → 2 ^ 52 ≤ sig → sig < 2 ^ 53 → odd < 2
+    → (2 ^ 52 ≤ sig * 2 ^ odd) × (sig * 2 ^ odd < 2 ^ 54) × (sig * 2 ^ odd % 2 ^ 64 ≡ sig * 2 ^ odd)
 shifted sig odd l m o =
-    let u : sig * 2 ^ odd < 2 ^ 54 = lt-of-lt-of-le (mul-lt-mul-of-pos-right m (pow-pos odd)) (mul-le-mul-left (2 ^ 53) (pow-mono {i = odd} {j = 1} (le-of-suc-le-suc o))) in
-    (le-trans l (le-trans (le-of-eq (sym (mul-one sig))) (mul-le-mul-left sig (pow-pos odd))), u, mod-eq-of-lt (lt-of-lt-of-le u (pow-mono {i = 54} {j = 64} (le-of-lt (lit< tt)))))
+    let u : sig * 2 ^ odd < 2 ^ 54
+    = lt-of-lt-of-le (mul-lt-mul-of-pos-right m (pow-pos odd))
+    (mul-le-mul-left (2 ^ 53) (pow-mono {i = odd} {j = 1} (le-of-suc-le-suc o))) in (
+      le-trans l (le-trans (le-of-eq (sym (mul-one sig))) (mul-le-mul-left sig (pow-pos odd))),
+      u,
+      mod-eq-of-lt (lt-of-lt-of-le u (pow-mono {i = 54} {j = 64} (le-of-lt (lit< tt)))),
+    )
 
 module _ (n sig ex a : ℕ) (s : Scaled n sig ex) (r : Rounded (sig * 2 ^ (ex % 2)) a) where
   q : ℕ
@@ -51,7 +57,10 @@ module _ (n sig ex a : ℕ) (s : Scaled n sig ex) (r : Rounded (sig * 2 ^ (ex % 
   most = subst (λ (x : ℕ). x ≤ 2 ^ 53) (sym halved) (half-most q root-most)
 
   has-value : HasValue (rootUnits binary64 n) false (a * 2 ^ suc (ex / 2 + 484)) (2 ^ 1074)
-  has-value = subst (λ (x : ℕ). HasValue (rootUnits binary64 n) false (x * 2 ^ suc (ex / 2 + 484)) (2 ^ 1074)) (sym halved) (root-value n (sig * 2 ^ (ex % 2)) q (ex / 2 + 484) (radicand n sig ex s) whole root-least root-most (few (s .top)))
+  has-value =
+      subst (λ (x : ℕ). HasValue (rootUnits binary64 n) false (x * 2 ^ suc (ex / 2 + 484)) (2 ^ 1074)) (sym halved)
+      (root-value n (sig * 2 ^ (ex % 2)) q (ex / 2 + 484) (radicand n sig ex s) whole root-least root-most
+      (few (s .top)))
     where
       few : ex ≤ 2097 → ex / 2 + 484 ≤ 1533
       few h = omega arith
@@ -68,12 +77,19 @@ module _ (n sig ex a : ℕ) (s : Scaled n sig ex) (r : Rounded (sig * 2 ^ (ex % 
 -- a significand's number of units is not 0
 some-units : (n sig ex : ℕ) → Scaled n sig ex → 0 < n
 some-units n sig ex s = elim (eq-zero-or-pos n) [
-  | inl e ↦ absurd (lt-irrefl 0 (lt-of-lt-of-le (mul-pos (lt-of-lt-of-le (pow-pos 52) (s .least)) (pow-pos ex)) (le-of-eq (s .value ∙ ap (λ (z : ℕ). z * 2 ^ 52) e))))
+  | inl e ↦ absurd
+      (lt-irrefl 0
+      (lt-of-lt-of-le (mul-pos (lt-of-lt-of-le (pow-pos 52) (s .least)) (pow-pos ex))
+      (le-of-eq (s .value ∙ ap (λ (z : ℕ). z * 2 ^ 52) e))))
   | inr h ↦ h
 ]
 
 -- the root of x, from the parts of x's pattern b
-pub root-made : (x : Float) (b sig ex a : ℕ) → T (fits binary64 x) → b ≡ toBits binary64 x → b < 9218868437227405312 → Scaled (unitsAt b) sig ex → Rounded (sig * 2 ^ (ex % 2)) a → ofBits binary64 ((ex / 2 + 485) * 2 ^ 52 % 2 ^ 64 + a) ≡ squareRoot binary64 x
+pub root-made : (x : Float) (b sig ex a : ℕ) → T (fits binary64 x) → b ≡ toBits binary64 x → b < 9218868437227405312
+    → Scaled (unitsAt b) sig ex → Rounded (sig * 2 ^ (ex % 2)) a
+    → ofBits binary64 ((ex / 2 + 485) * 2 ^ 52 % 2 ^ 64 + a) ≡ squareRoot binary64 x
 root-made x b sig ex a f e h s r =
-    let v : HasValue x false (unitsAt b) (2 ^ 1074) = subst (λ (z : ℕ). HasValue x false (unitsAt z) (2 ^ 1074)) (sym e) (own-units x f (subst (λ (z : ℕ). z < 9218868437227405312) e h)) in
+    let v : HasValue x false (unitsAt b) (2 ^ 1074)
+    = subst (λ (z : ℕ). HasValue x false (unitsAt z) (2 ^ 1074)) (sym e)
+    (own-units x f (subst (λ (z : ℕ). z < 9218868437227405312) e h)) in
     made (unitsAt b) sig ex a s r ∙ sym (root-of-value x (unitsAt b) v (some-units (unitsAt b) sig ex s))

@@ -1,4 +1,5 @@
--- The check of a lane's guess, on plain numbers: hh, hl and ll are the products of g's halves; a, b and r are what is left of d, of a * 2 ^ 25 and of b * 2 ^ 27 without them, and w is g - r, all modulo 2 ^ 64. Assumes nothing.
+-- The check of a lane's guess, on plain numbers: hh, hl and ll are the products of g's halves; a, b and r are what is
+-- left of d, of a * 2 ^ 25 and of b * 2 ^ 27 without them, and w is g - r, all modulo 2 ^ 64. Assumes nothing.
 use mathlib.Core.Path.{_≡_, sym, subst}
 use mathlib.Core.Logic.{_⊎_, inl, inr}
 use Prim.Native.Nat.{ℕ, _+_, _-_, _*_, _/_, _%_, _^_, _≤_, _<_}
@@ -17,27 +18,33 @@ below-or a b = elim (eq-zero-or-pos (b - a)) [
 step-a : (d hh a : ℕ) → hh ≤ 2 ^ 54 → a < 2 ^ 36 → (a + hh) % 2 ^ 64 ≡ d → d ≡ hh + a
 step-a d hh a q s e = omega arith
 
-up-b : (a hl b : ℕ) → hl ≤ 2 ^ 53 → a < 2 ^ 36 → b < 2 ^ 35 → (b + hl) % 2 ^ 64 ≡ a * 33554432 % 2 ^ 64 → a * 33554432 ≡ hl + b
+up-b : (a hl b : ℕ) → hl ≤ 2 ^ 53 → a < 2 ^ 36 → b < 2 ^ 35 → (b + hl) % 2 ^ 64 ≡ a * 33554432 % 2 ^ 64
+    → a * 33554432 ≡ hl + b
 up-b a hl b x s u e = omega arith
 
-down-b : (a hl b n : ℕ) → hl ≤ 2 ^ 53 → a < 2 ^ 36 → n ≤ 2 ^ 35 → b + n ≡ 2 ^ 64 → (b + hl) % 2 ^ 64 ≡ a * 33554432 % 2 ^ 64 → a * 33554432 + n ≡ hl
+down-b : (a hl b n : ℕ) → hl ≤ 2 ^ 53 → a < 2 ^ 36 → n ≤ 2 ^ 35 → b + n ≡ 2 ^ 64
+    → (b + hl) % 2 ^ 64 ≡ a * 33554432 % 2 ^ 64 → a * 33554432 + n ≡ hl
 down-b a hl b n x s u k e = omega arith
 
 -- ---- b from 0 up
-up-r : (b ll r : ℕ) → b < 2 ^ 35 → ll ≤ b * 134217728 → r < 2 ^ 64 → (r + ll) % 2 ^ 64 ≡ b * 134217728 % 2 ^ 64 → r + ll ≡ b * 134217728
+up-r : (b ll r : ℕ) → b < 2 ^ 35 → ll ≤ b * 134217728 → r < 2 ^ 64 → (r + ll) % 2 ^ 64 ≡ b * 134217728 % 2 ^ 64
+    → r + ll ≡ b * 134217728
 up-r b ll r u l s e = omega arith
 
-under-r : (b ll r n : ℕ) → b < 2 ^ 35 → ll ≤ 2 ^ 52 → b * 134217728 + n ≡ ll → 0 < n → r < 2 ^ 64 → (r + ll) % 2 ^ 64 ≡ b * 134217728 % 2 ^ 64 → r + n ≡ 2 ^ 64
+under-r : (b ll r n : ℕ) → b < 2 ^ 35 → ll ≤ 2 ^ 52 → b * 134217728 + n ≡ ll → 0 < n → r < 2 ^ 64
+    → (r + ll) % 2 ^ 64 ≡ b * 134217728 % 2 ^ 64 → r + n ≡ 2 ^ 64
 under-r b ll r n u l k p s e = omega arith
 
 -- r from 0 up: the root is g, or it is g + 1
 near-w : (g r w : ℕ) → g < 2 ^ 53 → r ≤ g → w < 2 ^ 64 → (w + r) % 2 ^ 64 ≡ g → w / 2 ^ 63 ≡ 0
 near-w g r w h l s e = omega arith
 
-past-w : (g r w : ℕ) → g < 2 ^ 53 → g < r → r < 2 ^ 62 → w < 2 ^ 64 → (w + r) % 2 ^ 64 ≡ g → (w / 2 ^ 63 ≡ 1) × (w + r ≡ g + 2 ^ 64)
+past-w : (g r w : ℕ) → g < 2 ^ 53 → g < r → r < 2 ^ 62 → w < 2 ^ 64 → (w + r) % 2 ^ 64 ≡ g
+    → (w / 2 ^ 63 ≡ 1) × (w + r ≡ g + 2 ^ 64)
 past-w g r w h l m s e = omega arith
 
-past-r : (g r w k : ℕ) → g < 2 ^ 53 → r < 2 ^ 62 → w + r ≡ g + 2 ^ 64 → (w + k) % 2 ^ 64 < 2 ^ 63 → k ≤ 2 * g + 2 → r ≤ 3 * g + 2
+past-r : (g r w k : ℕ) → g < 2 ^ 53 → r < 2 ^ 62 → w + r ≡ g + 2 ^ 64 → (w + k) % 2 ^ 64 < 2 ^ 63 → k ≤ 2 * g + 2
+    → r ≤ 3 * g + 2
 past-r g r w k h m e f l = omega arith
 
 -- r below 0, where n is -r
@@ -48,7 +55,8 @@ under-w : (g r w n : ℕ) → g < 2 ^ 53 → n < g → r + n ≡ 2 ^ 64 → w < 
 under-w g r w n h m e s f = omega arith
 
 -- ---- b below 0
-down-r : (b n ll r : ℕ) → b + n ≡ 2 ^ 64 → 0 < n → n ≤ 2 ^ 35 → ll ≤ 2 ^ 52 → r < 2 ^ 64 → (r + ll) % 2 ^ 64 ≡ b * 134217728 % 2 ^ 64 → r + (n * 134217728 + ll) ≡ 2 ^ 64
+down-r : (b n ll r : ℕ) → b + n ≡ 2 ^ 64 → 0 < n → n ≤ 2 ^ 35 → ll ≤ 2 ^ 52 → r < 2 ^ 64
+    → (r + ll) % 2 ^ 64 ≡ b * 134217728 % 2 ^ 64 → r + (n * 134217728 + ll) ≡ 2 ^ 64
 down-r b n ll r k p u l s e = omega arith
 
 -- ---- what the flags say
@@ -82,13 +90,16 @@ below-g : (d g n : ℕ) → d * 2 ^ 52 + n ≡ g * g → n < g → Rounded d g
 below-g d g n e h = record { above = omega arith; below = omega arith }
 
 -- ---- d * 2 ^ 52 and g * g, from what is left of them
-more : (d g hh hl ll a b r : ℕ) → g * g ≡ hh * 4503599627370496 + 2 * hl * 67108864 + ll → d ≡ hh + a → a * 33554432 ≡ hl + b → r + ll ≡ b * 134217728 → d * 2 ^ 52 ≡ g * g + r
+more : (d g hh hl ll a b r : ℕ) → g * g ≡ hh * 4503599627370496 + 2 * hl * 67108864 + ll → d ≡ hh + a
+    → a * 33554432 ≡ hl + b → r + ll ≡ b * 134217728 → d * 2 ^ 52 ≡ g * g + r
 more d g hh hl ll a b r q e f k = omega arith
 
-less : (d g hh hl ll a b n : ℕ) → g * g ≡ hh * 4503599627370496 + 2 * hl * 67108864 + ll → d ≡ hh + a → a * 33554432 ≡ hl + b → b * 134217728 + n ≡ ll → d * 2 ^ 52 + n ≡ g * g
+less : (d g hh hl ll a b n : ℕ) → g * g ≡ hh * 4503599627370496 + 2 * hl * 67108864 + ll → d ≡ hh + a
+    → a * 33554432 ≡ hl + b → b * 134217728 + n ≡ ll → d * 2 ^ 52 + n ≡ g * g
 less d g hh hl ll a b n q e f k = omega arith
 
-much-less : (d g hh hl ll a n : ℕ) → g * g ≡ hh * 4503599627370496 + 2 * hl * 67108864 + ll → d ≡ hh + a → a * 33554432 + n ≡ hl → d * 2 ^ 52 + (n * 134217728 + ll) ≡ g * g
+much-less : (d g hh hl ll a n : ℕ) → g * g ≡ hh * 4503599627370496 + 2 * hl * 67108864 + ll → d ≡ hh + a
+    → a * 33554432 + n ≡ hl → d * 2 ^ 52 + (n * 134217728 + ll) ≡ g * g
 much-less d g hh hl ll a n q e f = omega arith
 
 kept : (d g w : ℕ) → w / 2 ^ 63 ≡ 0 → Rounded d g → Rounded d (g + w / 2 ^ 63)
@@ -100,11 +111,15 @@ next d g w e h = subst (λ (z : ℕ). Rounded d (g + z)) (sym e) h
 module _ {d g hh hl ll a b r w k : ℕ} (f : Fine d g hh hl ll a b r w k) (g0 : 2 ^ 52 ≤ g) (g1 : g < 2 ^ 53) where
   -- g * g is n more than d * 2 ^ 52
   under : (n : ℕ) → n ≤ 2 ^ 63 → r + n ≡ 2 ^ 64 → d * 2 ^ 52 + n ≡ g * g → Rounded d (g + w / 2 ^ 63)
-  under n m e s = let l = under-g g r n g0 g1 m e (f .r-near) in kept d g w (under-w g r w n g1 l e (f .w-most) (f .w-is)) (below-g d g n s l)
+  under n m e s =
+      let l = under-g g r n g0 g1 m e (f .r-near) in
+      kept d g w (under-w g r w n g1 l e (f .w-most) (f .w-is)) (below-g d g n s l)
 
   over : r < 2 ^ 62 → d * 2 ^ 52 ≡ g * g + r → Rounded d (g + w / 2 ^ 63)
   over m s = elim (below-or g r) [
-    | inl l ↦ let p = past-w g r w g1 l m (f .w-most) (f .w-is) in next d g w (p .0) (next-g d g r s l (past-r g r w k g1 m (p .1) (f .w-near) (f .k-most)))
+    | inl l ↦
+        let p = past-w g r w g1 l m (f .w-most) (f .w-is) in
+        next d g w (p .0) (next-g d g r s l (past-r g r w k g1 m (p .1) (f .w-near) (f .k-most)))
     | inr l ↦ kept d g w (near-w g r w g1 l (f .w-most) (f .w-is)) (above-g d g r s l (some g0))
   ]
     where
@@ -119,7 +134,9 @@ module _ {d g hh hl ll a b r w k : ℕ} (f : Fine d g hh hl ll a b r w k) (g0 : 
       let e = up-b a hl b (f .hl-most) (f .a-small) u (f .b-is) in
       elim (below-or (b * 134217728) ll) [
         | inl l ↦ lower e (ll - b * 134217728) (gap l) (some l) (most (f .ll-most))
-        | inr l ↦ let k = up-r b ll r u l (f .r-most) (f .r-is) in over (small u k) (more d g hh hl ll a b r (f .square) left e k)
+        | inr l ↦
+            let k = up-r b ll r u l (f .r-most) (f .r-is) in
+            over (small u k) (more d g hh hl ll a b r (f .square) left e k)
       ]
     where
       gap : b * 134217728 < ll → b * 134217728 + (ll - b * 134217728) ≡ ll
@@ -135,7 +152,9 @@ module _ {d g hh hl ll a b r w k : ℕ} (f : Fine d g hh hl ll a b r w k) (g0 : 
       small v k = omega arith
 
       lower : a * 33554432 ≡ hl + b → (n : ℕ) → b * 134217728 + n ≡ ll → 0 < n → n ≤ 2 ^ 63 → Rounded d (g + w / 2 ^ 63)
-      lower e n k p m = under n m (under-r b ll r n u (f .ll-most) k p (f .r-most) (f .r-is)) (less d g hh hl ll a b n (f .square) left e k)
+      lower e n k p m =
+          under n m (under-r b ll r n u (f .ll-most) k p (f .r-most) (f .r-is))
+          (less d g hh hl ll a b n (f .square) left e k)
 
   b-down : 2 ^ 35 ≤ b → Rounded d (g + w / 2 ^ 63)
   b-down u = lower (2 ^ 64 - b) (turned (f .b-most)) (some (f .b-most)) (few u (f .b-most) (f .b-small))
@@ -151,7 +170,8 @@ module _ {d g hh hl ll a b r w k : ℕ} (f : Fine d g hh hl ll a b r w k) (g0 : 
 
       lower : (n : ℕ) → b + n ≡ 2 ^ 64 → 0 < n → n ≤ 2 ^ 35 → Rounded d (g + w / 2 ^ 63)
       lower n k p m =
-          under (n * 134217728 + ll) (most (f .ll-most)) (down-r b n ll r k p m (f .ll-most) (f .r-most) (f .r-is)) (much-less d g hh hl ll a n (f .square) left (down-b a hl b n (f .hl-most) (f .a-small) m k (f .b-is)))
+          under (n * 134217728 + ll) (most (f .ll-most)) (down-r b n ll r k p m (f .ll-most) (f .r-most) (f .r-is))
+          (much-less d g hh hl ll a n (f .square) left (down-b a hl b n (f .hl-most) (f .a-small) m k (f .b-is)))
         where
           most : ll ≤ 2 ^ 52 → n * 134217728 + ll ≤ 2 ^ 63
           most l = omega arith
@@ -172,10 +192,12 @@ few-r g r h m = omega arith
 few-w : (g r w : ℕ) → g < 2 ^ 53 → r ≤ g → w < 2 ^ 64 → (w + r) % 2 ^ 64 ≡ g → (w + 2 * g) % 2 ^ 64 < 2 ^ 63
 few-w g r w h m k e = let s : w + r ≡ g = omega arith in omega arith
 
-some-w : (g r w : ℕ) → 2 ^ 52 ≤ g → g < 2 ^ 53 → r ≤ 13510798882111488 → w + r ≡ g + 2 ^ 64 → (w + 2 * g) % 2 ^ 64 < 2 ^ 63
+some-w : (g r w : ℕ) → 2 ^ 52 ≤ g → g < 2 ^ 53 → r ≤ 13510798882111488 → w + r ≡ g + 2 ^ 64
+    → (w + 2 * g) % 2 ^ 64 < 2 ^ 63
 some-w g r w l h m e = round-once (w + 2 * g) (3 * g - r) (omega arith) (omega arith)
 
-enough-up : (g r w : ℕ) → 2 ^ 52 ≤ g → g < 2 ^ 53 → r ≤ 13510798882111488 → w < 2 ^ 64 → (w + r) % 2 ^ 64 ≡ g → ((r + (g - 1)) % 2 ^ 64 < 2 ^ 63) × ((w + 2 * g) % 2 ^ 64 < 2 ^ 63)
+enough-up : (g r w : ℕ) → 2 ^ 52 ≤ g → g < 2 ^ 53 → r ≤ 13510798882111488 → w < 2 ^ 64 → (w + r) % 2 ^ 64 ≡ g
+    → ((r + (g - 1)) % 2 ^ 64 < 2 ^ 63) × ((w + 2 * g) % 2 ^ 64 < 2 ^ 63)
 enough-up g r w l h m k e = (
   few-r g r h m,
   elim (below-or g r) [
@@ -187,7 +209,8 @@ enough-up g r w l h m k e = (
     small : r ≤ 13510798882111488 → r < 2 ^ 62
     small u = omega arith
 
-enough-down : (g r w n : ℕ) → 2 ^ 52 ≤ g → g < 2 ^ 53 → r + n ≡ 2 ^ 64 → 0 < n → n < 2 ^ 52 → w < 2 ^ 64 → (w + r) % 2 ^ 64 ≡ g → ((r + (g - 1)) % 2 ^ 64 < 2 ^ 63) × ((w + 2 * g) % 2 ^ 64 < 2 ^ 63)
+enough-down : (g r w n : ℕ) → 2 ^ 52 ≤ g → g < 2 ^ 53 → r + n ≡ 2 ^ 64 → 0 < n → n < 2 ^ 52 → w < 2 ^ 64
+    → (w + r) % 2 ^ 64 ≡ g → ((r + (g - 1)) % 2 ^ 64 < 2 ^ 63) × ((w + 2 * g) % 2 ^ 64 < 2 ^ 63)
 enough-down g r w n l h e p m k f = (round-once (r + (g - 1)) (g - 1 - n) (low l e m) (under h), few (over e p k f) h m)
   where
     low : 2 ^ 52 ≤ g → r + n ≡ 2 ^ 64 → n < 2 ^ 52 → r + (g - 1) ≡ g - 1 - n + 2 ^ 64
@@ -202,7 +225,8 @@ enough-down g r w n l h e p m k f = (round-once (r + (g - 1)) (g - 1 - n) (low l
     few : w ≡ g + n → g < 2 ^ 53 → n < 2 ^ 52 → (w + 2 * g) % 2 ^ 64 < 2 ^ 63
     few a b c = omega arith
 
-pub near-enough : (g r w : ℕ) → 2 ^ 52 ≤ g → g < 2 ^ 53 → r < 2 ^ 64 → w < 2 ^ 64 → (w + r) % 2 ^ 64 ≡ g → (r + 4503599627370495) % 2 ^ 64 < 2 ^ 54 → ((r + (g - 1)) % 2 ^ 64 < 2 ^ 63) × ((w + 2 * g) % 2 ^ 64 < 2 ^ 63)
+pub near-enough : (g r w : ℕ) → 2 ^ 52 ≤ g → g < 2 ^ 53 → r < 2 ^ 64 → w < 2 ^ 64 → (w + r) % 2 ^ 64 ≡ g
+    → (r + 4503599627370495) % 2 ^ 64 < 2 ^ 54 → ((r + (g - 1)) % 2 ^ 64 < 2 ^ 63) × ((w + 2 * g) % 2 ^ 64 < 2 ^ 63)
 near-enough g r w l h m k e f = elim (below-or r (2 ^ 63)) [
   | inl u ↦ enough-up g r w l h (up u f) k e
   | inr u ↦ enough-down g r w (2 ^ 64 - r) l h (gap m) (some m) (down u m f) k e

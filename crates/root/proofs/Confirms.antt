@@ -23,7 +23,10 @@ cut h l k =
 pub low-half : (g : ℕ) → bitAnd g 67108863 ≡ g % 67108864
 low-half g = and-mask g 26
 
-pub square-cut : (g : ℕ) → g * g ≡ g / 67108864 * (g / 67108864) * 4503599627370496 + 2 * (g / 67108864 * bitAnd g 67108863) * 67108864 + bitAnd g 67108863 * bitAnd g 67108863
+pub square-cut : (g : ℕ)
+    → g * g
+    ≡ g / 67108864 * (g / 67108864) * 4503599627370496 + 2 * (g / 67108864 * bitAnd g 67108863) * 67108864
+    + bitAnd g 67108863 * bitAnd g 67108863
 square-cut g =
     let l = bitAnd g 67108863 in
     let e : g ≡ g / 67108864 * 67108864 + l = omega (arith, low-half g) in
@@ -44,7 +47,9 @@ sq-two g =
 
 -- ---- patterns
 pub guessed : (n : ℕ) → bitOr (bitAnd n 4503599627370495) 4503599627370496 ≡ 4503599627370496 + n % 4503599627370496
-guessed n = ap (λ (x : ℕ). bitOr x 4503599627370496) (and-mask n 52) ∙ or-shifted-r 1 52 (n % 4503599627370496) (mod-lt n (pow-pos 52))
+guessed n =
+    ap (λ (x : ℕ). bitOr x 4503599627370496) (and-mask n 52)
+    ∙ or-shifted-r 1 52 (n % 4503599627370496) (mod-lt n (pow-pos 52))
 
 -- ---- from the whole root of d * 2 ^ 54 to the root of d * 2 ^ 52, rounded
 pub rounded-of : (d q : ℕ) → 2 ^ 52 ≤ d → IsRoot (d * 2 ^ 54) q → Rounded d (q / 2 + q % 2)
@@ -64,7 +69,8 @@ rounded-of d q D h = go (q % 2) refl
         let k : a ≡ q / 2 + q % 2 = omega arith in
         subst (Rounded d) k (record { above = positive a x z l m y; below = omega arith })
       where
-        positive : (a : ℕ) → q * q ≡ 2 * a * (2 * a) → 2 * a * (2 * a) ≡ 4 * (a * a) → q * q ≤ d * 2 ^ 54 → d * 2 ^ 54 < (q + 1) * (q + 1) → (q + 1) * (q + 1) ≡ q * q + (2 * q + 1) → a * a < d * 2 ^ 52 + a
+        positive : (a : ℕ) → q * q ≡ 2 * a * (2 * a) → 2 * a * (2 * a) ≡ 4 * (a * a) → q * q ≤ d * 2 ^ 54
+            → d * 2 ^ 54 < (q + 1) * (q + 1) → (q + 1) * (q + 1) ≡ q * q + (2 * q + 1) → a * a < d * 2 ^ 52 + a
         positive zero x z l m y = omega arith
         positive (suc a) x z l m y = omega arith
     go (suc zero) e =
@@ -106,16 +112,60 @@ rounded-is d a q r h =
     last : q < 2 * a + 1 → 2 * a ≤ q + 1 → a ≡ q / 2 + q % 2
     last u v = omega arith
 
--- ---- the check: with u left over, as the code works it out
-module _ (d g hh x ll : ℕ) (sq : g * g ≡ hh * 4503599627370496 + 2 * x * 67108864 + ll) (G : 0 < g) (A : hh ≤ d) (B : 2 * x ≤ (d - hh) * 67108864) (C : ll ≤ ((d - hh) * 67108864 - 2 * x) * 67108864 + (g - 1)) where
-  residue : ((d - hh) * 67108864 - 2 * x) * 67108864 + (g - 1) - ll + g * g + 1 ≡ d * 4503599627370496 + g
-  residue = omega arith
+-- ---- the check. The guess g is cut in two; then d * 2 ^ 52, as the code works it out, less the square of the parts
+abbrev pub highOf : ℕ → ℕ
+highOf g = g / 67108864
 
-  pub at-g : ((d - hh) * 67108864 - 2 * x) * 67108864 + (g - 1) - ll < 2 * g → Rounded d g
-  at-g h = let r = residue in record { above = omega arith; below = omega arith }
+abbrev pub lowOf : ℕ → ℕ
+lowOf g = bitAnd g 67108863
 
-  pub at-next : {t : ℕ} → 2 * g ≤ ((d - hh) * 67108864 - 2 * x) * 67108864 + (g - 1) - ll → ((d - hh) * 67108864 - 2 * x) * 67108864 + (g - 1) - ll - 2 * g < t → t ≤ 2 * g + 2 → Rounded d (g + 1)
-  at-next k h m = let r = residue in let e = sq-suc g in record { above = omega arith; below = omega arith }
+-- what the upper part leaves of d, what the two together leave of that, and then g - 1 more
+abbrev pub raisedLeft : ℕ → ℕ → ℕ
+raisedLeft d g = (d - highOf g * highOf g) * 67108864
 
-  pub at-third : 2 * g ≤ ((d - hh) * 67108864 - 2 * x) * 67108864 + (g - 1) - ll → 2 * g + 2 ≤ ((d - hh) * 67108864 - 2 * x) * 67108864 + (g - 1) - ll - 2 * g → ((d - hh) * 67108864 - 2 * x) * 67108864 + (g - 1) - ll - 2 * g < 2 * (2 * g) + 6 → Rounded d (g + 2)
-  at-third k m h = let r = residue in let e = sq-two g in record { above = omega arith; below = omega arith }
+abbrev pub crossLeft : ℕ → ℕ → ℕ
+crossLeft d g = raisedLeft d g - 2 * (highOf g * lowOf g)
+
+abbrev pub lastLeft : ℕ → ℕ → ℕ
+lastLeft d g = crossLeft d g * 67108864 + (g - 1)
+
+-- what is left over in the end, u in the code
+abbrev pub over : ℕ → ℕ → ℕ
+over d g = lastLeft d g - lowOf g * lowOf g
+
+-- a guess that passed the guards: nothing was taken from less
+pub record Guarded (d g : ℕ) : Type 0 where
+  pub some : 0 < g
+  pub upper : highOf g * highOf g ≤ d
+  pub crossed : 2 * (highOf g * lowOf g) ≤ raisedLeft d g
+  pub lower : lowOf g * lowOf g ≤ lastLeft d g
+
+residue : {d g : ℕ} → Guarded d g → over d g + g * g + 1 ≡ d * 4503599627370496 + g
+residue {d} {g} k =
+    left-over d g (highOf g * highOf g) (highOf g * lowOf g) (lowOf g * lowOf g) (square-cut g) (k .some) (k .upper)
+    (k .crossed) (k .lower)
+  where
+    left-over : (d g hh x ll : ℕ) → g * g ≡ hh * 4503599627370496 + 2 * x * 67108864 + ll → 0 < g → hh ≤ d
+        → 2 * x ≤ (d - hh) * 67108864 → ll ≤ ((d - hh) * 67108864 - 2 * x) * 67108864 + (g - 1)
+        → ((d - hh) * 67108864 - 2 * x) * 67108864 + (g - 1) - ll + g * g + 1 ≡ d * 4503599627370496 + g
+    left-over d g hh x ll sq G A B C = omega arith
+
+pub at-g : {d g : ℕ} → Guarded d g → over d g < 2 * g → Rounded d g
+at-g {d} {g} k h = here (over d g) h (residue k)
+  where
+    here : (u : ℕ) → u < 2 * g → u + g * g + 1 ≡ d * 4503599627370496 + g → Rounded d g
+    here u h r = record { above = omega arith; below = omega arith }
+
+pub at-next : {d g : ℕ} → Guarded d g → 2 * g ≤ over d g → over d g - 2 * g < 2 * g + 2 → Rounded d (g + 1)
+at-next {d} {g} k l h = here (over d g) l h (residue k)
+  where
+    here : (u : ℕ) → 2 * g ≤ u → u - 2 * g < 2 * g + 2 → u + g * g + 1 ≡ d * 4503599627370496 + g → Rounded d (g + 1)
+    here u l h r = let e = sq-suc g in record { above = omega arith; below = omega arith }
+
+pub at-third : {d g : ℕ} → Guarded d g → 2 * g ≤ over d g → 2 * g + 2 ≤ over d g - 2 * g
+    → over d g - 2 * g < 2 * (2 * g) + 6 → Rounded d (g + 2)
+at-third {d} {g} k l m h = here (over d g) l m h (residue k)
+  where
+    here : (u : ℕ) → 2 * g ≤ u → 2 * g + 2 ≤ u - 2 * g → u - 2 * g < 2 * (2 * g) + 6
+        → u + g * g + 1 ≡ d * 4503599627370496 + g → Rounded d (g + 2)
+    here u l m h r = let e = sq-two g in record { above = omega arith; below = omega arith }

@@ -83,8 +83,15 @@ held-of : (y : Float) → T (fits binary64 y) → T (plain y) → Held y
 held-of nan f p = absurd p
 held-of (inf s) f p = absurd p
 held-of (fin true m e) f p = absurd p
-held-of (fin false zero e) f p = record { m = 0; i = 0; digits = lit< tt; value = (refl, ap (λ (z : ℕ). z * 2 ^ 1074) (zero-mul (up e)) ∙ sym (zero-mul (down e))) }
-held-of (fin false (suc m) e) f p = let u = units-of false m e f in record { m = suc m; i = shift-of e; digits = u .digits; value = (refl, u .value) }
+held-of (fin false zero e) f p =
+    record {
+      m = 0;
+      i = 0;
+      digits = lit< tt;
+      value = (refl, ap (λ (z : ℕ). z * 2 ^ 1074) (zero-mul (up e)) ∙ sym (zero-mul (down e)));
+    }
+held-of (fin false (suc m) e) f p =
+    let u = units-of false m e f in record { m = suc m; i = shift-of e; digits = u .digits; value = (refl, u .value) }
 
 -- ---- x, with a significand of 53 digits
 pow-back : (i p : ℕ) → 2 ^ i < 2 ^ p → i < p
@@ -340,7 +347,8 @@ root-nearest (fin false (suc m) e) f p =
         ((h < k) × ((k + h) * (k + h) < 4 * (unitsIn binary64 x * 2 ^ 1074)))) (sym (units-is r g vr))
         (subst (λ (k : ℕ). ((g < h) × (4 * (k * 2 ^ 1074) < (g + h) * (g + h))) ⊎
         ((h < g) × ((g + h) * (g + h) < 4 * (k * 2 ^ 1074)))) (sym (units-is x n vx))
-        (elim (either g h (λ e. ne (same-value y r h fy fr vy (subst (λ (k : ℕ). HasValue r false k (2 ^ 1074)) e vr)))) [ inl l ↦ inl (l, a l) | inr l ↦ inr (l, b l) ])))
+        (elim (either g h (λ e. ne (same-value y r h fy fr vy (subst (λ (k : ℕ). HasValue r false k (2 ^ 1074)) e vr))))
+        [ inl l ↦ inl (l, a l) | inr l ↦ inr (l, b l) ])))
 
 -- ---- there is one such value
 both-ways : (a b w : ℕ) → ((a < b) × (w < (a + b) * (a + b))) ⊎ ((b < a) × ((a + b) * (a + b) < w))

@@ -15,7 +15,8 @@ flags true false q r t = refl
 flags true true false r t = refl
 flags true true true r t = refl
 
-pub three-below : (v a b c : ℕ) (x : Bool) (ks : List ℕ) → (((x && ltb a v) && ltb b v) && ltb c v) && allBelow v ks ≡ x && allBelow v (a ∷ b ∷ c ∷ ks)
+pub three-below : (v a b c : ℕ) (x : Bool) (ks : List ℕ)
+    → (((x && ltb a v) && ltb b v) && ltb c v) && allBelow v ks ≡ x && allBelow v (a ∷ b ∷ c ∷ ks)
 unfolding allBelow
 three-below v a b c x ks = flags x (ltb a v) (ltb b v) (ltb c v) (allBelow v ks)
 

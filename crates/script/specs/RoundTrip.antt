@@ -46,7 +46,8 @@ scriptOf q fs ws =
 
 -- what such a put says: the place, and the kernel and the layer as the store keeps them
 abbrev pub kernelOf : List Float → ℕ → Kernel
-kernelOf fs i = record { c = centreFloats fs i; sigma = getD fs (4 + 7 * i) nan; w = weightOf fs i; alpha = alphaOf fs i }
+kernelOf fs i =
+    record { c = centreFloats fs i; sigma = getD fs (4 + 7 * i) nan; w = weightOf fs i; alpha = alphaOf fs i }
 
 pub put-says : (q : ℕ) (fs : List Float) (ws : List ℕ) (i : ℕ)
     → (placeIn (putAt q fs ws i) ≡ i) × (kernelIn (putAt q fs ws i) ≡ kernelOf fs i)

@@ -138,7 +138,14 @@ module _ (s : List ℕ) where
   atPuts o vs fs p =
       record {
         val =
-            record { radius = o .0; verts = o .1 .0; faces = o .1 .1 .0; coords = coordsIn vs; corners = cornersIn fs; puts = p .val };
+            record {
+              radius = o .0;
+              verts = o .1 .0;
+              faces = o .1 .1 .0;
+              coords = coordsIn vs;
+              corners = cornersIn fs;
+              puts = p .val;
+            };
         text = p .text;
       }
 
@@ -173,7 +180,14 @@ taken s d x =
     (reads-to putLine tt tt (length s) (d .puts) (x .tail) h (x .putLines))
     ∙ (λ i. record {
       val =
-          record { radius = d .radius; verts = d .verts; faces = d .faces; coords = x .coords i; corners = x .corners i; puts = d .puts };
+          record {
+            radius = d .radius;
+            verts = d .verts;
+            faces = d .faces;
+            coords = x .coords i;
+            corners = x .corners i;
+            puts = d .puts;
+          };
       text = left [];
     }))))
 

@@ -97,7 +97,14 @@ module _ (q : ℕ) (d : Script) (ex : length (d .coords) ≡ 3 * d .verts) (ek :
 -- the script of the opening's values, and of the lines in three texts
 abbrev pub saying : Float → ℕ → ℕ → Text → Text → List (Vals putLine) → Script
 saying r v f t₁ t₂ vs =
-    record { radius = r; verts = v; faces = f; coords = coordsIn (linesFrom vertLine v t₁ .val); corners = cornersIn (linesFrom faceLine f t₂ .val); puts = vs }
+    record {
+      radius = r;
+      verts = v;
+      faces = f;
+      coords = coordsIn (linesFrom vertLine v t₁ .val);
+      corners = cornersIn (linesFrom faceLine f t₂ .val);
+      puts = vs;
+    }
 
 -- what the second pass reads, with n lines of puts, from position h on
 unfoldable pub scriptFrom : List ℕ → Float → ℕ → ℕ → ℕ → ℕ → Script
@@ -178,7 +185,11 @@ module _ {s : List ℕ} {r : Float} {v f h a b : ℕ} (p : Parsed s r v f h a b)
   script = saying r v f (rest s h) (rest s a) (linesTo putLine (length s) (rest s b) .val)
 
   abbrev said : Text → Text → Text → Got Script
-  said t₁ t₂ t₃ = record { val = saying r v f t₁ t₂ (linesTo putLine (length s) t₃ .val); text = linesTo putLine (length s) t₃ .text }
+  said t₁ t₂ t₃ =
+      record {
+        val = saying r v f t₁ t₂ (linesTo putLine (length s) t₃ .val);
+        text = linesTo putLine (length s) t₃ .text;
+      }
 
   opening : read openLine (left s) ≡ got s (r & v & f & tt) h
   opening = ap (read openLine) (sym (rest-all s)) ∙ sym (p .head)
@@ -190,7 +201,10 @@ module _ {s : List ℕ} {r : Float} {v f h a b : ℕ} (p : Parsed s r v f h a b)
       let xs = linesFrom vertLine (o .val .1 .0) (o .text) in
       let ks = linesFrom faceLine (o .val .1 .1 .0) (xs .text) in
       let ps = linesTo putLine (length s) (ks .text) in
-      record { val = saying (o .val .0) (o .val .1 .0) (o .val .1 .1 .0) (o .text) (xs .text) (ps .val); text = ps .text })
+      record {
+        val = saying (o .val .0) (o .val .1 .0) (o .val .1 .1 .0) (o .text) (xs .text) (ps .val);
+        text = ps .text;
+      })
       ∙ (λ i. said (rest s h) (sym (p .verts) i) (linesFrom faceLine f (sym (p .verts) i) .text))
       ∙ (λ i. said (rest s h) (rest s a) (sym (p .faces) i))
 

@@ -14,6 +14,8 @@ use Rattle.base.specs.declared.refusal.Checked.the-variants.{Passed, Failed}
 use Rattle.layout.specs.Runs.{write}
 use Rattle.layout.specs.Layout.{placeLimit, radiusOf, kernelFrom, coordsFrom, cornersFrom, vertsOf, facesOf, statusOf, layerOf}
 use Rattle.layout.specs.Soundness.{storeCheck}
+use Rattle.text.specs.Text.{bytes}
+use Rattle.text.specs.Print.{decimalText, floatText}
 use Rattle.text.specs.Form.{Form, Vals, print, _&_}
 use Rattle.script.specs.Lines.{openLine, vertLine, faceLine, putLine}
 
@@ -39,6 +41,13 @@ putIn fs i layer =
     i & getD fs (kernelFrom i) nan & getD fs (kernelFrom i + 1) nan & getD fs (kernelFrom i + 2) nan
     & getD fs (kernelFrom i + 3) nan & getD fs (kernelFrom i + 4) nan & getD fs (kernelFrom i + 5) nan
     & inr (layer & tt) & tt
+
+-- such a line's start: the place and the centre
+abbrev pub centreText : ℕ → Float → Float → Float → List ℕ
+centreText place x y z =
+    bytes "(put "
+    ++ (decimalText place
+    ++ (bytes " (c " ++ (floatText x ++ (bytes " " ++ (floatText y ++ (bytes " " ++ floatText z))))))
 
 abbrev pub putAt : ℕ → List Float → List ℕ → ℕ → Vals putLine
 putAt q fs ws i = putIn fs i (layerOf q ws i)

@@ -1,6 +1,6 @@
 // The writer: opening, vertices, faces, puts by rising place. Its length is worked before the first byte.
 ghost use mathlib.Core.Path.{_≡_};
-ghost use mathlib.Core.List.{List, _++_};
+ghost use mathlib.Core.List.{List};
 ghost use Prim.Native.Nat.{_+_, _*_, _<_, _≤_};
 ghost use lib.ListN.{length, getD};
 ghost use lib.Ieee.{Float, nan};
@@ -9,11 +9,11 @@ ghost use Rattle.layout.specs.Runs.{write};
 ghost use Rattle.layout.specs.Layout.{width, placeLimit, coordsFrom, cornersFrom, layerLimit};
 ghost use Rattle.layout.specs.SoundLaws.{Fine};
 ghost use Rattle.mesh.specs.Checks.{vertexLimit, faceLimit};
-ghost use Rattle.text.specs.Print.{Wrote, decimalLength, decimalText, floatText};
+ghost use Rattle.text.specs.Print.{Wrote, decimalLength};
 ghost use Rattle.text.specs.Text.{bytes};
 ghost use Rattle.text.specs.Form.{print, _&_};
 ghost use Rattle.script.specs.Lines.{openLine, vertLine, faceLine, putLine};
-ghost use Rattle.script.specs.Written.{putIn, putRow, putRows, vertRows, faceRows, linesOf, written, textAnswer, writeStep};
+ghost use Rattle.script.specs.Written.{putIn, centreText, putRow, putRows, vertRows, faceRows, linesOf, written, textAnswer, writeStep};
 use base::refusal::Checked;
 use base::refusal::Printed;
 use base::refusal::Refusal;
@@ -72,8 +72,8 @@ fn write_place(out: &mut [u8], at: usize, place: u32, floats: &[f64], k: usize) 
     requires { ⌜ (at + 59 + decimalLength place ≤ length (now out)) × (k + 3 ≤ length (now floats)) ⌝ }
     ensures { λ r. ⌜ r ≡ at + 59 + decimalLength place ⌝ }
     ensures { λ r. ⌜ Wrote (now (out .entry)) at
-        (bytes "(put " ++ (decimalText place ++
-        (bytes " (c " ++ (floatText (getD (now (floats .entry)) k nan) ++ (bytes " " ++ (floatText (getD (now (floats .entry)) (k + 1) nan) ++ (bytes " " ++ floatText (getD (now (floats .entry)) (k + 2) nan)))))))) r (now (out .exit)) ⌝ }
+        (centreText place (getD (now (floats .entry)) k nan) (getD (now (floats .entry)) (k + 1) nan)
+        (getD (now (floats .entry)) (k + 2) nan)) r (now (out .exit)) ⌝ }
 {
     let a = write_number(out, at, b"(put ", place as u64);
     let b = write_real(out, a, b" (c ", floats[k]);

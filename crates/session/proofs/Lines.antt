@@ -21,7 +21,8 @@ unfolding settled
 settled-due s h = rw (h) refl
 
 pub settled-done : (s : Session) → due (s .opening) ≡ false →
-    let a = opens s (s .opening) in settled s ≡ said (session (s .opening) (a .floats) (a .words) (s .coords) (s .corners)) (openText (a .reply))
+    let a = opens s (s .opening) in
+    settled s ≡ said (session (s .opening) (a .floats) (a .words) (s .coords) (s .corners)) (openText (a .reply))
 unfolding settled
 settled-done s h = rw (h) refl
 

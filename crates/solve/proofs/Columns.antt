@@ -30,7 +30,8 @@ stops {n} {col} {s} {m} {w} l h e =
     sym (stays n (n - (col + 1)) (col + 1) col) ∙ (rw f at (turn l h .same))
 
 -- a column whose pivot is not flat, step by step
-pub passes : (n col : ℕ) (s s₁ : Float) (m m₁ m₂ m₃ : Matrix) (p : Pivot) → p ≡ pivotOf n col m → le (p .value) flatLimit ≡ false
+pub passes : (n col : ℕ) (s s₁ : Float) (m m₁ m₂ m₃ : Matrix) (p : Pivot) → p ≡ pivotOf n col m
+    → le (p .value) flatLimit ≡ false
     → m₁ ≡ exchanged col (p .row) m → m₂ ≡ scaled n col m₁ → m₃ ≡ swept n col m₂ → s₁ ≡ smaller s (p .value)
     → reduced s₁ m₃ ≡ columnAt n col (reduced s m)
 unfolding columnAt

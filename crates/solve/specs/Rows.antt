@@ -20,7 +20,8 @@ use Rattle.solve.specs.Solve.{badMatrix, flatAt, answerAt, rowOf, loaded
 
 -- opens every definition on the way of a computed row
 unfoldable rows : ℕ
-unfolding solution times abs better pivotOf over less cleared swept smaller columnAt eliminated rowOf loaded table answers concluded ofBits lt le ne eq sub mul div
+unfolding solution times abs better pivotOf over less cleared swept smaller columnAt eliminated rowOf loaded table
+    answers concluded ofBits lt le ne eq sub mul div
 rows = 0
 
 abbrev five : Float

@@ -49,7 +49,9 @@ module _ (fs : List Float) (ws : List ℕ) (ok : storeCheck width fs ws ≡ Pass
         below = record {
           corner = λ j l.
               let e : getD KS j 0 ≡ getD ws (cornersFrom width + j) 0
-              = getD-take (cornersFrom width + 3 * ms - cornersFrom width) (drop (cornersFrom width) ws) j 0 (omega arith) ∙ getD-drop (cornersFrom width) ws j 0 in
+              = getD-take (cornersFrom width + 3 * ms - cornersFrom width) (drop (cornersFrom width) ws) j 0
+              (omega arith)
+              ∙ getD-drop (cornersFrom width) ws j 0 in
               omega (arith, h .corners j (omega arith));
         };
       }
@@ -58,13 +60,26 @@ module _ (fs : List Float) (ws : List ℕ) (ok : storeCheck width fs ws ≡ Pass
   few-kept k e = (omega (arith, rank-le KS vs), fine width fs ws ok .mesh .verts)
 
   pub called : (k : ℕ) (ys : List Float) (ls : List ℕ) → k ≡ rank KS vs → ys ≡ squeezed KS XS vs → ls ≡ renumbered KS
-      → after (counted (3 * (vs - k) ∷ [])) (take coordsFrom fs ++ (ys ++ drop (coordsFrom + 3 * vs - coordsFrom) (drop coordsFrom fs)))
-      (set (take (cornersFrom width) ws ++ (ls ++ drop (cornersFrom width + 3 * ms - cornersFrom width) (drop (cornersFrom width) ws))) 0 k)
+      → after (counted (3 * (vs - k) ∷ []))
+      (take coordsFrom fs ++ (ys ++ drop (coordsFrom + 3 * vs - coordsFrom) (drop coordsFrom fs)))
+      (set
+      (take (cornersFrom width) ws
+      ++ (ls ++ drop (cornersFrom width + 3 * ms - cornersFrom width) (drop (cornersFrom width) ws))) 0 k)
       ≡ squeezeStep width fs ws
   unfolding squeezeStep
   called k ys ls ek ey el =
       let a : coordsFrom + 3 * vs - coordsFrom ≡ 3 * vs = omega arith in
       let b : cornersFrom width + 3 * ms - cornersFrom width ≡ 3 * ms = omega arith in
       let m : length ys ≡ coordsFrom + 3 * vs - coordsFrom = ap length ey ∙ squeezed-length KS XS vs ∙ omega arith in
-      let n : length ls ≡ cornersFrom width + 3 * ms - cornersFrom width = ap length el ∙ length-map KS (rank KS) ∙ long-corners ∙ omega arith in
-      rw (part-write fs ys coordsFrom (coordsFrom + 3 * vs) m, part-write ws ls (cornersFrom width) (cornersFrom width + 3 * ms) n, ok, ek, ey, el, a, b) refl
+      let n : length ls ≡ cornersFrom width + 3 * ms - cornersFrom width
+      = ap length el ∙ length-map KS (rank KS) ∙ long-corners ∙ omega arith in
+      rw (
+        part-write fs ys coordsFrom (coordsFrom + 3 * vs) m,
+        part-write ws ls (cornersFrom width) (cornersFrom width + 3 * ms) n,
+        ok,
+        ek,
+        ey,
+        el,
+        a,
+        b,
+      ) refl

@@ -73,7 +73,12 @@ zero-digit b hb = eqb-true (digit 0 b) 0 (every-at (λ k. eqb (digit 0 k) 0) 32 
 
 pub none-marked : (n : ℕ) → n ≡ wordLimit → Marked [] (replicate n 0)
 unfolding used
-none-marked n h = record { long = length-replicate {A = ℕ} n 0 ∙ h; bit = λ j b hj hb. rw (getD-replicate {A = ℕ} n j 0 0 (omega arith)) (zero-digit b hb); fits = λ j. zero-fits n j }
+none-marked n h =
+    record {
+      long = length-replicate {A = ℕ} n 0 ∙ h;
+      bit = λ j b hj hb. rw (getD-replicate {A = ℕ} n j 0 0 (omega arith)) (zero-digit b hb);
+      fits = λ j. zero-fits n j;
+    }
   where
     zero-fits : (n j : ℕ) → getD (replicate n 0) j 0 < 4294967296
     zero-fits zero j = omega arith
@@ -135,7 +140,12 @@ module _ (ks ms : List ℕ) (k : ℕ) (m : Marked ks ms) (h : k < 1048576) where
       go (no e) = rw (getD-set-other ms (k / 32) j (bitOr (getD ms (k / 32) 0) (2 ^ (k % 32))) 0 e) (m .fits j)
 
   pub one-marked : Marked (ks ++ (k ∷ [])) more
-  one-marked = record { long = length-set ms (k / 32) (bitOr (getD ms (k / 32) 0) (2 ^ (k % 32))) ∙ l; bit = more-bit; fits = more-fits }
+  one-marked =
+      record {
+        long = length-set ms (k / 32) (bitOr (getD ms (k / 32) 0) (2 ^ (k % 32))) ∙ l;
+        bit = more-bit;
+        fits = more-fits;
+      }
 
 -- corner i of ks
 pub next-marked : (ks ms : List ℕ) (i k x : ℕ) → Marked (take i ks) ms → i < length ks → k < 1048576 → k ≡ getD ks i 0

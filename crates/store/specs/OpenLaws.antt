@@ -61,5 +61,9 @@ open-passes q n ks a b h =
         → cond t Passed (Failed ShortStore) ≡ Passed → Opens q n ks a b
     go m true x e =
         let r = both (leb (coordsFrom + n) a) (leb (cornersFrom q + length ks) b) x in
-        record { mesh = m; floats = leb-true (coordsFrom + n) a (r .0); words = leb-true (cornersFrom q + length ks) b (r .1) }
+        record {
+          mesh = m;
+          floats = leb-true (coordsFrom + n) a (r .0);
+          words = leb-true (cornersFrom q + length ks) b (r .1);
+        }
     go m false x e = absurd (let o : _≡_ {A = ℕ} 0 1 = cc in omega arith)

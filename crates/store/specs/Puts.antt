@@ -43,7 +43,8 @@ putWords q ws i fit layer =
 -- "Answers pieces and need"; 02, L4: "put answers one of kept, fitted with that pivot, fallback with that column, or no
 -- exponent"
 abbrev pub placedWith : ℕ → ℕ → Fit → Answer
-placedWith pieces need fit = record { refusal = 0; counts = pieces ∷ need ∷ kindOf fit ∷ columnOf fit ∷ []; floats = pivotOf fit ∷ [] }
+placedWith pieces need fit =
+    record { refusal = 0; counts = pieces ∷ need ∷ kindOf fit ∷ columnOf fit ∷ []; floats = pivotOf fit ∷ [] }
 
 -- "Put: .. p = 0"; 02, L5: a layer "given at put", "16 when a layer is above 15, after 6"
 unfoldable pub putStep : ℕ → List Float → List ℕ → ℕ → Kernel → ℕ → After

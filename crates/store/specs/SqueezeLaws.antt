@@ -33,7 +33,14 @@ module _ {A : Type 0} (g : A → A) (d : A) where
     word-left = rw (m .same, drop-cons l i d h) (getD-at (map g (take i l)) (getD l i d) (drop (suc i) l) d i front)
 
     pub one-mapped : (v : A) → v ≡ g (getD l i d) → Mapped l (i + 1) (set r i v)
-    one-mapped v e = record { within = omega arith; long = length-set r i v ∙ m .long; same = rw (m .same, drop-cons l i d h, e) (set-at (map g (take i l)) (getD l i d) (drop (suc i) l) (g (getD l i d)) i front ∙ next) }
+    one-mapped v e =
+        record {
+          within = omega arith;
+          long = length-set r i v ∙ m .long;
+          same =
+              rw (m .same, drop-cons l i d h, e)
+              (set-at (map g (take i l)) (getD l i d) (drop (suc i) l) (g (getD l i d)) i front ∙ next);
+        }
       where
         map-snoc : (xs : List A) (x : A) → map g (xs ++ (x ∷ [])) ≡ map g xs ++ (g x ∷ [])
         map-snoc [] x = refl
@@ -149,7 +156,11 @@ module _ {x₀ x : List Float} {i to : ℕ} (m : Moving x₀ i to x) (h : 3 * i 
     pub one-moved : (ks : List ℕ) → Moved ks x₀ i to x → d ≡ cond (used ks i) 1 0
         → Moved ks x₀ (i + 1) (to + d) after-three
     unfolding rank keptTo
-    one-moved ks v e = record { count = rw (add-one, e, v .count) refl; front = go (used ks i) e ∙ ap (keptTo ks x₀) (sym (add-one i)) }
+    one-moved ks v e =
+        record {
+          count = rw (add-one, e, v .count) refl;
+          front = go (used ks i) e ∙ ap (keptTo ks x₀) (sym (add-one i));
+        }
       where
         k : to ≤ i
         k = m .low

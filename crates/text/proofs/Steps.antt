@@ -1,4 +1,5 @@
--- One step of a token at a position: what `rest` is there, and what the token's definition makes of it. Assumes nothing.
+-- One step of a token at a position: what `rest` is there, and what the token's definition makes of it. Assumes
+-- nothing.
 use mathlib.Core.Path.{_≡_, refl, sym, ap, _∙_}
 use mathlib.Core.List.{List, [], _∷_}
 use mathlib.Core.Bool.{Bool, true, false, _&&_, and-false, and-eq-true-iff}
@@ -61,18 +62,22 @@ module _ (s : List ℕ) (at i : ℕ) (hi : i < 16) (hk : at + i < length s) wher
   next : at + (i + 1) ≡ at + i + 1
   next = omega arith
 
-  pub hexes-turn : hexes (16 - i) (rest s (at + i)) ≡ ltb (digit (getD s (at + i) 0)) 16 && hexes (16 - (i + 1)) (rest s (at + (i + 1)))
+  pub hexes-turn : hexes (16 - i) (rest s (at + i))
+      ≡ ltb (digit (getD s (at + i) 0)) 16 && hexes (16 - (i + 1)) (rest s (at + (i + 1)))
   unfolding hexes
   hexes-turn = rw (more, rest-cons s (at + i) hk, next, rest-next s (at + i) hk) refl
 
   -- where digits stand, the first is one, and the others are
-  pub hexes-first : hexes (16 - i) (rest s (at + i)) ≡ true → (digit (getD s (at + i) 0) < 16) × (hexes (16 - (i + 1)) (rest s (at + (i + 1))) ≡ true)
+  pub hexes-first : hexes (16 - i) (rest s (at + i)) ≡ true
+      → (digit (getD s (at + i) 0) < 16) × (hexes (16 - (i + 1)) (rest s (at + (i + 1))) ≡ true)
   hexes-first h =
-      let g = and-eq-true-iff (ltb (digit (getD s (at + i) 0)) 16) (hexes (16 - (i + 1)) (rest s (at + (i + 1)))) .0 (sym hexes-turn ∙ h) in
+      let g = and-eq-true-iff (ltb (digit (getD s (at + i) 0)) 16) (hexes (16 - (i + 1)) (rest s (at + (i + 1)))) .0
+      (sym hexes-turn ∙ h) in
       (ltb-true (digit (getD s (at + i) 0)) 16 (g .0), g .1)
 
   pub pattern-turn : (v : ℕ) → digit (getD s (at + i) 0) < 16
-      → patternFrom (16 - i) v (rest s (at + i)) ≡ patternFrom (16 - (i + 1)) (v * 16 + digit (getD s (at + i) 0)) (rest s (at + (i + 1)))
+      → patternFrom (16 - i) v (rest s (at + i))
+      ≡ patternFrom (16 - (i + 1)) (v * 16 + digit (getD s (at + i) 0)) (rest s (at + (i + 1)))
   unfolding patternFrom
   pattern-turn v h = rw (more, rest-cons s (at + i) hk, next, rest-next s (at + i) hk, lt-ltb _ _ h) refl
 
@@ -100,7 +105,8 @@ unfolding hexes
 hexes-done t = refl
 
 -- where the digits stand, the text after them is left
-pub pattern-after : (s : List ℕ) (k at v : ℕ) → at + k ≤ length s → hexes k (rest s at) ≡ true → patternFrom k v (rest s at) .text ≡ rest s (at + k)
+pub pattern-after : (s : List ℕ) (k at v : ℕ) → at + k ≤ length s → hexes k (rest s at) ≡ true
+    → patternFrom k v (rest s at) .text ≡ rest s (at + k)
 unfolding hexes patternFrom
 pattern-after s zero at v h g = rw add-zero refl
 pattern-after s (suc k) at v h g =
@@ -121,13 +127,15 @@ module _ (s : List ℕ) (most k v : ℕ) (hk : k < length s) where
       → decimalFrom most v (drop k s) ≡ decimalFrom most (v * 10 + digit (getD s k 0)) (drop (k + 1) s)
   decimal-same h m = decimal-cons ∙ rw (add-one k, lt-ltb _ _ h, le-leb _ _ m)
 
-  pub decimal-past : digit (getD s k 0) < 10 → most < v * 10 + digit (getD s k 0) → decimalFrom most v (drop k s) ≡ missing
+  pub decimal-past : digit (getD s k 0) < 10 → most < v * 10 + digit (getD s k 0)
+      → decimalFrom most v (drop k s) ≡ missing
   decimal-past h m = decimal-cons ∙ rw (lt-ltb _ _ h, lt-leb _ _ m)
 
   pub decimal-other : 10 ≤ digit (getD s k 0) → decimalFrom most v (drop k s) ≡ record { val = v; text = rest s k }
   decimal-other h = decimal-cons ∙ rw (rest-cons s k hk, le-ltb _ _ h)
 
-pub decimal-end : (s : List ℕ) (most k v : ℕ) → k ≡ length s → decimalFrom most v (drop k s) ≡ record { val = v; text = rest s k }
+pub decimal-end : (s : List ℕ) (most k v : ℕ) → k ≡ length s
+    → decimalFrom most v (drop k s) ≡ record { val = v; text = rest s k }
 decimal-end s most k v e = rw (e, drop-length, rest-whole)
 
 -- the first digit
@@ -140,7 +148,8 @@ module _ (s : List ℕ) (most k : ℕ) where
   unfolding decimal
   decimal-not hk h = rw (rest-cons s k hk, le-ltb _ _ h)
 
-  pub decimal-zero : k < length s → digit (getD s k 0) ≡ 0 → decimal most (rest s k) ≡ record { val = 0; text = rest s (k + 1) }
+  pub decimal-zero : k < length s → digit (getD s k 0) ≡ 0
+      → decimal most (rest s k) ≡ record { val = 0; text = rest s (k + 1) }
   unfolding decimal
   decimal-zero hk h = rw (rest-cons s k hk, rest-next s k hk, h)
 

@@ -13,7 +13,8 @@ use Rattle.text.specs.WriteLaws.{sets-append, length-digits}
 pub set-sets : (u l : List ℕ) (i j g : ℕ) → i + length u ≤ j → sets (set l j g) i u ≡ set (sets l i u) j g
 set-sets [] l i j g h = refl
 set-sets (a ∷ u) l i j g h =
-    ap (λ (x : List ℕ). sets x (suc i) u) (set-comm l j i g a (λ e. omega arith)) ∙ set-sets u (set l i a) (suc i) j g (omega arith)
+    ap (λ (x : List ℕ). sets x (suc i) u) (set-comm l j i g a (λ e. omega arith))
+    ∙ set-sets u (set l i a) (suc i) j g (omega arith)
 
 -- the last digit is stored first, and then those before it
 pub digits-step : (o : List ℕ) (at b i m : ℕ) → 0 < i
@@ -30,7 +31,8 @@ digits-step o at b (suc j) m h =
     ∙ ap (λ (x : ℕ). set (sets o at d) (at + x) g) (sym k)
     ∙ sym (sets-append d (g ∷ []) o at))
 
-pub bytes-step : (o p : List ℕ) (at i : ℕ) → i < length p → sets (set o (at + i) (getD p i 0)) (at + (i + 1)) (drop (i + 1) p) ≡ sets o (at + i) (drop i p)
+pub bytes-step : (o p : List ℕ) (at i : ℕ) → i < length p
+    → sets (set o (at + i) (getD p i 0)) (at + (i + 1)) (drop (i + 1) p) ≡ sets o (at + i) (drop i p)
 bytes-step o p at i h =
     let e : at + (i + 1) ≡ suc (at + i) = omega arith in
     rw (e, add-one i, drop-cons p i 0 h)

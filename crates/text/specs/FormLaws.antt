@@ -225,7 +225,8 @@ spells-at (word p f) (left l) r c e =
 spells-at (number most f) (left l) r c e =
     let d = decimal most (left l) in
     let x = there f (read f (d .text) .val) (d .text) r (spells-at f (d .text) r (clear-number most f c .3) e) in
-    let y = decimal-inv most (d .val) l (x .0) (clear-number most f c .0) (clear-number most f c .1) (λ i. record { val = d .val; text = x .1 i }) in
+    let y = decimal-inv most (d .val) l (x .0) (clear-number most f c .0) (clear-number most f c .1)
+    (λ i. record { val = d .val; text = x .1 i }) in
     (x .0, y .0, y .1, x .2)
 spells-at (real f) (left l) r c e =
     let p = pattern (left l) in

@@ -221,7 +221,9 @@ decimal-from most v n (b ∷ l) r z m w e =
     go : (s t : Bool) → ltb (digit b) 10 ≡ s → leb (v * 10 + digit b) most ≡ t
         → cond s (cond t (decimalFrom most (v * 10 + digit b) l) missing) (record { val = v; text = left (b ∷ l) })
         ≡ record { val = n; text = left r }
-        → (0 < v * 10 + digit b → v * 10 + digit b ≤ most → decimalFrom most (v * 10 + digit b) l ≡ record { val = n; text = left r }
+        →
+        (0 < v * 10 + digit b → v * 10 + digit b ≤ most
+        → decimalFrom most (v * 10 + digit b) l ≡ record { val = n; text = left r }
         → (decimalText (v * 10 + digit b) ++ l ≡ decimalText n ++ r) × (n ≤ most))
         → (decimalText v ++ (b ∷ l) ≡ decimalText n ++ r) × (n ≤ most)
     go true true p q f ih =

@@ -59,7 +59,8 @@ module _ {v : ℕ → Node → Float} where
   pub no-points : {xs : List Float} → length xs ≡ 28 → Points v 0 xs
   no-points e = record { long = e; at = λ j k h m. absurd (omega arith) }
 
-  pub more-points : {n : ℕ} {xs ys : List Float} → Points v n xs → n < 4 → ys ≡ sevenSet (v n) (7 * n) xs → Points v (n + 1) ys
+  pub more-points : {n : ℕ} {xs ys : List Float} → Points v n xs → n < 4 → ys ≡ sevenSet (v n) (7 * n) xs
+      → Points v (n + 1) ys
   unfolding sevenSet
   more-points {n} {xs} p h e =
       subst⁻¹ (Points v (n + 1)) e
@@ -77,7 +78,8 @@ module _ {v : ℕ → Node → Float} where
 module _ (t : ℕ → Triangle) (c : V3) (sigma : Float) (f : ℕ) {x g heights : List Float}
     (square : Points (squaresOf t c f) 4 x) (factors : Each (factor sigma) x g)
     (height : Points (heightsOf t c f) 4 heights) where
-  one-share : (j : ℕ) → j < 4 → (k : ℕ) (s : Float) → k < 7 → shareStep g heights (7 * j) k s ≡ fluxStep (t (f + j)) c sigma k s
+  one-share : (j : ℕ) → j < 4 → (k : ℕ) (s : Float) → k < 7
+      → shareStep g heights (7 * j) k s ≡ fluxStep (t (f + j)) c sigma k s
   unfolding flux squareOf heightOf norm
   one-share j h k s m = rw (factors .at (7 * j + k) (omega arith), square .at j k h m, height .at j k h m) refl
 
@@ -89,7 +91,17 @@ module _ (t : ℕ → Triangle) (c : V3) (sigma : Float) (f : ℕ) {x g heights 
   unfolding allShares volumeFrom times
   four-faces sum =
       let e : f + 4 - f ≡ 4 = omega arith in
-      rw (e, one-face 0 _ (omega arith), one-face 1 _ (omega arith), one-face 2 _ (omega arith), one-face 3 _ (omega arith), add-zero, add-one, add-two, add-three) refl
+      rw (
+        e,
+        one-face 0 _ (omega arith),
+        one-face 1 _ (omega arith),
+        one-face 2 _ (omega arith),
+        one-face 3 _ (omega arith),
+        add-zero,
+        add-one,
+        add-two,
+        add-three,
+      ) refl
 
 -- ---- more blocks
 
@@ -100,7 +112,9 @@ module _ (t : ℕ → Triangle) (c : V3) (sigma : Float) where
       let e : from + 4 * 0 - from ≡ 0 = omega arith in
       rw e refl
 
-  pub one-block : (from i : ℕ) (sum : Float) {s r : Float} → s ≡ volumeFrom t c sigma from (from + 4 * i) sum → r ≡ volumeFrom t c sigma (from + 4 * i) (from + 4 * i + 4) s → r ≡ volumeFrom t c sigma from (from + 4 * (i + 1)) sum
+  pub one-block : (from i : ℕ) (sum : Float) {s r : Float} → s ≡ volumeFrom t c sigma from (from + 4 * i) sum
+      → r ≡ volumeFrom t c sigma (from + 4 * i) (from + 4 * i + 4) s
+      → r ≡ volumeFrom t c sigma from (from + 4 * (i + 1)) sum
   one-block from i sum e f =
       let m : from + 4 * (i + 1) ≡ from + 4 * i + 4 = omega arith in
       rw (m, f, e) (volume-more t c sigma from (from + 4 * i) (from + 4 * i + 4) sum (omega arith) (omega arith))

@@ -22,7 +22,8 @@ module _ (n : ℕ) (faces : List ℕ) (ks : List Float) (room : ℕ) where
   unfolding callCheck
   passed-mesh h = go (fieldCheck n faces ks) refl h
     where
-      go : (m : Checked) → fieldCheck n faces ks ≡ m → andThen m (cond (leb (length ks) room) Passed (Failed ShortList)) ≡ Passed → Sound n faces
+      go : (m : Checked) → fieldCheck n faces ks ≡ m
+          → andThen m (cond (leb (length ks) room) Passed (Failed ShortList)) ≡ Passed → Sound n faces
       go Passed e h = passed-field ks e
       go (Failed r) e h = let z : _≡_ {A = ℕ} 0 1 = cc in absurd (omega arith)
 
@@ -30,7 +31,8 @@ module _ (n : ℕ) (faces : List ℕ) (ks : List Float) (room : ℕ) where
   unfolding callCheck
   passed-room h = go (fieldCheck n faces ks) (leb (length ks) room) refl h
     where
-      go : (m : Checked) (b : Bool) → leb (length ks) room ≡ b → andThen m (cond b Passed (Failed ShortList)) ≡ Passed → length ks ≤ room
+      go : (m : Checked) (b : Bool) → leb (length ks) room ≡ b → andThen m (cond b Passed (Failed ShortList)) ≡ Passed
+          → length ks ≤ room
       go Passed true e h = leb-true (length ks) room e
       go Passed false e h = let z : _≡_ {A = ℕ} 0 1 = cc in absurd (omega arith)
       go (Failed r) b e h = let z : _≡_ {A = ℕ} 0 1 = cc in absurd (omega arith)

@@ -22,7 +22,8 @@ no-nan m e = tt
 
 under : (m : ℕ) (e : ℤ) → T (fits binary64 (fin false m e)) → toBits binary64 (fin false m e) < 9218868437227405312
 under zero e f =
-    let z : 0 * up e * 2 ^ 1074 ≡ 0 * down e = ap (λ (t : ℕ). t * 2 ^ 1074) (zero-mul (up e)) ∙ zero-mul (2 ^ 1074) ∙ sym (zero-mul (down e)) in
+    let z : 0 * up e * 2 ^ 1074 ≡ 0 * down e
+    = ap (λ (t : ℕ). t * 2 ^ 1074) (zero-mul (up e)) ∙ zero-mul (2 ^ 1074) ∙ sym (zero-mul (down e)) in
     subst (λ (t : ℕ). t < 9218868437227405312) (sym (bits-of 0 e 0 z)) none
   where
     none : (size 0 - 53) * 2 ^ 52 + 0 / 2 ^ (size 0 - 53) < 9218868437227405312
@@ -34,13 +35,20 @@ module _ (x y : Float) (s : Sized x y) (f : T (fits binary64 y)) where
   a-number = rw (s .is) (no-nan (s .m) (s .e))
 
   pub below-inf : toBits binary64 y < 9218868437227405312
-  below-inf = subst (λ (z : Float). toBits binary64 z < 9218868437227405312) (sym (s .is)) (under (s .m) (s .e) (subst (λ (z : Float). T (fits binary64 z)) (s .is) f))
+  below-inf =
+      subst (λ (z : Float). toBits binary64 z < 9218868437227405312) (sym (s .is))
+      (under (s .m) (s .e) (subst (λ (z : Float). T (fits binary64 z)) (s .is) f))
 
   value : s .m * up (s .e) * 2 ^ 1074 ≡ unitsAt (toBits binary64 y) * down (s .e)
-  value = (subst (λ (z : Float). HasValue z false (unitsAt (toBits binary64 y)) (2 ^ 1074)) (s .is) (own-units y f below-inf)) .1
+  value =
+      (subst (λ (z : Float). HasValue z false (unitsAt (toBits binary64 y)) (2 ^ 1074)) (s .is)
+      (own-units y f below-inf)) .1
 
   by-units : magnitude x ≡ nearest (unitsAt (toBits binary64 y)) (2 ^ 1074)
-  by-units = s .rounds ∙ nearest-same (s .m * up (s .e)) (down (s .e)) (unitsAt (toBits binary64 y)) (2 ^ 1074) (down-pos (s .e)) (pow-pos 1074) value
+  by-units =
+      s .rounds
+      ∙ nearest-same (s .m * up (s .e)) (down (s .e)) (unitsAt (toBits binary64 y)) (2 ^ 1074) (down-pos (s .e))
+      (pow-pos 1074) value
 
   pub most-is : magnitude x ≤ 1000000000000000
   most-is = rw (s .rounds) (nearest-most (s .m * up (s .e)) (down (s .e)) 1000000000000000 (down-pos (s .e)) (s .most))
@@ -50,25 +58,41 @@ module _ (x y : Float) (s : Sized x y) (f : T (fits binary64 y)) where
   zero-units = refl
 
   pub zero-is : toBits binary64 y ≡ 0 → magnitude x ≡ 0
-  zero-is h = by-units ∙ ap (λ (t : ℕ). nearest (unitsAt t) (2 ^ 1074)) h ∙ ap (λ (t : ℕ). nearest t (2 ^ 1074)) zero-units ∙ nearest-none 0 (2 ^ 1074) (pow-pos 1074)
+  zero-is h =
+      by-units ∙ ap (λ (t : ℕ). nearest (unitsAt t) (2 ^ 1074)) h ∙ ap (λ (t : ℕ). nearest t (2 ^ 1074)) zero-units
+      ∙ nearest-none 0 (2 ^ 1074) (pow-pos 1074)
 
   units-most : unitsAt (toBits binary64 y) ≤ 1000000000000000 * 2 ^ 1074
-  units-most = le-of-mul-le-mul-right (le-trans (le-of-eq (sym value)) (le-trans (mul-le-mul-right (2 ^ 1074) (s .most)) (le-of-eq (mul-right-comm 1000000000000000 (down (s .e)) (2 ^ 1074))))) (down-pos (s .e))
+  units-most =
+      le-of-mul-le-mul-right
+      (le-trans (le-of-eq (sym value))
+      (le-trans (mul-le-mul-right (2 ^ 1074) (s .most))
+      (le-of-eq (mul-right-comm 1000000000000000 (down (s .e)) (2 ^ 1074))))) (down-pos (s .e))
 
   module _ (sig ex : ℕ) (p : Scaled (unitsAt (toBits binary64 y)) sig ex) where
     -- 2^52·2^ex ≤ sig·2^ex = units·2^52 ≤ 10^15·2^1126 < 2^52·2^1126
     pub low-exponent : ex < 1126
-    low-exponent = lt-of-not-le (λ (g : 1126 ≤ ex). lt-irrefl (2 ^ 52 * 2 ^ 1126) (lt-of-le-of-lt (le-trans (mul-le-mul-left (2 ^ 52) (pow-mono g)) (le-trans (mul-le-mul-right (2 ^ ex) (p .least)) (le-trans (le-of-eq (p .value)) (mul-le-mul-right (2 ^ 52) units-most)))) (lit< tt)))
+    low-exponent =
+        lt-of-not-le
+        (λ (g : 1126 ≤ ex). lt-irrefl (2 ^ 52 * 2 ^ 1126)
+        (lt-of-le-of-lt
+        (le-trans (mul-le-mul-left (2 ^ 52) (pow-mono g))
+        (le-trans (mul-le-mul-right (2 ^ ex) (p .least))
+        (le-trans (le-of-eq (p .value)) (mul-le-mul-right (2 ^ 52) units-most)))) (lit< tt)))
 
     by-sig : ex ≤ 1126 → magnitude x ≡ nearest sig (2 ^ (1126 - ex))
-    by-sig h = by-units ∙ nearest-same (unitsAt (toBits binary64 y)) (2 ^ 1074) sig (2 ^ (1126 - ex)) (pow-pos 1074) (pow-pos (1126 - ex)) cross
+    by-sig h =
+        by-units
+        ∙ nearest-same (unitsAt (toBits binary64 y)) (2 ^ 1074) sig (2 ^ (1126 - ex)) (pow-pos 1074)
+        (pow-pos (1126 - ex)) cross
       where
         whole : ex + (1126 - ex) ≡ 1126
         whole = omega arith
 
         cross : unitsAt (toBits binary64 y) * 2 ^ (1126 - ex) ≡ sig * 2 ^ 1074
         cross =
-            eq-of-mul-eq-mul-right (2 ^ 52) (pow-pos 52) (unitsAt (toBits binary64 y) * 2 ^ (1126 - ex)) (sig * 2 ^ 1074)
+            eq-of-mul-eq-mul-right (2 ^ 52) (pow-pos 52) (unitsAt (toBits binary64 y) * 2 ^ (1126 - ex))
+            (sig * 2 ^ 1074)
             (mul-right-comm (unitsAt (toBits binary64 y)) (2 ^ (1126 - ex)) (2 ^ 52)
             ∙ ap (λ (t : ℕ). t * 2 ^ (1126 - ex)) (sym (p .value))
             ∙ mul-assoc sig (2 ^ ex) (2 ^ (1126 - ex))
@@ -85,4 +109,6 @@ module _ (x y : Float) (s : Sized x y) (f : T (fits binary64 y)) where
     far h = omega arith
 
     pub below-half : ex < 1073 → magnitude x ≡ 0
-    below-half h = by-shift ∙ nearest-none sig (2 ^ (1126 - ex)) (lt-of-lt-of-le (double sig (2 ^ 53) (p .most)) (pow-mono (far h)))
+    below-half h =
+        by-shift
+        ∙ nearest-none sig (2 ^ (1126 - ex)) (lt-of-lt-of-le (double sig (2 ^ 53) (p .most)) (pow-mono (far h)))

@@ -57,8 +57,12 @@ nearest-is n d p = go (ltb (2 * r) d) (ltb d (2 * r)) refl refl
 
     go : (a b : Bool) → ltb (2 * (n % d)) d ≡ a → ltb d (2 * (n % d)) ≡ b
         → Near n d (cond a (n / d) (cond b (n / d + 1) (n / d + n / d % 2)))
-    go true b e f = let h = ltb-true (2 * (n % d)) d e in record { near = omega (arith, whole, low); even = λ z. absurd (omega (arith, whole, low)) }
-    go false true e f = let h = ltb-true d (2 * (n % d)) f in record { near = omega (arith, whole, low, step); even = λ z. absurd (omega (arith, whole, low, step)) }
+    go true b e f =
+        let h = ltb-true (2 * (n % d)) d e in
+        record { near = omega (arith, whole, low); even = λ z. absurd (omega (arith, whole, low)) }
+    go false true e f =
+        let h = ltb-true d (2 * (n % d)) f in
+        record { near = omega (arith, whole, low, step); even = λ z. absurd (omega (arith, whole, low, step)) }
     go false false e f =
         let h : 2 * (n % d) ≡ d = omega (arith, ltb-false (2 * (n % d)) d e, ltb-false d (2 * (n % d)) f) in
         record {

@@ -12,7 +12,8 @@ use Rattle.bench.proofs.feed_chunk.Tie as tie
 abbrev Inv-loop : tie.InvT-loop
 Inv-loop chunk n line₀ floats₀ words₀ coords₀ corners₀ out₀ state₀ i₀ line floats words coords corners out state i =
     Small (state .opening)
-    × Left (feedAt chunk) n i (heldWith (session (state .opening) floats words coords corners) line (state .count)) (heldAfter chunk n (heldWith (session (state₀ .opening) floats₀ words₀ coords₀ corners₀) line₀ (state₀ .count)))
+    × Left (feedAt chunk) n i (heldWith (session (state .opening) floats words coords corners) line (state .count))
+    (heldAfter chunk n (heldWith (session (state₀ .opening) floats₀ words₀ coords₀ corners₀) line₀ (state₀ .count)))
 
 abbrev μ-loop : tie.MeasureT-loop
 μ-loop chunk n line₀ floats₀ words₀ coords₀ corners₀ out₀ state₀ i₀ line floats words coords corners out state i = n - i
@@ -23,7 +24,10 @@ returns c = (search needs, λ e. absurd (false≢true e))
 
 loop-again : tie.Need-loop-again Inv-loop μ-loop
 loop-again c =
-    (search needs, goes (c .before .before .before .before .before .before .before .before .before .before .before .before .before .loop .inv .1) (c .before .before .before .before .before .before .before .before .before .before .before .before .loop-test .taken) (c .before .before .before .before .feed .ensures .1 .0))
+    let c12 = c .before .before .before .before .before .before .before .before .before .before .before .before in (
+      search needs,
+      goes (c12 .before .loop .inv .1) (c12 .loop-test .taken) (c .before .before .before .before .feed .ensures .1 .0),
+    )
 
 returns-2 : tie.Need-returns-2 Inv-loop μ-loop
 returns-2 c = (search needs, λ e. ended (c .before .loop .inv .1) (c .loop-test .left))

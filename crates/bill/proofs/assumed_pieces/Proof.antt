@@ -24,8 +24,11 @@ add-pieces c = omega (arith, c .most-pieces .ensures .1, c .before .before .befo
 loop-again : tie.Need-loop-again Inv-loop μ-loop
 loop-again c =
     let l = c .before .before .before .loop in
-    let p = c .most-pieces .ensures in
-    (omega arith, omega (arith, p .1, l .inv .1), assumed-next _ (l .i) (c .before .kernel-at .ensures) (p .0) (l .inv .2))
+    let p = c .most-pieces .ensures in (
+      omega arith,
+      omega (arith, p .1, l .inv .1),
+      assumed-next _ (l .i) (c .before .kernel-at .ensures) (p .0) (l .inv .2),
+    )
 
 returns : tie.Need-returns Inv-loop μ-loop
 returns c =

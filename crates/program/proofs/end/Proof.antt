@@ -16,7 +16,9 @@ returns c =
 
 returns-2 : tie.Need-returns-2
 unfolding feedEnd
-returns-2 c = rw (ne-eqb _ _ (c .before .before .before .before .before .before .before .before .before .before .if1 .left)) (c .before .before .before .before .end-line .ensures)
+returns-2 c =
+    let c10 = c .before .before .before .before .before .before .before .before .before .before in
+    rw (ne-eqb _ _ (c10 .if1 .left)) (c .before .before .before .before .end-line .ensures)
 
 pub end-spec : {M : Type 1} → statement M
 end-spec = tie.close (tie.spec returns (λ c κs. search needs) (λ c. search needs) (λ c. search needs) returns-2)

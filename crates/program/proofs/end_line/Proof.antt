@@ -9,9 +9,10 @@ use Rattle.program.proofs.end_line.Tie as tie
 returns : tie.Need-returns
 unfolding endLine
 returns c =
+    let c12 = c .before .before .before .before .before .before .before .before .before .before .before .before in
     let e = c .before .before .before .before .before .respond .ensures in
-    let a = c .before .before .before .before .before .before .before .before .before .before .before .before .before .before .before .before .args in
-    rw (← c .before .before .before .before .before .before .before .before .before .before .before .before .line-in .ensures) (e .0, (ap (λ (s : Session). heldWith s (a .line .now) 0) (e .1 .0), e .1 .1))
+    let a = c12 .before .before .before .before .args in
+    rw (← c12 .line-in .ensures) (e .0, (ap (λ (s : Session). heldWith s (a .line .now) 0) (e .1 .0), e .1 .1))
 
 pub end-line-spec : {M : Type 1} → statement M
 end-line-spec =

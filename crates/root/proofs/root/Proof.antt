@@ -23,10 +23,13 @@ held : (c : tie.Start) → T (fits binary64 (c .args .x))
 held c = subst T (sym (c .good .0 .1)) tt
 
 -- past the first three tests
-rest : (c : tie.Else3) → (c .before .before .before .args .x ≡ inf false) ⊎ T (positive (c .before .before .before .args .x))
-rest c = the-rest (c .before .before .before .args .x) (c .before .before .if1 .left) (c .before .if2 .left) (c .if3 .left)
+rest : (c : tie.Else3)
+    → (c .before .before .before .args .x ≡ inf false) ⊎ T (positive (c .before .before .before .args .x))
+rest c =
+    the-rest (c .before .before .before .args .x) (c .before .before .if1 .left) (c .before .if2 .left) (c .if3 .left)
 
-infinite : (x : Float) → T (fits binary64 x) → (x ≡ inf false) ⊎ T (positive x) → 9218868437227405312 ≤ toBits binary64 x → x ≡ squareRoot binary64 x
+infinite : (x : Float) → T (fits binary64 x) → (x ≡ inf false) ⊎ T (positive x)
+    → 9218868437227405312 ≤ toBits binary64 x → x ≡ squareRoot binary64 x
 infinite x f (inl e) h = e ∙ sym (ap (squareRoot binary64) e ∙ of-infinity)
 infinite x f (inr p) h = absurd (not-le-of-lt (bits-under x f p) h)
 
@@ -44,17 +47,28 @@ over c = above-zero (c .before .before .before .before .args .x) (rest (c .befor
 abbrev units : tie.After-nearest → ℕ
 units c = unitsAt (toBits binary64 (c .before .before .before .before .before .before .args .x))
 
-rounded : (c : tie.After-nearest) → Rounded (c .before .take .result .sig * 2 ^ (c .before .take .result .ex % 2)) (c .nearest .result)
-rounded c = subst (λ (o : ℕ). Rounded (c .before .take .result .sig * 2 ^ o) (c .nearest .result)) (low-bit (c .before .take .result .ex)) (c .nearest .ensures)
+rounded : (c : tie.After-nearest)
+    → Rounded (c .before .take .result .sig * 2 ^ (c .before .take .result .ex % 2)) (c .nearest .result)
+rounded c =
+    subst (λ (o : ℕ). Rounded (c .before .take .result .sig * 2 ^ o) (c .nearest .result))
+    (low-bit (c .before .take .result .ex)) (c .nearest .ensures)
 
 -- the pattern is below that of the infinity
-small : (c : tie.After-nearest) → (c .before .take .result .ex / 2 + 485) * 4503599627370496 % 2 ^ 64 + c .nearest .result < 9218868437227405312
-small c = omega (arith, most (units c) (c .before .take .result .sig) (c .before .take .result .ex) (c .nearest .result) (c .before .take .ensures .0) (rounded c), c .before .take .ensures .0 .top)
+small : (c : tie.After-nearest)
+    → (c .before .take .result .ex / 2 + 485) * 4503599627370496 % 2 ^ 64 + c .nearest .result < 9218868437227405312
+small c =
+    omega (
+      arith,
+      most (units c) (c .before .take .result .sig) (c .before .take .result .ex) (c .nearest .result)
+          (c .before .take .ensures .0) (rounded c),
+      c .before .take .ensures .0 .top,
+    )
 
 returns-5 : tie.Need-returns-5
 returns-5 c =
     let s = c .before .before .before .before .before .before in
-    root-made (s .args .x) (toBits binary64 (s .args .x)) (c .before .take .result .sig) (c .before .take .result .ex) (c .nearest .result) (held s) refl (c .before .before .if4 .left) (c .before .take .ensures .0) (rounded c)
+    root-made (s .args .x) (toBits binary64 (s .args .x)) (c .before .take .result .sig) (c .before .take .result .ex)
+    (c .nearest .result) (held s) refl (c .before .before .if4 .left) (c .before .take .ensures .0) (rounded c)
 
 pub root-spec : {M : Type 1} → statement M
 root-spec =
@@ -64,10 +78,20 @@ root-spec =
     (λ c. of-zero (c .before .before .args .x) (c .if2 .taken))
     (λ c. zero-over-zero ∙ sym (of-negative (c .before .before .before .args .x) (c .if3 .taken)))
     (λ c. no-nan (c .before .before .before .args .x) (c .before .before .if1 .left))
-    (λ c. infinite (c .before .before .before .before .args .x) (held (c .before .before .before .before)) (rest (c .before)) (c .if4 .taken))
-    (λ c κs. (bits-above (c .before .before .before .before .args .x) (held (c .before .before .before .before)) (over c), c .if4 .left))
-    (λ c κs. (c .take .ensures .0 .least, c .take .ensures .0 .most, omega (arith, low-bit (c .take .result .ex)), c .take .ensures .1))
+    (λ c. infinite (c .before .before .before .before .args .x) (held (c .before .before .before .before))
+    (rest (c .before)) (c .if4 .taken))
+    (λ c κs. (
+      bits-above (c .before .before .before .before .args .x) (held (c .before .before .before .before)) (over c),
+      c .if4 .left,
+    ))
+    (λ c κs. (
+      c .take .ensures .0 .least,
+      c .take .ensures .0 .most,
+      omega (arith, low-bit (c .take .result .ex)),
+      c .take .ensures .1,
+    ))
     (λ c. search needs)
     (λ c. omega (arith, small c))
-    (λ c. no-nan-below ((c .before .take .result .ex / 2 + 485) * 4503599627370496 % 2 ^ 64 + c .nearest .result) (omega (arith, small c)))
+    (λ c. no-nan-below ((c .before .take .result .ex / 2 + 485) * 4503599627370496 % 2 ^ 64 + c .nearest .result)
+    (omega (arith, small c)))
     returns-5)

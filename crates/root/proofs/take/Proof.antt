@@ -17,8 +17,11 @@ returns c =
 
 returns-2 : tie.Need-returns-2
 returns-2 c =
-    let b = c .before .before .args .b in
-    (subst (λ (s : ℕ). Scaled (unitsAt b) s (b / 2 ^ 52 + 51)) (sym (guessed b)) (normal b (c .before .if1 .left) (c .before .before .pre .1)), c .part .ensures)
+    let b = c .before .before .args .b in (
+      subst (λ (s : ℕ). Scaled (unitsAt b) s (b / 2 ^ 52 + 51)) (sym (guessed b))
+          (normal b (c .before .if1 .left) (c .before .before .pre .1)),
+      c .part .ensures,
+    )
 
 pub take-spec : {M : Type 1} → statement M
 take-spec =

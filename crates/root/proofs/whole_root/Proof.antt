@@ -20,7 +20,8 @@ loop-again : tie.Need-loop-again Inv-loop μ-loop
 loop-again c =
     let t = c .before .before .loop .inv in
     let m = c .before .loop-test .taken in
-    ⊎-elim (λ w. rw (w .1, w .2) (next-one t m (w .0 .taken))) (λ w. rw (w .1, w .2) (next-zero t m (w .0 .left))) (c .if1 .came)
+    ⊎-elim (λ w. rw (w .1, w .2) (next-one t m (w .0 .taken))) (λ w. rw (w .1, w .2) (next-zero t m (w .0 .left)))
+    (c .if1 .came)
 
 pub whole-root-spec : {M : Type 1} → statement M
 whole-root-spec =
@@ -39,4 +40,8 @@ whole-root-spec =
     (λ c. omega (arith, c .before .loop-test .taken))
     (λ c. omega (arith, c .before .loop-test .taken))
     loop-again
-    (λ c. last-turn (subst (λ (i : ℕ). Turn (c .before .before .args .d) (c .before .loop .left) (c .before .loop .root) (c .before .loop .rest) i) (all-done (c .before .loop .i) (c .before .loop .inv .turns) (c .loop-test .left)) (c .before .loop .inv))))
+    (λ c. last-turn
+    (subst
+    (λ (i : ℕ).
+    Turn (c .before .before .args .d) (c .before .loop .left) (c .before .loop .root) (c .before .loop .rest) i)
+    (all-done (c .before .loop .i) (c .before .loop .inv .turns) (c .loop-test .left)) (c .before .loop .inv))))

@@ -12,7 +12,8 @@ use Rattle.advance.proofs.work.chunk.Tie as tie
 volume-from-requires : tie.Need-volume-from-requires
 volume-from-requires c κs =
     let z = c .before .before .before .before .before .before .before in
-    mesh-ready (z .args .floats .now) (z .args .words .now) (z .args .verts) (z .args .faces) (z .pre .0) (z .args .done) (z .args .k) (z .pre .1 .1)
+    mesh-ready (z .args .floats .now) (z .args .words .now) (z .args .verts) (z .args .faces) (z .pre .0)
+    (z .args .done) (z .args .k) (z .pre .1 .1)
 
 returns : tie.Need-returns
 returns c =

@@ -21,15 +21,20 @@ loop-holds c =
 spend-requires : tie.Need-spend-requires Inv-loop μ-loop
 spend-requires c κs =
     let z = c .before .before .before .before .before .before in
-    let l = c .before .before .before .loop in
-    (sweep-meshed (z .args .floats .now) (z .args .words .now) (z .args .verts) (z .args .faces) (z .args .budget) (l .floats) (l .words) (l .rest) (l .i) (l .inv) (z .pre .0), l .inv .ahead (l .i) (omega arith) (c .before .before .loop-test .taken))
+    let l = c .before .before .before .loop in (
+      sweep-meshed (z .args .floats .now) (z .args .words .now) (z .args .verts) (z .args .faces) (z .args .budget)
+          (l .floats) (l .words) (l .rest) (l .i) (l .inv) (z .pre .0),
+      l .inv .ahead (l .i) (omega arith) (c .before .before .loop-test .taken),
+    )
 
 loop-again : tie.Need-loop-again Inv-loop μ-loop
 loop-again c =
-    let a = c .before .before .before .before .before .before .before .before .before .before .before .args in
-    let l = c .before .before .before .before .before .before .before .before .loop in
+    let c7 = c .before .before .before .before .before .before .before in
+    let a = c7 .before .before .before .before .args in
+    let l = c7 .before .loop in
     let s = c .before .before .before .before .spend in
-    sweep (a .floats .now) (a .words .now) (a .verts) (a .faces) (a .budget) (l .floats) (s .last .0) (l .words) (s .last .1 .0) (l .rest) (s .result) (l .i) (l .inv) (c .before .before .before .before .before .before .before .loop-test .taken) (s .kept .0) (s .ensures)
+    sweep (a .floats .now) (a .words .now) (a .verts) (a .faces) (a .budget) (l .floats) (s .last .0) (l .words)
+    (s .last .1 .0) (l .rest) (s .result) (l .i) (l .inv) (c7 .loop-test .taken) (s .kept .0) (s .ensures)
 
 returns : tie.Need-returns Inv-loop μ-loop
 returns c =

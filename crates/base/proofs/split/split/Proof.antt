@@ -13,7 +13,9 @@ use Rattle.base.proofs.split.split.Lts as lts
 masked : (b : ℕ) → bitAnd b 4503599627370495 ≡ b % 2 ^ 52
 masked b = and-mask b 52
 
-zeros : (c : tie.Then1) → (11 ≤ leadingZeros 64 (bitAnd (c .before .args .b) 4503599627370495)) × (leadingZeros 64 (bitAnd (c .before .args .b) 4503599627370495) ≤ 63)
+zeros : (c : tie.Then1)
+    → (11 ≤ leadingZeros 64 (bitAnd (c .before .args .b) 4503599627370495))
+    × (leadingZeros 64 (bitAnd (c .before .args .b) 4503599627370495) ≤ 63)
 zeros c =
     let b = c .before .args .b in
     let d = low-digits b (c .before .pre .0) (c .if1 .taken) in

@@ -11,16 +11,21 @@ returns c =
     let c5 = c .before .before .before .before .before in
     let c11 = c5 .before .before .before .before .before .before in
     let c16 = c11 .before .before .before .before .before in
-    let place = c16 .args .place in
-    (c .newline .ensures .0, answering (putText place) (put-done place (c5 .pieces .given .1)) (c11 .put .ensures) (then (c .before .before .write-put .ensures .1) (c .newline .ensures .1)))
+    let place = c16 .args .place in (
+      c .newline .ensures .0,
+      answering (putText place) (put-done place (c5 .pieces .given .1)) (c11 .put .ensures)
+          (then (c .before .before .write-put .ensures .1) (c .newline .ensures .1)),
+    )
 
 returns-2 : tie.Need-returns-2
 returns-2 c =
     let c3 = c .before .before .before in
     let c9 = c3 .before .before .before .before .before .before in
     let c14 = c9 .before .before .before .before .before in
-    let place = c14 .args .place in
-    (c .answer-no .ensures .0, answering (putText place) (put-refused place (c3 .r .given .1)) (c9 .put .ensures) (c .answer-no .ensures .1))
+    let place = c14 .args .place in (
+      c .answer-no .ensures .0,
+      answering (putText place) (put-refused place (c3 .r .given .1)) (c9 .put .ensures) (c .answer-no .ensures .1),
+    )
 
 pub answer-put-spec : {M : Type 1} → statement M
 answer-put-spec =

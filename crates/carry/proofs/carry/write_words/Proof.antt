@@ -16,15 +16,20 @@ use Rattle.carry.proofs.carry.write_words.Tie as tie
 
 returns : tie.Need-returns
 returns c =
-    let a = c .before .before .before .before .before .before .before .before .before .before .before .before .before .before .args in
-    let r = c .before .before .before .before .before .before .before .before .write-rows in
+    let c7 = c .before .before .before .before .before .before .before in
+    let c14 = c7 .before .before .before .before .before .before .before in
+    let a = c14 .args in
+    let r = c7 .before .write-rows in
     let u = a .words .now in
     let w = a .old-words .now in
     let n : cornersFrom oldWidth + 3 * facesOf w - cornersFrom oldWidth ≡ 3 * facesOf w = omega arith in
-    let e : c .before .before .copy-words .last .0 ≡ write (r .last .0) 130 (cornersOf oldWidth w) = rw n at (c .before .before .copy-words .ensures) in
-    let l : length (cornersOf oldWidth w) ≡ 3 * facesOf w = length-take-le (3 * facesOf w) (drop 98 w) (rw length-drop (omega arith)) in
+    let e : c .before .before .copy-words .last .0 ≡ write (r .last .0) 130 (cornersOf oldWidth w)
+    = rw n at (c .before .before .copy-words .ensures) in
+    let l : length (cornersOf oldWidth w) ≡ 3 * facesOf w
+    = length-take-le (3 * facesOf w) (drop 98 w) (rw length-drop (omega arith)) in
     rw (e, r .ensures, sets-write (vertsOf w ∷ facesOf w ∷ []) u 0 (omega arith))
-    (laid u (vertsOf w ∷ facesOf w ∷ []) (carriedRows w placeLimit) (cornersOf oldWidth w) 130 (rw (rows-length w placeLimit) refl) (omega arith))
+    (laid u (vertsOf w ∷ facesOf w ∷ []) (carriedRows w placeLimit) (cornersOf oldWidth w) 130
+    (rw (rows-length w placeLimit) refl) (omega arith))
 
 pub write-words-spec : {M : Type 1} → statement M
 write-words-spec =
@@ -43,5 +48,8 @@ write-words-spec =
     (λ c. search needs)
     (λ c. search needs)
     (λ c κs. omega (arith, simp length-set at (c .before .before .before .before .before .write-rows .kept .0)))
-    (λ c. omega (arith, simp length-set at (c .before .before .before .before .before .before .before .before .write-rows .kept .0)))
+    (λ c. omega (
+      arith,
+      simp length-set at (c .before .before .before .before .before .before .before .before .write-rows .kept .0),
+    ))
     returns)

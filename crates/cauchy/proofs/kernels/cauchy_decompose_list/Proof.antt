@@ -6,7 +6,8 @@ use Rattle.cauchy.proofs.kernels.cauchy_decompose_list.Statement.{state
 use Rattle.cauchy.proofs.kernels.cauchy_decompose_list.Tie as tie
 
 returns : tie.Need-returns
-returns c = rw (c .list-pieces-of .ensures) (ap (lentFrom listPiecesFrom) (c .before .before .before .decompose-list .ensures))
+returns c =
+    rw (c .list-pieces-of .ensures) (ap (lentFrom listPiecesFrom) (c .before .before .before .decompose-list .ensures))
 
 pub cauchy-decompose-list-spec : {M : Type 1} → statement M
 cauchy-decompose-list-spec =

@@ -6,7 +6,8 @@ use Rattle.cauchy.proofs.kernels.cauchy_solve.Statement.{statement}
 use Rattle.cauchy.proofs.kernels.cauchy_solve.Tie as tie
 
 returns : tie.Need-returns
-returns c = rw (c .solved-of .ensures) (ap (lentFrom solvedFrom) (c .before .before .before .solve-linear-system .ensures))
+returns c =
+    rw (c .solved-of .ensures) (ap (lentFrom solvedFrom) (c .before .before .before .solve-linear-system .ensures))
 
 pub cauchy-solve-spec : {M : Type 1} → statement M
 cauchy-solve-spec =

@@ -6,7 +6,8 @@ use Rattle.cauchy.proofs.scripts.cauchy_store_read.Statement.{statement
 use Rattle.cauchy.proofs.scripts.cauchy_store_read.Tie as tie
 
 returns : tie.Need-returns
-returns c = rw (c .loaded-of .ensures) (ap (across loadedFrom) (c .before .before .before .before .before .read-store .ensures))
+returns c =
+    rw (c .loaded-of .ensures) (ap (across loadedFrom) (c .before .before .before .before .before .read-store .ensures))
 
 pub cauchy-store-read-spec : {M : Type 1} → statement M
 cauchy-store-read-spec =

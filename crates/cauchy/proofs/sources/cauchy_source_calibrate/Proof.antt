@@ -14,4 +14,5 @@ returns c =
 
 pub cauchy-source-calibrate-spec : {M : Type 1} → statement M
 cauchy-source-calibrate-spec =
-    tie.close (tie.spec (λ c κs. search needs) (λ c κs. search needs) (λ c κs. search needs) (λ c. search needs) returns)
+    tie.close
+    (tie.spec (λ c κs. search needs) (λ c κs. search needs) (λ c κs. search needs) (λ c. search needs) returns)

@@ -6,7 +6,8 @@ use Rattle.cauchy.proofs.stores.cauchy_store_advance.Statement.{stateme
 use Rattle.cauchy.proofs.stores.cauchy_store_advance.Tie as tie
 
 returns : tie.Need-returns
-returns c = rw (c .steps-of .ensures) (ap (across stepsFrom) (c .before .before .before .before .before .advance .ensures))
+returns c =
+    rw (c .steps-of .ensures) (ap (across stepsFrom) (c .before .before .before .before .before .advance .ensures))
 
 pub cauchy-store-advance-spec : {M : Type 1} → statement M
 cauchy-store-advance-spec =

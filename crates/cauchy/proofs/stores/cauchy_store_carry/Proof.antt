@@ -6,7 +6,8 @@ use Rattle.cauchy.proofs.stores.cauchy_store_carry.Statement.{statement
 use Rattle.cauchy.proofs.stores.cauchy_store_carry.Tie as tie
 
 returns : tie.Need-returns
-returns c = rw (c .opened-of .ensures) (ap (across openedFrom) (c .before .before .before .before .before .carry .ensures))
+returns c =
+    rw (c .opened-of .ensures) (ap (across openedFrom) (c .before .before .before .before .before .carry .ensures))
 
 pub cauchy-store-carry-spec : {M : Type 1} → statement M
 cauchy-store-carry-spec =

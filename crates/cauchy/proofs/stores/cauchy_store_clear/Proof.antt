@@ -7,7 +7,8 @@ use Rattle.cauchy.proofs.stores.cauchy_store_clear.Statement.{statement
 use Rattle.cauchy.proofs.stores.cauchy_store_clear.Tie as tie
 
 returns : tie.Need-returns
-returns c = rw (c .edit-number .ensures) (ap (across numberFrom) (c .before .before .before .before .before .clear .ensures))
+returns c =
+    rw (c .edit-number .ensures) (ap (across numberFrom) (c .before .before .before .before .before .clear .ensures))
 
 pub cauchy-store-clear-spec : {M : Type 1} → statement M
 cauchy-store-clear-spec =

@@ -7,7 +7,9 @@ use Rattle.cauchy.proofs.stores.cauchy_store_density.Statement.{stateme
 use Rattle.cauchy.proofs.stores.cauchy_store_density.Tie as tie
 
 returns : tie.Need-returns
-returns c = rw (c .value-of .ensures, ← c .before .before .convention-of .ensures) (ap (λ (o : Outcome). valueFrom (o .reply)) (c .before .density .ensures))
+returns c =
+    rw (c .value-of .ensures, ← c .before .before .convention-of .ensures)
+    (ap (λ (o : Outcome). valueFrom (o .reply)) (c .before .density .ensures))
 
 pub cauchy-store-density-spec : {M : Type 1} → statement M
 cauchy-store-density-spec =

@@ -6,7 +6,9 @@ use Rattle.cauchy.proofs.stores.cauchy_store_finished.Statement.{statem
 use Rattle.cauchy.proofs.stores.cauchy_store_finished.Tie as tie
 
 returns : tie.Need-returns
-returns c = rw (c .finished-of .ensures, ← c .before .before .convention-of .ensures) (ap finishedFrom (c .before .finished .ensures))
+returns c =
+    rw (c .finished-of .ensures, ← c .before .before .convention-of .ensures)
+    (ap finishedFrom (c .before .finished .ensures))
 
 pub cauchy-store-finished-spec : {M : Type 1} → statement M
 cauchy-store-finished-spec =

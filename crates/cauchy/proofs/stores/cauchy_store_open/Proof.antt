@@ -6,7 +6,8 @@ use Rattle.cauchy.proofs.stores.cauchy_store_open.Statement.{statement}
 use Rattle.cauchy.proofs.stores.cauchy_store_open.Tie as tie
 
 returns : tie.Need-returns
-returns c = rw (c .opened-of .ensures) (ap (across openedFrom) (c .before .before .before .before .before .open .ensures))
+returns c =
+    rw (c .opened-of .ensures) (ap (across openedFrom) (c .before .before .before .before .before .open .ensures))
 
 pub cauchy-store-open-spec : {M : Type 1} → statement M
 cauchy-store-open-spec =

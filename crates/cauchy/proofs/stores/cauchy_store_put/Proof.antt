@@ -6,7 +6,8 @@ use Rattle.cauchy.proofs.stores.cauchy_store_put.Statement.{statement}
 use Rattle.cauchy.proofs.stores.cauchy_store_put.Tie as tie
 
 returns : tie.Need-returns
-returns c = rw (c .placed-of .ensures) (ap (across placedFrom) (c .before .before .before .before .before .put .ensures))
+returns c =
+    rw (c .placed-of .ensures) (ap (across placedFrom) (c .before .before .before .before .before .put .ensures))
 
 pub cauchy-store-put-spec : {M : Type 1} → statement M
 cauchy-store-put-spec =

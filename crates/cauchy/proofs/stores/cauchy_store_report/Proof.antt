@@ -7,7 +7,9 @@ use Rattle.cauchy.proofs.stores.cauchy_store_report.Statement.{statemen
 use Rattle.cauchy.proofs.stores.cauchy_store_report.Tie as tie
 
 returns : tie.Need-returns
-returns c = rw (c .report-of .ensures, ← c .before .before .convention-of .ensures) (ap (λ (o : Outcome). reportFrom (o .reply)) (c .before .report .ensures))
+returns c =
+    rw (c .report-of .ensures, ← c .before .before .convention-of .ensures)
+    (ap (λ (o : Outcome). reportFrom (o .reply)) (c .before .report .ensures))
 
 pub cauchy-store-report-spec : {M : Type 1} → statement M
 cauchy-store-report-spec =

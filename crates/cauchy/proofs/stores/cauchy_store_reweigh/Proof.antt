@@ -7,7 +7,8 @@ use Rattle.cauchy.proofs.stores.cauchy_store_reweigh.Statement.{stateme
 use Rattle.cauchy.proofs.stores.cauchy_store_reweigh.Tie as tie
 
 returns : tie.Need-returns
-returns c = rw (c .edit-number .ensures) (ap (across numberFrom) (c .before .before .before .before .before .reweigh .ensures))
+returns c =
+    rw (c .edit-number .ensures) (ap (across numberFrom) (c .before .before .before .before .before .reweigh .ensures))
 
 pub cauchy-store-reweigh-spec : {M : Type 1} → statement M
 cauchy-store-reweigh-spec =

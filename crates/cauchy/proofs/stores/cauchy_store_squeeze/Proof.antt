@@ -6,7 +6,9 @@ use Rattle.cauchy.proofs.stores.cauchy_store_squeeze.Statement.{stateme
 use Rattle.cauchy.proofs.stores.cauchy_store_squeeze.Tie as tie
 
 returns : tie.Need-returns
-returns c = rw (c .squeezed-of .ensures) (ap (across squeezedFrom) (c .before .before .before .before .before .squeeze .ensures))
+returns c =
+    rw (c .squeezed-of .ensures)
+    (ap (across squeezedFrom) (c .before .before .before .before .before .squeeze .ensures))
 
 pub cauchy-store-squeeze-spec : {M : Type 1} → statement M
 cauchy-store-squeeze-spec =

@@ -1,4 +1,5 @@
--- `closed::closed::check_closed` meets its contract: what the checks of 1, 2 and 3 answer, then the verdict on the faces. Assumes nothing.
+-- `closed::closed::check_closed` meets its contract: what the checks of 1, 2 and 3 answer, then the verdict on the
+-- faces. Assumes nothing.
 use mathlib.Core.Path.{sym, _∙_}
 use borrow.Author.Needs.{needs}
 use Rattle.closed.specs.ClosedLaws.{passed-below, passed-limits, closed-is, closed-failed}
@@ -19,6 +20,10 @@ check-closed-spec =
     (λ c. search needs)
     (λ c. search needs)
     passes-requires
-    (λ c. closed-is _ _ _ (sym (c .before .before .before .before .check-mesh .ensures) ∙ c .before .before .enum-told .given .1) (sym (c .if1 .taken) ∙ c .before .passes .ensures))
+    (λ c. closed-is _ _ _
+    (sym (c .before .before .before .before .check-mesh .ensures) ∙ c .before .before .enum-told .given .1)
+    (sym (c .if1 .taken) ∙ c .before .passes .ensures))
     (λ c. closed-failed _ _ _ (sym (c .before .before .before .check-mesh .ensures) ∙ c .before .checked .given .1))
-    (λ c. closed-is _ _ _ (sym (c .before .before .before .before .check-mesh .ensures) ∙ c .before .before .enum-told .given .1) (sym (c .if1 .left) ∙ c .before .passes .ensures)))
+    (λ c. closed-is _ _ _
+    (sym (c .before .before .before .before .check-mesh .ensures) ∙ c .before .before .enum-told .given .1)
+    (sym (c .if1 .left) ∙ c .before .passes .ensures)))

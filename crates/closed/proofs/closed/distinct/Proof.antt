@@ -11,7 +11,8 @@ use Rattle.closed.proofs.closed.distinct.Statement.{statement}
 use Rattle.closed.proofs.closed.distinct.Tie as tie
 
 abbrev Inv-loop : tie.InvT-loop
-Inv-loop corners all₀ i₀ all i = (i ≤ length corners) × ((all && distinctCorners (drop i corners)) ≡ distinctCorners corners)
+Inv-loop corners all₀ i₀ all i =
+    (i ≤ length corners) × ((all && distinctCorners (drop i corners)) ≡ distinctCorners corners)
 
 abbrev μ-loop : tie.MeasureT-loop
 μ-loop corners all₀ i₀ all i = length corners - i
@@ -34,5 +35,7 @@ distinct-spec =
     (λ c. search needs)
     (λ c. search needs)
     (λ c. search needs)
-    (λ c. let l = c .before .before .before .before .loop in (omega arith, distinct-step _ (l .i) (l .all) (search needs) (l .inv .1)))
+    (λ c.
+    let l = c .before .before .before .before .loop in
+    (omega arith, distinct-step _ (l .i) (l .all) (search needs) (l .inv .1)))
     (λ c. distinct-end _ (c .before .loop .i) (c .before .loop .all) (search needs) (c .before .loop .inv .1)))

@@ -10,7 +10,8 @@ use Rattle.closed.proofs.divide.sample.Statement.{statement}
 use Rattle.closed.proofs.divide.sample.Tie as tie
 
 abbrev Inv-loop : tie.InvT-loop
-Inv-loop corners words₀ n₀ face₀ words n face = (103 * n ≤ 3 * face) × (3 * face ≤ length corners + 309) × (length words ≡ 61440) × Within 0 2199023255552 words n
+Inv-loop corners words₀ n₀ face₀ words n face =
+    (103 * n ≤ 3 * face) × (3 * face ≤ length corners + 309) × (length words ≡ 61440) × Within 0 2199023255552 words n
 
 abbrev μ-loop : tie.MeasureT-loop
 μ-loop corners words₀ n₀ face₀ words n face = length corners + 309 - 3 * face

@@ -25,8 +25,15 @@ below-spec =
     (λ c. search needs)
     (λ c. search needs)
     (λ c. search needs)
-    (λ c. let l = c .before .before .before .loop in record { fewer = omega arith; above = l .inv .1; under = λ j e. let w : j ≡ l .m - 1 = omega (arith, e) in rw w (c .if1 .taken) })
+    (λ c.
+    let l = c .before .before .before .loop in
+    record {
+      fewer = omega arith;
+      above = l .inv .1;
+      under = λ j e. let w : j ≡ l .m - 1 = omega (arith, e) in rw w (c .if1 .taken);
+    })
     (λ c. search needs)
     (λ c. search needs)
     (λ c. (omega arith, cut-less (omega arith) (omega arith) (c .before .before .before .loop .inv .1) (omega arith)))
-    (λ c. let l = c .before .loop in record { fewer = omega arith; above = l .inv .1; under = λ j e. absurd (omega arith) }))
+    (λ c.
+    let l = c .before .loop in record { fewer = omega arith; above = l .inv .1; under = λ j e. absurd (omega arith) }))

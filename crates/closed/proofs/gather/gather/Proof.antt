@@ -10,7 +10,9 @@ use Rattle.closed.proofs.gather.gather.Statement.{statement}
 use Rattle.closed.proofs.gather.gather.Tie as tie
 
 abbrev Inv-loop : tie.InvT-loop
-Inv-loop corners low words₀ ends₀ faces list₀ batch₀ from₀ words ends list batch from = (from ≤ faces) × (faces ≡ length corners / 3) × (length list ≡ 256) × (batch .end ≤ batch₀ .end) × Gathered corners low batch words (3 * from)
+Inv-loop corners low words₀ ends₀ faces list₀ batch₀ from₀ words ends list batch from =
+    (from ≤ faces) × (faces ≡ length corners / 3) × (length list ≡ 256) × (batch .end ≤ batch₀ .end)
+    × Gathered corners low batch words (3 * from)
 
 abbrev μ-loop : tie.MeasureT-loop
 μ-loop corners low words₀ ends₀ faces list₀ batch₀ from₀ words ends list batch from = faces - from

@@ -1,4 +1,5 @@
--- `closed::gather::halve` meets its contract: words put in order, then those below the middle one's k kept. Assumes nothing.
+-- `closed::gather::halve` meets its contract: words put in order, then those below the middle one's k kept. Assumes
+-- nothing.
 use Prim.Native.Nat.{_/_}
 use native.Mathlib.Omega.{arith}
 use borrow.Author.Needs.{needs}
@@ -7,7 +8,10 @@ use Rattle.closed.proofs.gather.halve.Statement.{statement}
 use Rattle.closed.proofs.gather.halve.Tie as tie
 
 returns : tie.Need-returns
-returns c = halved (c .before .before .before .before .before .before .before .before .before .before .before .pre .1) (search needs) (c .before .before .before .before .before .before .before .order .ensures) (c .before .before .below .ensures) (c .push .ensures)
+returns c =
+    let c11 = c .before .before .before .before .before .before .before .before .before .before .before in
+    halved (c11 .pre .1) (search needs) (c .before .before .before .before .before .before .before .order .ensures)
+    (c .before .before .below .ensures) (c .push .ensures)
 
 pub halve-spec : {M : Type 1} → statement M
 halve-spec =
@@ -18,7 +22,11 @@ halve-spec =
     (λ c κs. search needs)
     (λ c. search needs)
     (λ c. search needs)
-    (λ c. omega (arith, c .before .slice-known3 .given (c .before .before .before .before .before .before .before .before .args .batch .count / 2)))
+    (λ c. omega (
+      arith,
+      c .before .slice-known3 .given
+          (c .before .before .before .before .before .before .before .before .args .batch .count / 2),
+    ))
     (λ c κs. search needs)
     (λ c κs. search needs)
     (λ c. search needs)

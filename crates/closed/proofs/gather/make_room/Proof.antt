@@ -12,4 +12,7 @@ returns-2 c =
     (omega (arith, h .half, s .room), omega (arith, h .less), λ ks i g. gathered-halved g (omega arith) h)
 
 pub make-room-spec : {M : Type 1} → statement M
-make-room-spec = tie.close (tie.spec (λ c. search needs) (λ c. search needs) (λ c. search needs) (λ c κs. search needs) (λ c. search needs) returns-2)
+make-room-spec =
+    tie.close
+    (tie.spec (λ c. search needs) (λ c. search needs) (λ c. search needs) (λ c κs. search needs) (λ c. search needs)
+    returns-2)

@@ -8,4 +8,6 @@ use Rattle.closed.proofs.gather.put.Tie as tie
 pub put-spec : {M : Type 1} → statement M
 put-spec =
     tie.close
-    (tie.spec (λ c. search needs) (λ c. search needs) (λ c. search needs) (λ c. search needs) (λ c. record { count = simp (c .if1 .taken); words = refl }) (λ c. search needs) (λ c. record { count = simp (c .if1 .left, add-zero); words = refl }))
+    (tie.spec (λ c. search needs) (λ c. search needs) (λ c. search needs) (λ c. search needs)
+    (λ c. record { count = simp (c .if1 .taken); words = refl }) (λ c. search needs)
+    (λ c. record { count = simp (c .if1 .left, add-zero); words = refl }))

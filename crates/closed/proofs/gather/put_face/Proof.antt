@@ -18,8 +18,17 @@ put-face-spec =
     (λ c κs. search needs)
     (λ c κs. search needs)
     (λ c κs. search needs)
-    (λ c κs. omega (arith, put-more (c .before .before .before .before .put .ensures), put-long (c .before .before .before .before .put .ensures)))
+    (λ c κs. omega (
+      arith,
+      put-more (c .before .before .before .before .put .ensures),
+      put-long (c .before .before .before .before .put .ensures),
+    ))
     (λ c κs. search needs)
     put-requires-3
     (λ c. search needs)
-    (λ c. faced (omega arith) (c .before .before .before .before .before .before .before .before .before .before .before .before .before .code .ensures) (c .before .before .before .before .before .before .before .before .code2 .ensures) (c .before .before .before .code3 .ensures) (c .before .before .before .before .before .before .before .before .before .before .before .before .put .ensures) (c .before .before .before .before .before .before .before .put2 .ensures) (c .before .before .put3 .ensures)))
+    (λ c.
+    let c7 = c .before .before .before .before .before .before .before in
+    let c12 = c7 .before .before .before .before .before in
+    faced (omega arith) (c12 .before .code .ensures) (c7 .before .code2 .ensures)
+    (c .before .before .before .code3 .ensures) (c12 .put .ensures) (c7 .put2 .ensures)
+    (c .before .before .put3 .ensures)))

@@ -1,4 +1,5 @@
--- `closed::near::any_within` meets its contract: while `any` is false none of the corners passed by is in the range. Assumes nothing.
+-- `closed::near::any_within` meets its contract: while `any` is false none of the corners passed by is in the range.
+-- Assumes nothing.
 use mathlib.Core.Path.{_≡_}
 use mathlib.Core.Bool.{false}
 use Prim.Native.Nat.{_+_, _-_, _≤_}
@@ -23,7 +24,9 @@ loop-again c =
       omega arith,
       λ e.
           let n = neither (l .any) _ e in
-          within-part (within-one (l .inv .1 (n .0)) (apart (omega arith) (r .ok) (w .ok) (r .ensures) (w .ensures) (n .1))) (omega arith) (omega arith),
+          within-part
+          (within-one (l .inv .1 (n .0)) (apart (omega arith) (r .ok) (w .ok) (r .ensures) (w .ensures) (n .1)))
+          (omega arith) (omega arith),
     )
 
 pub any-within-spec : {M : Type 1} → statement M

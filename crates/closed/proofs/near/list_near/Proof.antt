@@ -10,7 +10,8 @@ use Rattle.closed.proofs.near.list_near.Statement.{statement}
 use Rattle.closed.proofs.near.list_near.Tie as tie
 
 abbrev Inv-loop : tie.InvT-loop
-Inv-loop corners from faces first last list₀ blocks near n₀ i₀ list n i = (i ≤ near) × (n ≤ 8 * i) × (length list ≡ 256) × Listed corners first last 1 from (behind 8 from blocks i) list n
+Inv-loop corners from faces first last list₀ blocks near n₀ i₀ list n i =
+    (i ≤ near) × (n ≤ 8 * i) × (length list ≡ 256) × Listed corners first last 1 from (behind 8 from blocks i) list n
 
 abbrev μ-loop : tie.MeasureT-loop
 μ-loop corners from faces first last list₀ blocks near n₀ i₀ list n i = near - i
@@ -25,15 +26,24 @@ loop-again : tie.Need-loop-again Inv-loop μ-loop
 loop-again c =
     let l = c .before .before .before .before .before .loop in
     let b = c .before .before .before .before .before .before .before .near-blocks .ensures .1 in
-    let f = c .before .before .near-faces in
-    (omega arith, omega (arith, f .ensures .0), search needs, rw (behind-one 8 _ _ _) (f .ensures .1 _ (listed-next (l .i) b (l .inv .3) (omega arith))))
+    let f = c .before .before .near-faces in (
+      omega arith,
+      omega (arith, f .ensures .0),
+      search needs,
+      rw (behind-one 8 _ _ _) (f .ensures .1 _ (listed-next (l .i) b (l .inv .3) (omega arith))),
+    )
 
 returns : tie.Need-returns Inv-loop μ-loop
 returns c =
     let l = c .before .before .before .before .before .loop in
     let b = c .before .before .before .before .before .before .before .near-blocks .ensures in
-    let f = c .before .before .near-faces2 .ensures in
-    (omega (arith, f .0, b .0), listed-on (f .1 _ (listed-on (listed-past (l .i) (b .1) (l .inv .3) (omega arith)) (omega arith) (within-none (omega arith)))) (omega arith) (within-none (omega arith)))
+    let f = c .before .before .near-faces2 .ensures in (
+      omega (arith, f .0, b .0),
+      listed-on
+          (f .1 _
+          (listed-on (listed-past (l .i) (b .1) (l .inv .3) (omega arith)) (omega arith) (within-none (omega arith))))
+          (omega arith) (within-none (omega arith)),
+    )
 
 pub list-near-spec : {M : Type 1} → statement M
 list-near-spec =

@@ -10,7 +10,9 @@ use Rattle.closed.proofs.near.near_blocks.Statement.{statement}
 use Rattle.closed.proofs.near.near_blocks.Tie as tie
 
 abbrev Inv-loop : tie.InvT-loop
-Inv-loop corners from blocks first last list₀ m₀ face₀ left₀ list m face left = (m + left ≤ blocks) × (length list ≡ 32) × (face + 8 * left ≡ from + 8 * blocks) × Listed corners first last 8 from face list m
+Inv-loop corners from blocks first last list₀ m₀ face₀ left₀ list m face left =
+    (m + left ≤ blocks) × (length list ≡ 32) × (face + 8 * left ≡ from + 8 * blocks)
+    × Listed corners first last 8 from face list m
 
 abbrev μ-loop : tie.MeasureT-loop
 μ-loop corners from blocks first last list₀ m₀ face₀ left₀ list m face left = left
@@ -19,8 +21,14 @@ loop-again : tie.Need-loop-again Inv-loop μ-loop
 loop-again c =
     let l = c .before .before .before .loop in
     let a = c .before .any-within in
-    let m = c .more .ensures in
-    (omega (arith, m .1), simp length-set (l .inv .1), omega arith, rw (m .0) (listed-one (l .inv .3) (omega arith) (a .result) (λ e. within-part (a .ensures e) (omega arith) (omega arith))))
+    let m = c .more .ensures in (
+      omega (arith, m .1),
+      simp length-set (l .inv .1),
+      omega arith,
+      rw (m .0)
+          (listed-one (l .inv .3) (omega arith) (a .result)
+          (λ e. within-part (a .ensures e) (omega arith) (omega arith))),
+    )
 
 pub near-blocks-spec : {M : Type 1} → statement M
 near-blocks-spec =

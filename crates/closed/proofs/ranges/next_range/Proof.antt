@@ -1,4 +1,5 @@
--- `closed::ranges::next_range` meets its contract: an end is taken only where it is between low and top. Assumes nothing.
+-- `closed::ranges::next_range` meets its contract: an end is taken only where it is between low and top. Assumes
+-- nothing.
 use mathlib.Core.Path.{refl}
 use mathlib.Core.Bool.{and-eq-true-iff}
 use Prim.Native.Nat.{_-_, _≤_}

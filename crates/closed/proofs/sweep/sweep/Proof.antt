@@ -11,7 +11,8 @@ use Rattle.closed.proofs.sweep.sweep.Statement.{statement}
 use Rattle.closed.proofs.sweep.sweep.Tie as tie
 
 abbrev Inv-loop : tie.InvT-loop
-Inv-loop corners top words₀ ends₀ depth₀ low₀ words ends depth low = (low ≤ top) × (depth ≤ 384) × (length words ≡ 61440) × Matched corners low
+Inv-loop corners top words₀ ends₀ depth₀ low₀ words ends depth low =
+    (low ≤ top) × (depth ≤ 384) × (length words ≡ 61440) × Matched corners low
 
 abbrev μ-loop : tie.MeasureT-loop
 μ-loop corners top words₀ ends₀ depth₀ low₀ words ends depth low = top - low
@@ -19,11 +20,18 @@ abbrev μ-loop : tie.MeasureT-loop
 gather-requires : tie.Need-gather-requires Inv-loop μ-loop
 gather-requires c κs =
     let a = c .before .before .before .before .before .before .before .before .before .before .before in
-    let n = c .before .before .next-range .ensures in
-    (omega arith, (a .pre .1, gathered-none (n .0) (n .3) (c .before .before .before .before .before .loop .inv .2) (omega (arith, n .2)) (n .1)))
+    let n = c .before .before .next-range .ensures in (
+      omega arith,
+      (
+        a .pre .1,
+        gathered-none (n .0) (n .3) (c .before .before .before .before .before .loop .inv .2) (omega (arith, n .2))
+            (n .1),
+      ),
+    )
 
 order-requires : tie.Need-order-requires Inv-loop μ-loop
-order-requires c κs = let g = c .before .before .gather .ensures .1 .sound in (omega (arith, g .long, g .room), g .within)
+order-requires c κs =
+    let g = c .before .before .gather .ensures .1 .sound in (omega (arith, g .long, g .room), g .within)
 
 paired-requires : tie.Need-paired-requires Inv-loop μ-loop
 paired-requires c κs =
@@ -34,18 +42,32 @@ paired-requires c κs =
 returns : tie.Need-returns Inv-loop μ-loop
 returns c =
     let g = c .before .before .before .before .before .before .before .gather .ensures .1 in
-    let p = c .before .paired .ensures in
-    (λ e. absurd (true≢false (sym e)), λ e. unmatched-odd g (c .before .before .before .before .order .ensures) (c .before .paired .result) (omega arith) (p .2 (omega arith)))
+    let p = c .before .paired .ensures in (
+      λ e. absurd (true≢false (sym e)),
+      λ e. unmatched-odd g (c .before .before .before .before .order .ensures) (c .before .paired .result) (omega arith)
+          (p .2 (omega arith)),
+    )
 
 returns-2 : tie.Need-returns-2 Inv-loop μ-loop
-returns-2 c = (λ e. absurd (true≢false (sym e)), λ e. unmatched-stuck (c .before .before .before .before .before .before .before .before .gather .ensures .1) (omega arith))
+returns-2 c = (
+  λ e. absurd (true≢false (sym e)),
+  λ e.
+      unmatched-stuck (c .before .before .before .before .before .before .before .before .gather .ensures .1)
+      (omega arith),
+)
 
 loop-again : tie.Need-loop-again Inv-loop μ-loop
 loop-again c =
-    let g = c .before .before .before .before .before .before .before .before .gather .ensures in
+    let c7 = c .before .before .before .before .before .before .before in
+    let c14 = c7 .before .before .before .before .before .before .before in
+    let g = c7 .before .gather .ensures in
     let o = c .before .before .before .before .before .order .ensures in
-    let p = c .before .before .paired .ensures in
-    (omega (arith, g .0), g .1 .sound .listed, o .moved .long ∙ g .1 .sound .long, matched-more (g .1) o (c .before .before .before .before .before .before .before .before .before .before .before .before .before .before .loop .inv .3) (p .1 (omega (arith, p .0))))
+    let p = c .before .before .paired .ensures in (
+      omega (arith, g .0),
+      g .1 .sound .listed,
+      o .moved .long ∙ g .1 .sound .long,
+      matched-more (g .1) o (c14 .loop .inv .3) (p .1 (omega (arith, p .0))),
+    )
 
 pub sweep-spec : {M : Type 1} → statement M
 sweep-spec =

@@ -19,7 +19,8 @@ returns-3 c =
     let k = c .before .before .before in
     let i = k .before .before in
     let s = i .before .before .scan-lines in
-    differs _ _ _ _ (s .ensures .0) (s .ensures .1 .0) (s .ensures .1 .1) (i .if1 .left) (k .before .if2 .left) (k .check-strict .ensures) (c .before .checked .given .1)
+    differs _ _ _ _ (s .ensures .0) (s .ensures .1 .0) (s .ensures .1 .1) (i .if1 .left) (k .before .if2 .left)
+    (k .check-strict .ensures) (c .before .checked .given .1)
 
 returns-4 : tie.Need-returns-4
 returns-4 c =
@@ -27,7 +28,8 @@ returns-4 c =
     let k = w .before .before .before .before in
     let i = k .before .before in
     let s = i .before .before .scan-lines in
-    writes _ _ _ _ (s .ensures .0) (s .ensures .1 .0) (s .ensures .1 .1) (i .if1 .left) (k .before .if2 .left) (k .check-strict .ensures) (w .before .before .enum-told .given .1) (w .write-lines .ensures)
+    writes _ _ _ _ (s .ensures .0) (s .ensures .1 .0) (s .ensures .1 .1) (i .if1 .left) (k .before .if2 .left)
+    (k .check-strict .ensures) (w .before .before .enum-told .given .1) (w .write-lines .ensures)
 
 pub convert-spec : {M : Type 1} → statement M
 convert-spec =

@@ -17,7 +17,8 @@ loop-again c =
     let w = c .before .before in
     let r = w .before .before .before .before in
     let l = r .before .before .loop in
-    line-laid _ _ _ _ (l .inv) (search needs) (r .read-kernel .ensures) (w .before .load .ensures) (w .write-kernel .ensures)
+    line-laid _ _ _ _ (l .inv) (search needs) (r .read-kernel .ensures) (w .before .load .ensures)
+    (w .write-kernel .ensures)
 
 returns : tie.Need-returns Inv-loop μ-loop
 returns c = all-laid _ _ _ _ (c .before .loop .inv) (search needs)

@@ -13,7 +13,8 @@ returns c =
     let c1 = c .before in
     let c2 = c1 .before in
     let a = c2 .before .before .args in
-    c .first-exponent .ensures ∙ (λ i. or (c2 .read-given .ensures i) (c1 .read-missing .ensures i)) ∙ sym (choose-is givenForm missingForm toGiven toMissing (rest (a .s .now) (a .at)))
+    c .first-exponent .ensures ∙ (λ i. or (c2 .read-given .ensures i) (c1 .read-missing .ensures i))
+    ∙ sym (choose-is givenForm missingForm toGiven toMissing (rest (a .s .now) (a .at)))
 
 pub read-exponent-spec : {M : Type 1} → statement M
 read-exponent-spec =

@@ -35,7 +35,10 @@ returns c =
     let a· = c3 .read-bytes6 .ensures ∙ (λ i. literal (bytes ") (alpha ") (w i .text)) in
     let a = c2 .read-exponent .ensures ∙ (λ i. map toExponent (read exponentForm (a· i))) in
     let e = c .read-bytes7 .ensures ∙ (λ i. literal (bytes "))\n") (a i .text)) in
-    (λ i. record { val = record { x = x i .val; y = y i .val; z = z i .val; sigma = g i .val; w = w i .val; exponent = a i .val }; text = e i })
+    (λ i. record {
+      val = record { x = x i .val; y = y i .val; z = z i .val; sigma = g i .val; w = w i .val; exponent = a i .val };
+      text = e i;
+    })
 
 pub read-kernel-spec : {M : Type 1} → statement M
 read-kernel-spec =

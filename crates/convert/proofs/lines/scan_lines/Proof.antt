@@ -25,7 +25,8 @@ loop-again : tie.Need-loop-again Inv-loop μ-loop
 loop-again c =
     let r = c .before .before in
     let l = r .before .before .before .loop in
-    line-scanned _ _ (l .inv) (search needs) (search needs) (r .read-kernel .ensures) (ap (λ (b : Bool). l .same && b) (c .is-alike .ensures))
+    line-scanned _ _ (l .inv) (search needs) (search needs) (r .read-kernel .ensures)
+    (ap (λ (b : Bool). l .same && b) (c .is-alike .ensures))
 
 returns-2 : tie.Need-returns-2 Inv-loop μ-loop
 returns-2 c =

@@ -6,4 +6,5 @@ use Rattle.density.proofs.convention.is_finite.Statement.{statement}
 use Rattle.density.proofs.convention.is_finite.Tie as tie
 
 pub is-finite-spec : {M : Type 1} → statement M
-is-finite-spec = tie.close (tie.spec (λ c κs. search needs) (λ c. rw (c .abs .ensures, one-over-zero) (below-infinity _)))
+is-finite-spec =
+    tie.close (tie.spec (λ c κs. search needs) (λ c. rw (c .abs .ensures, one-over-zero) (below-infinity _)))

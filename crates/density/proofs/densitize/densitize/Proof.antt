@@ -6,7 +6,8 @@ use Rattle.density.proofs.densitize.densitize.Tie as tie
 
 returns : tie.Need-returns
 unfolding densitized
-returns c = rw (← c .before .before .before .check-list .ensures, c .before .enum-told .given .1, c .density-sum .ensures)
+returns c =
+    rw (← c .before .before .before .check-list .ensures, c .before .enum-told .given .1, c .density-sum .ensures)
 
 returns-2 : tie.Need-returns-2
 unfolding densitized

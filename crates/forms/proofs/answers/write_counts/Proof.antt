@@ -17,8 +17,11 @@ returns c =
     let l0 : c17 .write-number .result ≤ c21 .args .at + 10 + 20 = c17 .write-number .ensures .0 in
     let l1 : c12 .write-number2 .result ≤ c17 .write-number .result + 10 + 20 = c12 .write-number2 .ensures .0 in
     let l2 : c7 .write-real .result ≡ c12 .write-number2 .result + 9 + 16 = c7 .write-real .ensures .0 in
-    let l3 : c2 .write-bytes .result ≡ c7 .write-real .result + 2 = c2 .write-bytes .ensures .next in
-    (omega (arith, l0, l1, l2, l3), then (c17 .write-number .ensures .1) (then (c12 .write-number2 .ensures .1) (then (c7 .write-real .ensures .1) (c2 .write-bytes .ensures))))
+    let l3 : c2 .write-bytes .result ≡ c7 .write-real .result + 2 = c2 .write-bytes .ensures .next in (
+      omega (arith, l0, l1, l2, l3),
+      then (c17 .write-number .ensures .1)
+          (then (c12 .write-number2 .ensures .1) (then (c7 .write-real .ensures .1) (c2 .write-bytes .ensures))),
+    )
 
 pub write-counts-spec : {M : Type 1} → statement M
 write-counts-spec =

@@ -10,8 +10,10 @@ write-number-requires c κs = omega (arith, decimal-most (c .before .before .bef
 
 returns : tie.Need-returns
 returns c =
-    let w = c .before .before .write-number in
-    (omega (arith, w .ensures .0, decimal-most (c .before .before .before .before .before .before .args .n)), w .ensures .1)
+    let w = c .before .before .write-number in (
+      omega (arith, w .ensures .0, decimal-most (c .before .before .before .before .before .before .args .n)),
+      w .ensures .1,
+    )
 
 pub write-number-spec : {M : Type 1} → statement M
 write-number-spec = tie.close (tie.spec write-number-requires (λ c. search needs) returns)

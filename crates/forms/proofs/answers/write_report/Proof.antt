@@ -21,8 +21,12 @@ returns c =
     let l1 : c11 .write-three2 .result ≤ c16 .write-three .result + 1 + 50 = c11 .write-three2 .ensures .0 in
     let l2 : c6 .write-real .result ≡ c11 .write-three2 .result + 1 + 16 = c6 .write-real .ensures .0 in
     let w2 = then (c6 .write-real .ensures .1) (c2 .write-counts .ensures .1) in
-    let w1 = then-three (bytes " ") (m .«applied_scale») (m .«applied_mass») (m .«target_mass») (c11 .write-three2 .ensures .1) w2 in
-    (omega (arith, l0, l1, l2, c2 .write-counts .ensures .0), then-three (bytes "(report ") (m .«raw_mass») (m .«rho0_scale») (m .«rho0_mass») (c16 .write-three .ensures .1) w1)
+    let w1 = then-three (bytes " ") (m .«applied_scale») (m .«applied_mass») (m .«target_mass»)
+    (c11 .write-three2 .ensures .1) w2 in (
+      omega (arith, l0, l1, l2, c2 .write-counts .ensures .0),
+      then-three (bytes "(report ") (m .«raw_mass») (m .«rho0_scale») (m .«rho0_mass») (c16 .write-three .ensures .1)
+          w1,
+    )
 
 pub write-report-spec : {M : Type 1} → statement M
 write-report-spec =

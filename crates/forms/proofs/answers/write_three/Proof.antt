@@ -16,8 +16,11 @@ returns c =
     let c12 = c7 .before .before .before .before .before in
     let c16 = c12 .before .before .before .before in
     let l1 : c7 .write-real2 .result ≡ c12 .write-real .result + 1 + 16 = c7 .write-real2 .ensures .0 in
-    let l2 : c2 .write-real3 .result ≡ c7 .write-real2 .result + 1 + 16 = c2 .write-real3 .ensures .0 in
-    (omega (arith, c12 .write-real .ensures .0, l1, l2), then-on (c16 .args .p .now) (floatText (c16 .args .x)) (c12 .write-real .ensures .1) (then (c7 .write-real2 .ensures .1) (then (c2 .write-real3 .ensures .1) nothing)))
+    let l2 : c2 .write-real3 .result ≡ c7 .write-real2 .result + 1 + 16 = c2 .write-real3 .ensures .0 in (
+      omega (arith, c12 .write-real .ensures .0, l1, l2),
+      then-on (c16 .args .p .now) (floatText (c16 .args .x)) (c12 .write-real .ensures .1)
+          (then (c7 .write-real2 .ensures .1) (then (c2 .write-real3 .ensures .1) nothing)),
+    )
 
 pub write-three-spec : {M : Type 1} → statement M
 write-three-spec =

@@ -29,7 +29,10 @@ returns c =
     let w = c5 .read-float2 .ensures ∙ (λ i. float (w· i)) in
     let a· = c3 .read-bytes5 .ensures ∙ (λ i. literal (bytes ") (alpha ") (w i .text)) in
     let a = c2 .read-float3 .ensures ∙ (λ i. float (a· i)) in
-    (λ i. record { val = p i .val & m i .val .0 & m i .val .1 .0 & m i .val .1 .1 .0 & g i .val & w i .val & a i .val & tt; text = a i .text })
+    (λ i. record {
+      val = p i .val & m i .val .0 & m i .val .1 .0 & m i .val .1 .1 .0 & g i .val & w i .val & a i .val & tt;
+      text = a i .text;
+    })
 
 pub put-start-spec : {M : Type 1} → statement M
 put-start-spec =

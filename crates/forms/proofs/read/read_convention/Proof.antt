@@ -16,8 +16,10 @@ returns c =
     let c4 = c3 .before in
     let c6 = c4 .before .before in
     let t = rest (c6 .args .s .now) (c6 .args .at) in
-    let r = c1 .first-rule .ensures ∙ (λ i. or (c3 .read-rho0 .ensures i) (c2 .read-mass .ensures i)) ∙ sym (choose-is rho0Form massForm toRho0 toMass t) in
-    c .first-rule2 .ensures ∙ (λ i. or (c4 .read-raw .ensures i) (r i)) ∙ sym (choose-is rawForm (either rho0Form massForm end) toRaw (choose toRho0 toMass) t)
+    let r = c1 .first-rule .ensures ∙ (λ i. or (c3 .read-rho0 .ensures i) (c2 .read-mass .ensures i))
+    ∙ sym (choose-is rho0Form massForm toRho0 toMass t) in
+    c .first-rule2 .ensures ∙ (λ i. or (c4 .read-raw .ensures i) (r i))
+    ∙ sym (choose-is rawForm (either rho0Form massForm end) toRaw (choose toRho0 toMass) t)
 
 pub read-convention-spec : {M : Type 1} → statement M
 read-convention-spec =

@@ -125,7 +125,8 @@ returns-8 c =
     let e8 = sym (c8 .before .begins8 .ensures) ∙ c8 .if8 .taken in
     let s = c1 .before .before .before .before .args .s .now in
     let r = c .read-density in
-    rw (e1, e2, e3, e4, e5, e6, e7, e8) (whole-as densityForm toDensity s (r .result .line) (r .result .at) (r .ensures))
+    rw (e1, e2, e3, e4, e5, e6, e7, e8)
+    (whole-as densityForm toDensity s (r .result .line) (r .result .at) (r .ensures))
 
 returns-9 : tie.Need-returns-9
 returns-9 c =

@@ -6,7 +6,8 @@ use Rattle.kernel.proofs.field.check_field.Tie as tie
 
 returns : tie.Need-returns
 unfolding fieldCheck
-returns c = rw (← c .before .before .before .check-mesh .ensures, c .before .enum-told .given .1) (c .check-list .ensures)
+returns c =
+    rw (← c .before .before .before .check-mesh .ensures, c .before .enum-told .given .1) (c .check-list .ensures)
 
 returns-2 : tie.Need-returns-2
 unfolding fieldCheck

@@ -7,7 +7,12 @@ pub quotients-spec : {M : Type 1} → statement M
 quotients-spec =
     tie.close
     (tie.spec
-    (λ c κs. (search needs, search needs, search needs, c .before .before .before .before .before .pre .3 (search needs)))
+    (λ c κs. (
+      search needs,
+      search needs,
+      search needs,
+      c .before .before .before .before .before .pre .3 (search needs),
+    ))
     (λ c κs. search needs)
     (λ c. search needs)
     (λ c. search needs)

@@ -7,7 +7,13 @@ pub start-spec : {M : Type 1} → statement M
 start-spec =
     tie.close
     (tie.spec
-    (λ c κs. (search needs, search needs, search needs, search needs, c .before .before .before .before .before .before .before .before .pre .4 (search needs)))
+    (λ c κs. (
+      search needs,
+      search needs,
+      search needs,
+      search needs,
+      c .before .before .before .before .before .before .before .before .pre .4 (search needs),
+    ))
     (λ c κs. search needs)
     (λ c. search needs)
     (λ c. search needs)

@@ -13,7 +13,8 @@ use Rattle.lanes.proofs.mixed.choose.Statement.{statement}
 use Rattle.lanes.proofs.mixed.choose.Tie as tie
 
 abbrev Inv-loop : tie.InvT-loop
-Inv-loop t s g₀ i₀ g i = Filled 28 (λ (j : ℕ) (z : Float). z ≡ cond (le tenth (getD t j nan)) (getD s j nan) (getD g₀ j nan)) g₀ i g
+Inv-loop t s g₀ i₀ g i =
+    Filled 28 (λ (j : ℕ) (z : Float). z ≡ cond (le tenth (getD t j nan)) (getD s j nan) (getD g₀ j nan)) g₀ i g
 
 abbrev μ-loop : tie.MeasureT-loop
 μ-loop t s g₀ i₀ g i = 28 - i

@@ -10,14 +10,23 @@ returns c =
     let a = c .before .before .before .before .before .before .before .before .before .before .before in
     let r = a .before .before .before .before .before .before .before in
     let p = r .before .before .before .before .before .before .before .before in
-    λ e. let z = or-zero (r .raise .result) (a .arcs .result) e in by-sides (p .args .t .now) (r .raise .ensures .1 (z .0)) (r .raise .ensures .0) (a .arcs .ensures (z .1)) (p .pre .6) (c .before .before .choose .ensures)
+    λ e.
+    let z = or-zero (r .raise .result) (a .arcs .result) e in
+    by-sides (p .args .t .now) (r .raise .ensures .1 (z .0)) (r .raise .ensures .0) (a .arcs .ensures (z .1))
+    (p .pre .6) (c .before .before .choose .ensures)
 
 pub mixed-spec : {M : Type 1} → statement M
 mixed-spec =
     tie.close
     (tie.spec
     (λ c κs. search needs)
-    (λ c κs. let p = c .before .before .before .before .before .before .before .before .before .before .before .before .before .before in let t = p .args .t .now in let r = c .before .before .before .before .before .before .raise .ensures .0 in (search needs, search needs, search needs, search needs, all-raised t r, λ e. raised-all-low t r (p .pre .7 e)))
+    (λ c κs.
+    let c7 = c .before .before .before .before .before .before .before in
+    let c14 = c7 .before .before .before .before .before .before .before in
+    let p = c14 in
+    let t = p .args .t .now in
+    let r = c .before .before .before .before .before .before .raise .ensures .0 in
+    (search needs, search needs, search needs, search needs, all-raised t r, λ e. raised-all-low t r (p .pre .7 e)))
     (λ c κs. search needs)
     (λ c. search needs)
     (λ c. search needs)

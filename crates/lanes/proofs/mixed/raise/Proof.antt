@@ -12,15 +12,18 @@ use Rattle.lanes.proofs.mixed.raise.Statement.{statement}
 use Rattle.lanes.proofs.mixed.raise.Tie as tie
 
 abbrev Inv-loop : tie.InvT-loop
-Inv-loop t u₀ flag₀ i₀ u flag i = Filled 28 (Of raised t) u₀ i u × Filled 28 (If (flag ≡ 0) (λ (j : ℕ) (z : Float). Sided (getD t j nan))) u₀ i u
+Inv-loop t u₀ flag₀ i₀ u flag i =
+    Filled 28 (Of raised t) u₀ i u × Filled 28 (If (flag ≡ 0) (λ (j : ℕ) (z : Float). Sided (getD t j nan))) u₀ i u
 
 abbrev μ-loop : tie.MeasureT-loop
 μ-loop t u₀ flag₀ i₀ u flag i = 28 - i
 
 loop-again : tie.Need-loop-again Inv-loop μ-loop
 loop-again c =
-    let l = c .before .before .before .before .loop in
-    (fills (l .inv .0) (search needs) (c .before .raised .ensures), fills-or (l .flag) (c .not-sided .result) (l .inv .1) (search needs) (c .not-sided .ensures))
+    let l = c .before .before .before .before .loop in (
+      fills (l .inv .0) (search needs) (c .before .raised .ensures),
+      fills-or (l .flag) (c .not-sided .result) (l .inv .1) (search needs) (c .not-sided .ensures),
+    )
 
 returns : tie.Need-returns Inv-loop μ-loop
 returns c =

@@ -13,15 +13,19 @@ use Rattle.lanes.proofs.series.all_series.Statement.{statement}
 use Rattle.lanes.proofs.series.all_series.Tie as tie
 
 abbrev Inv-loop : tie.InvT-loop
-Inv-loop t g₀ flag₀ i₀ g flag i = Filled 28 (λ (j : ℕ) (z : Float). Small (getD t j nan) → z ≡ radialG (getD t j nan)) g₀ i g × Filled 28 (If (flag ≡ 0) (λ (j : ℕ) (z : Float). Small (getD t j nan))) g₀ i g
+Inv-loop t g₀ flag₀ i₀ g flag i =
+    Filled 28 (λ (j : ℕ) (z : Float). Small (getD t j nan) → z ≡ radialG (getD t j nan)) g₀ i g
+    × Filled 28 (If (flag ≡ 0) (λ (j : ℕ) (z : Float). Small (getD t j nan))) g₀ i g
 
 abbrev μ-loop : tie.MeasureT-loop
 μ-loop t g₀ flag₀ i₀ g flag i = 28 - i
 
 loop-again : tie.Need-loop-again Inv-loop μ-loop
 loop-again c =
-    let l = c .before .before .before .before .loop in
-    (fills (l .inv .0) (search needs) (λ h. c .before .radial-g-series .ensures ∙ small-is _ h), fills-or (l .flag) (c .not-small .result) (l .inv .1) (search needs) (c .not-small .ensures))
+    let l = c .before .before .before .before .loop in (
+      fills (l .inv .0) (search needs) (λ h. c .before .radial-g-series .ensures ∙ small-is _ h),
+      fills-or (l .flag) (c .not-small .result) (l .inv .1) (search needs) (c .not-small .ensures),
+    )
 
 returns : tie.Need-returns Inv-loop μ-loop
 returns c =

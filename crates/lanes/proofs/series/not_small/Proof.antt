@@ -5,4 +5,6 @@ use Rattle.lanes.proofs.series.not_small.Statement.{statement}
 use Rattle.lanes.proofs.series.not_small.Tie as tie
 
 pub not-small-spec : {M : Type 1} → statement M
-not-small-spec = tie.close (tie.spec (λ c e. small-between _ (c .before .if1 .taken) (c .if2 .taken)) (λ c e. flagged e) (λ c e. flagged e))
+not-small-spec =
+    tie.close
+    (tie.spec (λ c e. small-between _ (c .before .if1 .taken) (c .if2 .taken)) (λ c e. flagged e) (λ c e. flagged e))

@@ -15,11 +15,21 @@ returns c = rw (← c .before .before .before .check-place .ensures, c .before .
 
 returns-2 : tie.Need-returns-2
 unfolding filledCheck
-returns-2 c = rw (← c .before .before .before .before .check-place .ensures, c .before .before .enum-told .given .1, eq-eqb _ 0 (c .if1 .taken))
+returns-2 c =
+    rw (
+      ← c .before .before .before .before .check-place .ensures,
+      c .before .before .enum-told .given .1,
+      eq-eqb _ 0 (c .if1 .taken),
+    )
 
 returns-3 : tie.Need-returns-3
 unfolding filledCheck
-returns-3 c = rw (← c .before .before .before .before .check-place .ensures, c .before .before .enum-told .given .1, ne-eqb _ 0 (c .if1 .left))
+returns-3 c =
+    rw (
+      ← c .before .before .before .before .check-place .ensures,
+      c .before .before .enum-told .given .1,
+      ne-eqb _ 0 (c .if1 .left),
+    )
 
 pub check-filled-spec : {M : Type 1} → statement M
 check-filled-spec =
@@ -31,7 +41,10 @@ check-filled-spec =
     (λ c. search needs)
     (λ c. search needs)
     (λ c. search needs)
-    (λ c. omega (arith, place-open width _ _ _ (sym (c .before .before .before .check-place .ensures) ∙ c .before .enum-told .given .1)))
+    (λ c. omega (
+      arith,
+      place-open width _ _ _ (sym (c .before .before .before .check-place .ensures) ∙ c .before .enum-told .given .1),
+    ))
     returns
     returns-2
     returns-3)

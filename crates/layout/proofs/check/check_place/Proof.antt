@@ -11,11 +11,13 @@ returns c = rw (← c .before .before .before .check-store .ensures, c .before .
 
 returns-2 : tie.Need-returns-2
 unfolding placeCheck
-returns-2 c = rw (← c .before .before .before .check-store .ensures, c .before .enum-told .given .1, lt-ltb _ 32 (c .if1 .taken))
+returns-2 c =
+    rw (← c .before .before .before .check-store .ensures, c .before .enum-told .given .1, lt-ltb _ 32 (c .if1 .taken))
 
 returns-3 : tie.Need-returns-3
 unfolding placeCheck
-returns-3 c = rw (← c .before .before .before .check-store .ensures, c .before .enum-told .given .1, le-ltb _ 32 (c .if1 .left))
+returns-3 c =
+    rw (← c .before .before .before .check-store .ensures, c .before .enum-told .given .1, le-ltb _ 32 (c .if1 .left))
 
 pub check-place-spec : {M : Type 1} → statement M
 check-place-spec =

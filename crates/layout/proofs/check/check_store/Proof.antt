@@ -10,11 +10,23 @@ use Rattle.layout.proofs.check.check_store.Tie as tie
 
 returns : tie.Need-returns
 unfolding storeCheck
-returns c = rw (← c .before .before .before .long-enough .ensures, c .before .before .if1 .taken, ← c .before .words-sound .ensures, c .if2 .taken)
+returns c =
+    rw (
+      ← c .before .before .before .long-enough .ensures,
+      c .before .before .if1 .taken,
+      ← c .before .words-sound .ensures,
+      c .if2 .taken,
+    )
 
 returns-2 : tie.Need-returns-2
 unfolding storeCheck
-returns-2 c = rw (← c .before .before .before .long-enough .ensures, c .before .before .if1 .taken, ← c .before .words-sound .ensures, c .if2 .left)
+returns-2 c =
+    rw (
+      ← c .before .before .before .long-enough .ensures,
+      c .before .before .if1 .taken,
+      ← c .before .words-sound .ensures,
+      c .if2 .left,
+    )
 
 returns-3 : tie.Need-returns-3
 unfolding storeCheck

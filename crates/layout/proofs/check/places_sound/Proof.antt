@@ -32,12 +32,17 @@ returns : tie.Need-returns Inv-loop μ-loop
 returns c =
     let a = c .before .before .before .before .before .args in
     let l = c .before .before .before .loop in
-    sym (every-not (placeSoundAt (a .q) (a .words .now)) 32 (l .i) (omega arith) (sym (c .before .record-sound .ensures) ∙ not-true _ (c .if1 .taken)))
+    sym
+    (every-not (placeSoundAt (a .q) (a .words .now)) 32 (l .i) (omega arith)
+    (sym (c .before .record-sound .ensures) ∙ not-true _ (c .if1 .taken)))
 
 loop-again : tie.Need-loop-again Inv-loop μ-loop
 unfolding every
-loop-again c =
-    (omega arith, rw (add-one, c .before .before .before .loop .inv .1) (sym (c .before .record-sound .ensures) ∙ not-false _ (c .if1 .left)))
+loop-again c = (
+  omega arith,
+  rw (add-one, c .before .before .before .loop .inv .1)
+      (sym (c .before .record-sound .ensures) ∙ not-false _ (c .if1 .left)),
+)
 
 pub places-sound-spec : {M : Type 1} → statement M
 places-sound-spec =

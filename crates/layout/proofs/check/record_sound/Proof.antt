@@ -15,12 +15,20 @@ returns c = rw (sym (c .before .place-sound .ensures) ∙ not-true _ (c .if1 .ta
 returns-2 : tie.Need-returns-2
 unfolding placeSoundAt
 returns-2 c =
-    rw (sym (c .before .before .place-sound .ensures) ∙ not-false _ (c .before .if1 .left), le-ltb 3 (c .before .before .before .before .before .before .before .before .args .q) (omega arith)) (sym (layer-none _))
+    rw (
+      sym (c .before .before .place-sound .ensures) ∙ not-false _ (c .before .if1 .left),
+      le-ltb 3 (c .before .before .before .before .before .before .before .before .args .q) (omega arith),
+    ) (sym (layer-none _))
 
 returns-3 : tie.Need-returns-3
 unfolding placeSoundAt
 returns-3 c =
-    rw (sym (c .before .before .before .before .place-sound .ensures) ∙ not-false _ (c .before .before .before .if1 .left), lt-ltb 3 (c .before .before .before .before .before .before .before .before .before .before .args .q) (omega arith)) (c .layer-sound .ensures)
+    let c10 = c .before .before .before .before .before .before .before .before .before .before in
+    rw (
+      sym (c .before .before .before .before .place-sound .ensures)
+          ∙ not-false _ (c .before .before .before .if1 .left),
+      lt-ltb 3 (c10 .args .q) (omega arith),
+    ) (c .layer-sound .ensures)
 
 pub record-sound-spec : {M : Type 1} → statement M
 record-sound-spec =

@@ -14,7 +14,11 @@ returns c =
     let a = c .before .before .before .before .before .before .before .before .args in
     let f = facesOf (a .words .now) in
     let n : cornersFrom (a .q) + 3 * f - cornersFrom (a .q) ≡ 3 * f = omega arith in
-    rw (c .before .before .before .before .if1 .taken, ← c .before .before .before .places-sound .ensures, c .before .before .if2 .taken) (rw n at (c .all-below .ensures))
+    rw (
+      c .before .before .before .before .if1 .taken,
+      ← c .before .before .before .places-sound .ensures,
+      c .before .before .if2 .taken,
+    ) (rw n at (c .all-below .ensures))
 
 returns-2 : tie.Need-returns-2
 unfolding sound

@@ -22,8 +22,11 @@ loop-holds c = (omega arith, refl, omega arith)
 loop-again : tie.Need-loop-again Inv-loop μ-loop
 unfolding leftOf
 loop-again c =
-    let l = c .before .before .loop in
-    (omega arith, rw (add-one, ← l .inv .1) (ap (λ (x : ℕ). l .sum + x) (c .left-at .ensures .0)), omega (arith, c .left-at .ensures .1))
+    let l = c .before .before .loop in (
+      omega arith,
+      rw (add-one, ← l .inv .1) (ap (λ (x : ℕ). l .sum + x) (c .left-at .ensures .0)),
+      omega (arith, c .left-at .ensures .1),
+    )
 
 returns : tie.Need-returns Inv-loop μ-loop
 returns c =

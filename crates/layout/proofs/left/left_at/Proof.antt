@@ -12,7 +12,10 @@ mul-result c =
     let z = c .before .before .before .before .before .before in
     let w = z .args .words .now in
     let i = z .args .i in
-    let t = left-term (z .args .faces) i (statusOf width w i) (finishedOf width w i) (doneOf width w i) (c .before .before .before .pieces .result) (c .before .before .word .result) (c .before .word2 .result) (z .pre .0 .place i (z .pre .1)) (z .pre .0 .few) (c .before .before .before .pieces .ensures) (c .before .before .word .ensures) (c .before .word2 .ensures) (c .if1 .taken) in
+    let t = left-term (z .args .faces) i (statusOf width w i) (finishedOf width w i) (doneOf width w i)
+    (c .before .before .before .pieces .result) (c .before .before .word .result) (c .before .word2 .result)
+    (z .pre .0 .place i (z .pre .1)) (z .pre .0 .few) (c .before .before .before .pieces .ensures)
+    (c .before .before .word .ensures) (c .before .word2 .ensures) (c .if1 .taken) in
     omega (arith, t .0)
 
 sub-result-2 : tie.Need-sub-result-2
@@ -20,7 +23,10 @@ sub-result-2 c =
     let z = c .before .before .before .before .before .before in
     let w = z .args .words .now in
     let i = z .args .i in
-    let t = left-term (z .args .faces) i (statusOf width w i) (finishedOf width w i) (doneOf width w i) (c .before .before .before .pieces .result) (c .before .before .word .result) (c .before .word2 .result) (z .pre .0 .place i (z .pre .1)) (z .pre .0 .few) (c .before .before .before .pieces .ensures) (c .before .before .word .ensures) (c .before .word2 .ensures) (c .if1 .taken) in
+    let t = left-term (z .args .faces) i (statusOf width w i) (finishedOf width w i) (doneOf width w i)
+    (c .before .before .before .pieces .result) (c .before .before .word .result) (c .before .word2 .result)
+    (z .pre .0 .place i (z .pre .1)) (z .pre .0 .few) (c .before .before .before .pieces .ensures)
+    (c .before .before .word .ensures) (c .before .word2 .ensures) (c .if1 .taken) in
     t .1
 
 returns : tie.Need-returns
@@ -28,8 +34,13 @@ returns c =
     let z = c .before .before .before .before .before .before in
     let w = z .args .words .now in
     let i = z .args .i in
-    let t = left-term (z .args .faces) i (statusOf width w i) (finishedOf width w i) (doneOf width w i) (c .before .before .before .pieces .result) (c .before .before .word .result) (c .before .word2 .result) (z .pre .0 .place i (z .pre .1)) (z .pre .0 .few) (c .before .before .before .pieces .ensures) (c .before .before .word .ensures) (c .before .word2 .ensures) (c .if1 .taken) in
-    (rw (c .before .before .before .pieces .ensures, c .before .before .word .ensures, c .before .word2 .ensures) refl, omega (arith, t .0))
+    let t = left-term (z .args .faces) i (statusOf width w i) (finishedOf width w i) (doneOf width w i)
+    (c .before .before .before .pieces .result) (c .before .before .word .result) (c .before .word2 .result)
+    (z .pre .0 .place i (z .pre .1)) (z .pre .0 .few) (c .before .before .before .pieces .ensures)
+    (c .before .before .word .ensures) (c .before .word2 .ensures) (c .if1 .taken) in (
+      rw (c .before .before .before .pieces .ensures, c .before .before .word .ensures, c .before .word2 .ensures) refl,
+      omega (arith, t .0),
+    )
 
 pub left-at-spec : {M : Type 1} → statement M
 left-at-spec =
@@ -48,4 +59,8 @@ left-at-spec =
     mul-result
     sub-result-2
     returns
-    (λ c. (left-none (c .before .before .before .before .before .before .args .faces) _ _ _ (omega (arith, c .before .before .before .pieces .ensures, c .before .before .word .ensures, c .if1 .left)), omega arith)))
+    (λ c. (
+      left-none (c .before .before .before .before .before .before .args .faces) _ _ _
+          (omega (arith, c .before .before .before .pieces .ensures, c .before .before .word .ensures, c .if1 .left)),
+      omega arith,
+    )))

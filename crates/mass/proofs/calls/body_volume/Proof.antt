@@ -8,7 +8,8 @@ use Rattle.mass.proofs.calls.body_volume.Tie as tie
 
 returns : tie.Need-returns
 unfolding bodyVolumeCall
-returns c = rw (← c .before .before .before .check-mesh .ensures, c .before .enum-told .given .1, c .body-volume-of .ensures)
+returns c =
+    rw (← c .before .before .before .check-mesh .ensures, c .before .enum-told .given .1, c .body-volume-of .ensures)
 
 returns-2 : tie.Need-returns-2
 unfolding bodyVolumeCall

@@ -8,7 +8,8 @@ use Rattle.mass.proofs.calls.kernel_field_mass.Tie as tie
 
 returns : tie.Need-returns
 unfolding fieldMassCall
-returns c = rw (← c .before .before .before .check-field .ensures, c .before .enum-told .given .1, c .field-mass-of .ensures)
+returns c =
+    rw (← c .before .before .before .check-field .ensures, c .before .enum-told .given .1, c .field-mass-of .ensures)
 
 returns-2 : tie.Need-returns-2
 unfolding fieldMassCall

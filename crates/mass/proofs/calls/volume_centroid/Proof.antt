@@ -8,7 +8,8 @@ use Rattle.mass.proofs.calls.volume_centroid.Tie as tie
 
 returns : tie.Need-returns
 unfolding volumeCentroidCall
-returns c = rw (← c .before .before .before .check-mesh .ensures, c .before .enum-told .given .1, c .centroid-of .ensures)
+returns c =
+    rw (← c .before .before .before .check-mesh .ensures, c .before .enum-told .given .1, c .centroid-of .ensures)
 
 returns-2 : tie.Need-returns-2
 unfolding volumeCentroidCall

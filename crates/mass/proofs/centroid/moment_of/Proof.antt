@@ -9,7 +9,8 @@ use Rattle.mass.proofs.centroid.moment_of.Statement.{statement}
 use Rattle.mass.proofs.centroid.moment_of.Tie as tie
 
 abbrev Inv-loop : tie.InvT-loop
-Inv-loop xyz faces acc₀ f₀ count acc f = Left (faceMomentStep (triangleAt xyz faces)) count f acc (momentTo (triangleAt xyz faces) (faceCount faces))
+Inv-loop xyz faces acc₀ f₀ count acc f =
+    Left (faceMomentStep (triangleAt xyz faces)) count f acc (momentTo (triangleAt xyz faces) (faceCount faces))
 
 abbrev μ-loop : tie.MeasureT-loop
 μ-loop xyz faces acc₀ f₀ count acc f = count - f

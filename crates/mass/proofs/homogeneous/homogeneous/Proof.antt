@@ -10,7 +10,12 @@ returns : tie.Need-returns
 unfolding homogeneousCall
 returns c =
     let m = c .before .before in
-    rw (← m .before .before .check-mesh .ensures, m .enum-told .given .1, c .homogeneous-of .ensures, c .before .body-volume-of .ensures)
+    rw (
+      ← m .before .before .check-mesh .ensures,
+      m .enum-told .given .1,
+      c .homogeneous-of .ensures,
+      c .before .body-volume-of .ensures,
+    )
 
 returns-2 : tie.Need-returns-2
 unfolding homogeneousCall

@@ -9,7 +9,9 @@ use Rattle.mass.proofs.total.field_mass_of.Statement.{statement}
 use Rattle.mass.proofs.total.field_mass_of.Tie as tie
 
 abbrev Inv-loop : tie.InvT-loop
-Inv-loop xyz faces kernels total₀ i₀ count total i = Left (massStep (triangleAt xyz faces) (faceCount faces) kernels) count i total (fieldMass (triangleAt xyz faces) (faceCount faces) kernels)
+Inv-loop xyz faces kernels total₀ i₀ count total i =
+    Left (massStep (triangleAt xyz faces) (faceCount faces) kernels) count i total
+    (fieldMass (triangleAt xyz faces) (faceCount faces) kernels)
 
 abbrev μ-loop : tie.MeasureT-loop
 μ-loop xyz faces kernels total₀ i₀ count total i = count - i

@@ -1,4 +1,5 @@
--- `mesh::check::check_mesh` meets its contract: the tests in 01's order; a vertex count in the limit fits a u32. Assumes nothing.
+-- `mesh::check::check_mesh` meets its contract: the tests in 01's order; a vertex count in the limit fits a u32.
+-- Assumes nothing.
 use native.Mathlib.Omega.{arith}
 use lib.ListN.{length}
 use borrow.Author.Needs.{needs}
@@ -22,12 +23,18 @@ cast-all-below c =
 
 returns-3 : tie.Need-returns-3
 unfolding meshCheck
-returns-3 c = rw (c .before .before .before .if1 .left, c .before .before .if2 .left, ← c .before .all-below .ensures, c .if3 .taken)
+returns-3 c =
+    rw
+    (c .before .before .before .if1 .left, c .before .before .if2 .left, ← c .before .all-below .ensures, c .if3 .taken)
 
 returns-4 : tie.Need-returns-4
 unfolding meshCheck
-returns-4 c = rw (c .before .before .before .if1 .left, c .before .before .if2 .left, ← c .before .all-below .ensures, c .if3 .left)
+returns-4 c =
+    rw
+    (c .before .before .before .if1 .left, c .before .before .if2 .left, ← c .before .all-below .ensures, c .if3 .left)
 
 pub check-mesh-spec : {M : Type 1} → statement M
 check-mesh-spec =
-    tie.close (tie.spec returns (λ c. search needs) (λ c. search needs) returns-2 cast-all-below (λ c κs. search needs) returns-3 returns-4)
+    tie.close
+    (tie.spec returns (λ c. search needs) (λ c. search needs) returns-2 cast-all-below (λ c κs. search needs) returns-3
+    returns-4)

@@ -1,4 +1,5 @@
--- `mesh::triangles::corner` meets its contract: a corner of a sound mesh names a vertex within the coordinates. Assumes nothing.
+-- `mesh::triangles::corner` meets its contract: a corner of a sound mesh names a vertex within the coordinates. Assumes
+-- nothing.
 use native.Mathlib.Omega.{arith}
 use borrow.Author.Needs.{needs}
 use Rattle.mesh.proofs.triangles.corner.Statement.{statement}
@@ -11,4 +12,7 @@ vertex-requires c κs =
 
 pub corner-spec : {M : Type 1} → statement M
 corner-spec =
-    tie.close (tie.spec (λ c. search needs) (λ c. search needs) (λ c. omega (arith, c .shared-slice-known3 .given (c .before .before .before .args .k))) vertex-requires (λ c. search needs))
+    tie.close
+    (tie.spec (λ c. search needs) (λ c. search needs)
+    (λ c. omega (arith, c .shared-slice-known3 .given (c .before .before .before .args .k))) vertex-requires
+    (λ c. search needs))

@@ -26,27 +26,43 @@ returns-2 c =
     let z = c .before .before .before .before .before .before .before in
     let a = z .args in
     let rs = heldRows width (a .floats .now) (a .words .now) 32 in
-    let e : allPrintable rs ≡ true = sym (c .before .before .before .all-printable .ensures) ∙ kept _ (c .before .before .if1 .left) in
+    let e : allPrintable rs ≡ true
+    = sym (c .before .before .before .all-printable .ensures) ∙ kept _ (c .before .before .if1 .left) in
     let k = rows-count width (a .floats .now) (a .words .now) 32 in
     let n = c .before .count-filled in
-    short-is rs _ e (rows-fair width (a .floats .now) (a .words .now) (a .faces) (z .pre .1) 32 (omega arith) e) (omega (arith, k, n .ensures .0, n .ensures .1)) (65 * n .result + 65) (omega (arith, k, n .ensures .0)) (c .if2 .taken)
+    short-is rs _ e (rows-fair width (a .floats .now) (a .words .now) (a .faces) (z .pre .1) 32 (omega arith) e)
+    (omega (arith, k, n .ensures .0, n .ensures .1)) (65 * n .result + 65) (omega (arith, k, n .ensures .0))
+    (c .if2 .taken)
 
 write-page-requires : tie.Need-write-page-requires
 write-page-requires c κs =
     let z = c .before .before .before .before .before .before .before .before in
     let a = z .args in
-    let k = rows-count width (a .floats .now) (a .words .now) 32 in
-    (z .pre .0, (z .pre .1, (sym (c .before .before .before .before .all-printable .ensures) ∙ kept _ (c .before .before .before .if1 .left), omega (arith, k, c .before .before .count-filled .ensures .0, c .before .if2 .left))))
+    let k = rows-count width (a .floats .now) (a .words .now) 32 in (
+      z .pre .0,
+      (
+        z .pre .1,
+        (
+          sym (c .before .before .before .before .all-printable .ensures)
+              ∙ kept _ (c .before .before .before .if1 .left),
+          omega (arith, k, c .before .before .count-filled .ensures .0, c .before .if2 .left),
+        ),
+      ),
+    )
 
 returns-3 : tie.Need-returns-3
 returns-3 c =
-    let z = c .before .before .before .before .before .before .before .before .before .before .before in
+    let c4 = c .before .before .before .before in
+    let z = c4 .before .before .before .before .before .before .before in
     let a = z .args in
     let rs = heldRows width (a .floats .now) (a .words .now) 32 in
-    let e : allPrintable rs ≡ true = sym (c .before .before .before .before .before .before .before .all-printable .ensures) ∙ kept _ (c .before .before .before .before .before .before .if1 .left) in
+    let e : allPrintable rs ≡ true
+    = sym (c4 .before .before .before .all-printable .ensures) ∙ kept _ (c4 .before .before .if1 .left) in
     let k = rows-count width (a .floats .now) (a .words .now) 32 in
-    let n = c .before .before .before .before .before .count-filled in
-    written-is rs _ e (rows-fair width (a .floats .now) (a .words .now) (a .faces) (z .pre .1) 32 (omega arith) e) (omega (arith, k, n .ensures .0, n .ensures .1)) (65 * n .result + 65) (omega (arith, k, n .ensures .0)) _ (c .before .before .before .before .if2 .left) (c .before .before .write-page .ensures)
+    let n = c4 .before .count-filled in
+    written-is rs _ e (rows-fair width (a .floats .now) (a .words .now) (a .faces) (z .pre .1) 32 (omega arith) e)
+    (omega (arith, k, n .ensures .0, n .ensures .1)) (65 * n .result + 65) (omega (arith, k, n .ensures .0)) _
+    (c4 .if2 .left) (c .before .before .write-page .ensures)
 
 pub page-of-spec : {M : Type 1} → statement M
 page-of-spec =

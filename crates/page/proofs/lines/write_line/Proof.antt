@@ -14,15 +14,24 @@ returns c =
     let pieces = end .before .before .before .before in
     let gap = pieces .before .before .before .before in
     let place = gap .before .before .before .before .before in (
-      omega (arith, place .write-right .ensures .0, gap .write-bytes .ensures .next, pieces .write-right2 .ensures .0, end .write-ending .ensures .0),
-      then (place .write-right .ensures .1) (then (gap .write-bytes .ensures) (then (pieces .write-right2 .ensures .1) (end .write-ending .ensures .1))),
+      omega (
+        arith,
+        place .write-right .ensures .0,
+        gap .write-bytes .ensures .next,
+        pieces .write-right2 .ensures .0,
+        end .write-ending .ensures .0,
+      ),
+      then (place .write-right .ensures .1)
+          (then (gap .write-bytes .ensures) (then (pieces .write-right2 .ensures .1) (end .write-ending .ensures .1))),
     )
 
 write-right-requires : tie.Need-write-right-requires
 write-right-requires c κs = (omega (arith, c .before .before .pre .0), digits-under 1 _ (c .before .before .pre .1))
 
 write-right-requires-2 : tie.Need-write-right-requires-2
-write-right-requires-2 c κs = (search needs, digits-under 1 _ (c .before .before .before .before .before .before .before .before .before .before .before .pre .2))
+write-right-requires-2 c κs =
+    let c11 = c .before .before .before .before .before .before .before .before .before .before .before in
+    (search needs, digits-under 1 _ (c11 .pre .2))
 
 pub write-line-spec : {M : Type 1} → statement M
 write-line-spec =

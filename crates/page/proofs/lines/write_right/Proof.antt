@@ -14,7 +14,8 @@ returns c =
     let d = gap .before .before .decimal-length in
     let a = gap .before .before .before .before .args in (
       omega (arith, gap .write-spaces .ensures .0, w .write-digits .ensures .0),
-      right-written _ _ (a .wide) _ (d .result) (d .ensures .0 ∙ sym (decimal-length (a .n))) (gap .write-spaces .ensures .1)
+      right-written _ _ (a .wide) _ (d .result) (d .ensures .0 ∙ sym (decimal-length (a .n)))
+          (gap .write-spaces .ensures .1)
           (decimal-written (a .n) (d .ensures .0) (w .write-digits .ensures .1)),
     )
 

@@ -17,8 +17,11 @@ abbrev μ-loop : tie.MeasureT-loop
 
 returns : tie.Need-returns Inv-loop μ-loop
 returns c =
-    let a = c .before .before .args in
-    (refl, spaces-written _ _ (a .n) _ _ (c .before .before .pre) refl (all-filled (a .n) 32 (c .before .loop .inv) (omega arith)))
+    let a = c .before .before .args in (
+      refl,
+      spaces-written _ _ (a .n) _ _ (c .before .before .pre) refl
+          (all-filled (a .n) 32 (c .before .loop .inv) (omega arith)),
+    )
 
 pub write-spaces-spec : {M : Type 1} → statement M
 write-spaces-spec =

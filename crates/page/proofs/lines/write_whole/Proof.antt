@@ -15,8 +15,10 @@ write-minus-requires c κs =
 returns : tie.Need-returns
 returns c =
     let w = c .before .before in
-    let v = w .before .before .before .before .before .args .v in
-    (w .write-minus .ensures .0, retold 20 _ _ (text-below (v .minus) (v .size) (w .before .before .if1 .taken)) (w .write-minus .ensures .1))
+    let v = w .before .before .before .before .before .args .v in (
+      w .write-minus .ensures .0,
+      retold 20 _ _ (text-below (v .minus) (v .size) (w .before .before .if1 .taken)) (w .write-minus .ensures .1),
+    )
 
 write-right-requires : tie.Need-write-right-requires
 write-right-requires c κs =
@@ -27,8 +29,10 @@ write-right-requires c κs =
 returns-2 : tie.Need-returns-2
 returns-2 c =
     let w = c .before .before in
-    let v = w .before .before .before .before .before .args .v in
-    (w .write-right .ensures .0, retold 20 _ _ (text-plain (v .minus) (v .size) (w .before .before .if1 .left)) (w .write-right .ensures .1))
+    let v = w .before .before .before .before .before .args .v in (
+      w .write-right .ensures .0,
+      retold 20 _ _ (text-plain (v .minus) (v .size) (w .before .before .if1 .left)) (w .write-right .ensures .1),
+    )
 
 pub write-whole-spec : {M : Type 1} → statement M
 write-whole-spec =

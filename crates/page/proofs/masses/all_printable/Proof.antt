@@ -28,8 +28,16 @@ place-printable-requires c κs =
 loop-again : tie.Need-loop-again Inv-loop μ-loop
 loop-again c =
     let a = c .before .before .before .before .before .before .args in
-    let l = c .before .before .before .loop in
-    (omega arith, rw (rows-next width (a .floats .now) (a .words .now) (l .i), printable-append (heldRows width (a .floats .now) (a .words .now) (l .i)) (rowAt (a .floats .now) (l .i) (statusOf width (a .words .now) (l .i))), ← l .inv .1, c .place-printable .ensures) refl)
+    let l = c .before .before .before .loop in (
+      omega arith,
+      rw (
+        rows-next width (a .floats .now) (a .words .now) (l .i),
+        printable-append (heldRows width (a .floats .now) (a .words .now) (l .i))
+            (rowAt (a .floats .now) (l .i) (statusOf width (a .words .now) (l .i))),
+        ← l .inv .1,
+        c .place-printable .ensures,
+      ) refl,
+    )
 
 returns : tie.Need-returns Inv-loop μ-loop
 returns c =

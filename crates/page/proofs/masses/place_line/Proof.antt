@@ -18,7 +18,10 @@ rounded-requires : tie.Need-rounded-requires
 rounded-requires c κs =
     let p = c .before in
     let m = c .place-mass in
-    subst T (sym (fair-mass _ _ _ (p .pieces .result) (p .before .if1 .left) (p .pieces .ensures) (m .result) (m .ensures) (p .before .before .before .before .pre .1 .0))) tt
+    subst T
+    (sym
+    (fair-mass _ _ _ (p .pieces .result) (p .before .if1 .left) (p .pieces .ensures) (m .result) (m .ensures)
+    (p .before .before .before .before .pre .1 .0))) tt
 
 write-line-requires : tie.Need-write-line-requires
 write-line-requires c κs =
@@ -26,8 +29,13 @@ write-line-requires c κs =
     let m = v .before .place-mass in
     let p = v .before .before in
     let z = p .before .before .before .before in
-    let n = one-count (z .args .floats .now) (z .args .i) (z .args .status) (p .pieces .result) (p .before .if1 .left) (p .pieces .ensures) (m .result) (m .ensures) in
-    (omega (arith, n, z .pre .1 .1 .0), omega (arith, z .pre .0 .1), omega (arith, z .pre .0 .2, p .pieces .ensures), omega (arith, v .rounded .ensures .1))
+    let n = one-count (z .args .floats .now) (z .args .i) (z .args .status) (p .pieces .result) (p .before .if1 .left)
+    (p .pieces .ensures) (m .result) (m .ensures) in (
+      omega (arith, n, z .pre .1 .1 .0),
+      omega (arith, z .pre .0 .1),
+      omega (arith, z .pre .0 .2, p .pieces .ensures),
+      omega (arith, v .rounded .ensures .1),
+    )
 
 add-requires : tie.Need-add-requires
 add-requires c κs =
@@ -42,10 +50,15 @@ returns-2 c =
     let m = v .before .place-mass in
     let p = v .before .before in
     let a = p .before .before .before .before .args in
-    let n = one-count (a .floats .now) (a .i) (a .status) (p .pieces .result) (p .before .if1 .left) (p .pieces .ensures) (m .result) (m .ensures) in
-    let t = one-total (a .floats .now) (a .i) (a .status) (p .pieces .result) (p .before .if1 .left) (p .pieces .ensures) (m .result) (m .ensures) _ (v .rounded .ensures .0) in
-    let l = one-written (a .floats .now) (a .i) (a .status) (p .pieces .result) (p .before .if1 .left) (p .pieces .ensures) (m .result) (m .ensures) _ (v .rounded .ensures .0) (w .write-line .ensures .1) in
-    ((omega (arith, n, c .add .ensures .0, w .write-line .ensures .0), rw (c .add .ensures .0) l), (rw t (c .add .ensures .1), c .add .ensures .2, c .add .ensures .3))
+    let n = one-count (a .floats .now) (a .i) (a .status) (p .pieces .result) (p .before .if1 .left)
+    (p .pieces .ensures) (m .result) (m .ensures) in
+    let t = one-total (a .floats .now) (a .i) (a .status) (p .pieces .result) (p .before .if1 .left)
+    (p .pieces .ensures) (m .result) (m .ensures) _ (v .rounded .ensures .0) in
+    let l = one-written (a .floats .now) (a .i) (a .status) (p .pieces .result) (p .before .if1 .left)
+    (p .pieces .ensures) (m .result) (m .ensures) _ (v .rounded .ensures .0) (w .write-line .ensures .1) in (
+      (omega (arith, n, c .add .ensures .0, w .write-line .ensures .0), rw (c .add .ensures .0) l),
+      (rw t (c .add .ensures .1), c .add .ensures .2, c .add .ensures .3),
+    )
 
 pub place-line-spec : {M : Type 1} → statement M
 place-line-spec =

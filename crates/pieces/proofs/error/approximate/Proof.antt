@@ -8,7 +8,8 @@ use Rattle.pieces.proofs.error.approximate.Statement.{statement}
 use Rattle.pieces.proofs.error.approximate.Tie as tie
 
 abbrev Inv-loop : tie.InvT-loop
-Inv-loop terms scales coefficients u sum₀ i₀ sum i = Left (approxAt scales coefficients u) terms i sum (approx terms scales coefficients u)
+Inv-loop terms scales coefficients u sum₀ i₀ sum i =
+    Left (approxAt scales coefficients u) terms i sum (approx terms scales coefficients u)
 
 abbrev μ-loop : tie.MeasureT-loop
 μ-loop terms scales coefficients u sum₀ i₀ sum i = terms - i

@@ -8,7 +8,8 @@ use Rattle.pieces.proofs.error.peak_error.Statement.{statement}
 use Rattle.pieces.proofs.error.peak_error.Tie as tie
 
 abbrev Inv-loop : tie.InvT-loop
-Inv-loop terms scales coefficients curve us targets e₀ j₀ e j = Left (errorAt terms scales coefficients curve) (curve .samples) j e (peakError terms scales coefficients curve)
+Inv-loop terms scales coefficients curve us targets e₀ j₀ e j =
+    Left (errorAt terms scales coefficients curve) (curve .samples) j e (peakError terms scales coefficients curve)
 
 abbrev μ-loop : tie.MeasureT-loop
 μ-loop terms scales coefficients curve us targets e₀ j₀ e j = curve .samples - j

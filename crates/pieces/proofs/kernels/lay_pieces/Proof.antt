@@ -1,4 +1,5 @@
--- `pieces::kernels::lay_pieces` meets its contract: the pieces that are left, written, give `laid`; the run keeps its length. Assumes nothing.
+-- `pieces::kernels::lay_pieces` meets its contract: the pieces that are left, written, give `laid`; the run keeps its
+-- length. Assumes nothing.
 use mathlib.Core.Path.{_≡_, refl}
 use Prim.Native.Nat.{_-_}
 use lib.ListN.{length}

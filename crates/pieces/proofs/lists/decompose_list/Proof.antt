@@ -1,4 +1,5 @@
--- `pieces::lists::decompose_list` meets its contract: a list that is not of sixes or a short run is refused, any other answered whole. Assumes nothing.
+-- `pieces::lists::decompose_list` meets its contract: a list that is not of sixes or a short run is refused, any other
+-- answered whole. Assumes nothing.
 use native.Mathlib.Omega.{arith}
 use borrow.Author.Needs.{needs}
 use Rattle.pieces.proofs.ListLaws.{room-of, not-sixes, too-short, writes-all}
@@ -9,12 +10,15 @@ returns-2 : tie.Need-returns-2
 returns-2 c =
     let w = c .before .before in
     let h = w .before .before .before in
-    rw (w .write-pieces .ensures) (writes-all _ _ _ (h .before .before .before .check-list .ensures) (h .before .enum-told .given .1) (h .has-room .ensures) (w .before .before .if1 .taken))
+    rw (w .write-pieces .ensures)
+    (writes-all _ _ _ (h .before .before .before .check-list .ensures) (h .before .enum-told .given .1)
+    (h .has-room .ensures) (w .before .before .if1 .taken))
 
 returns-3 : tie.Need-returns-3
 returns-3 c =
     let h = c .before in
-    too-short _ _ _ (h .before .before .before .check-list .ensures) (h .before .enum-told .given .1) (h .has-room .ensures) (c .if1 .left)
+    too-short _ _ _ (h .before .before .before .check-list .ensures) (h .before .enum-told .given .1)
+    (h .has-room .ensures) (c .if1 .left)
 
 pub decompose-list-spec : {M : Type 1} → statement M
 decompose-list-spec =

@@ -1,4 +1,5 @@
--- `pieces::lists::has_room` meets its contract: the room that is left and the pieces so far are the room. Assumes nothing.
+-- `pieces::lists::has_room` meets its contract: the room that is left and the pieces so far are the room. Assumes
+-- nothing.
 use mathlib.Core.Path.{_≡_}
 use Prim.Native.Nat.{_+_, _-_, _≤_}
 use native.Mathlib.Omega.{arith}
@@ -22,13 +23,17 @@ no-room-left : tie.Need-returns-2 Inv-loop μ-loop
 no-room-left c =
     let w = c .before .before .before in
     let l = w .before .before .before .loop in
-    no-room _ _ (l .i) _ (l .inv .1) (w .before .before .loop-test .taken) (w .before .kernel-at .ensures) (w .decompose .ensures .0) (c .if2 .taken)
+    no-room _ _ (l .i) _ (l .inv .1) (w .before .before .loop-test .taken) (w .before .kernel-at .ensures)
+    (w .decompose .ensures .0) (c .if2 .taken)
 
 loop-again : tie.Need-loop-again Inv-loop μ-loop
 loop-again c =
     let w = c .before .before .before .before in
-    let l = w .before .before .before .loop in
-    (omega arith, room-next _ _ (l .i) (l .inv .1) (w .before .kernel-at .ensures) (w .decompose .ensures .0) (c .before .if2 .left))
+    let l = w .before .before .before .loop in (
+      omega arith,
+      room-next _ _ (l .i) (l .inv .1) (w .before .kernel-at .ensures) (w .decompose .ensures .0)
+          (c .before .if2 .left),
+    )
 
 pub has-room-spec : {M : Type 1} → statement M
 has-room-spec =

@@ -8,7 +8,8 @@ use Rattle.pieces.proofs.normal.add_samples.Statement.{statement}
 use Rattle.pieces.proofs.normal.add_samples.Tie as tie
 
 abbrev Inv-loop : tie.InvT-loop
-Inv-loop m₀ terms scales curve us targets j₀ m j = Left (sampleAt terms scales curve) (curve .samples) j m (equations terms scales curve m₀)
+Inv-loop m₀ terms scales curve us targets j₀ m j =
+    Left (sampleAt terms scales curve) (curve .samples) j m (equations terms scales curve m₀)
 
 abbrev μ-loop : tie.MeasureT-loop
 μ-loop m₀ terms scales curve us targets j₀ m j = curve .samples - j

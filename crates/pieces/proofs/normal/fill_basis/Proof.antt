@@ -9,7 +9,8 @@ use Rattle.pieces.proofs.normal.fill_basis.Statement.{statement}
 use Rattle.pieces.proofs.normal.fill_basis.Tie as tie
 
 abbrev Inv-loop : tie.InvT-loop
-Inv-loop basis₀ terms scales u i₀ basis i = Left (tableAt (termAt scales u)) terms i basis (basisOf terms scales u basis₀)
+Inv-loop basis₀ terms scales u i₀ basis i =
+    Left (tableAt (termAt scales u)) terms i basis (basisOf terms scales u basis₀)
 
 abbrev μ-loop : tie.MeasureT-loop
 μ-loop basis₀ terms scales u i₀ basis i = terms - i

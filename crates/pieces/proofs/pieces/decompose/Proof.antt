@@ -23,14 +23,18 @@ returns-2 c =
     let f = c .before .before .before in
     let g = f .before .before .before .before in
     let i = g .before .before in
-    far-none _ _ _ _ _ _ _ (i .before .abs .ensures) (i .if1 .left) (g .before .size-of .ensures) (g .greater-of .ensures) (f .before .before .greater-of2 .ensures) (f .before .log10 .ensures) _ (f .fit .ensures .0) (c .before .if2 .taken)
+    far-none _ _ _ _ _ _ _ (i .before .abs .ensures) (i .if1 .left) (g .before .size-of .ensures)
+    (g .greater-of .ensures) (f .before .before .greater-of2 .ensures) (f .before .log10 .ensures) _
+    (f .fit .ensures .0) (c .before .if2 .taken)
 
 returns-3 : tie.Need-returns-3
 returns-3 c =
     let f = c .before .before in
     let g = f .before .before .before .before in
     let i = g .before .before in
-    far-fit _ _ _ _ _ _ _ (i .before .abs .ensures) (i .if1 .left) (g .before .size-of .ensures) (g .greater-of .ensures) (f .before .before .greater-of2 .ensures) (f .before .log10 .ensures) _ _ (f .fit .ensures .0) (f .fit .ensures .1) (c .if2 .left)
+    far-fit _ _ _ _ _ _ _ (i .before .abs .ensures) (i .if1 .left) (g .before .size-of .ensures)
+    (g .greater-of .ensures) (f .before .before .greater-of2 .ensures) (f .before .log10 .ensures) _ _
+    (f .fit .ensures .0) (f .fit .ensures .1) (c .if2 .left)
 
 pub decompose-spec : {M : Type 1} → statement M
 decompose-spec =

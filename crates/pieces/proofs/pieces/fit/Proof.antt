@@ -7,8 +7,12 @@ use Rattle.pieces.proofs.pieces.fit.Tie as tie
 fit-samples-requires : tie.Need-fit-samples-requires
 fit-samples-requires c κs =
     let p = c .before .before .before .before .before in
-    let z = p .before .before in
-    (z .pre .0, z .pre .1, z .pre .3, holds _ _ _ (z .pre .3) (p .fill-points .ensures) (c .before .before .fill-targets .ensures))
+    let z = p .before .before in (
+      z .pre .0,
+      z .pre .1,
+      z .pre .3,
+      holds _ _ _ (z .pre .3) (p .fill-points .ensures) (c .before .before .fill-targets .ensures),
+    )
 
 pub fit-spec : {M : Type 1} → statement M
 fit-spec =

@@ -10,7 +10,9 @@ returns c =
     let k = p .before .before .before in
     let r = k .before .before .before in
     let s = r .before .before in
-    fits _ _ _ _ _ _ _ _ _ _ (s .before .before .before .fill-scales .ensures) (s .add-samples .ensures) (r .add-ridge .ensures) (k .solve-for .ensures .0) (k .solve-for .ensures .1) (p .peak-error .ensures) (c .keep-pieces .ensures)
+    fits _ _ _ _ _ _ _ _ _ _ (s .before .before .before .fill-scales .ensures) (s .add-samples .ensures)
+    (r .add-ridge .ensures) (k .solve-for .ensures .0) (k .solve-for .ensures .1) (p .peak-error .ensures)
+    (c .keep-pieces .ensures)
 
 pub fit-samples-spec : {M : Type 1} → statement M
 fit-samples-spec =

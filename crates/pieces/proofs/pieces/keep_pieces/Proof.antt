@@ -1,4 +1,5 @@
--- `keep_pieces` meets its contract: the terms that are left, kept or dropped, give `kept`; there are never more pieces than terms looked at. Assumes nothing.
+-- `keep_pieces` meets its contract: the terms that are left, kept or dropped, give `kept`; there are never more pieces
+-- than terms looked at. Assumes nothing.
 use borrow.Author.Needs.{needs}
 use Prim.Native.Nat.{_-_, _≤_}
 use mathlib.Core.Path.{refl}
@@ -9,7 +10,8 @@ use Rattle.pieces.proofs.pieces.keep_pieces.Statement.{statement}
 use Rattle.pieces.proofs.pieces.keep_pieces.Tie as tie
 
 abbrev Inv-loop : tie.InvT-loop
-Inv-loop terms sigma scales coefficients out₀ i₀ out i = Left (keepAt sigma scales coefficients) terms i out (kept terms sigma scales coefficients out₀) × (out .count ≤ i)
+Inv-loop terms sigma scales coefficients out₀ i₀ out i =
+    Left (keepAt sigma scales coefficients) terms i out (kept terms sigma scales coefficients out₀) × (out .count ≤ i)
 
 abbrev μ-loop : tie.MeasureT-loop
 μ-loop terms sigma scales coefficients out₀ i₀ out i = terms - i

@@ -9,7 +9,8 @@ use Rattle.pieces.proofs.points.fill_points.Statement.{statement}
 use Rattle.pieces.proofs.points.fill_points.Tie as tie
 
 abbrev Inv-loop : tie.InvT-loop
-Inv-loop us₀ curve j₀ us j = Left (tableAt (sampleOf curve)) (curve .samples) j us (table (sampleOf curve) (curve .samples) us₀)
+Inv-loop us₀ curve j₀ us j =
+    Left (tableAt (sampleOf curve)) (curve .samples) j us (table (sampleOf curve) (curve .samples) us₀)
 
 abbrev μ-loop : tie.MeasureT-loop
 μ-loop us₀ curve j₀ us j = curve .samples - j

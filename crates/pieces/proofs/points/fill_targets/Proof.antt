@@ -9,7 +9,8 @@ use Rattle.pieces.proofs.points.fill_targets.Statement.{statement}
 use Rattle.pieces.proofs.points.fill_targets.Tie as tie
 
 abbrev Inv-loop : tie.InvT-loop
-Inv-loop targets₀ us curve j₀ targets j = Left (tableAt (valueAt curve us)) (curve .samples) j targets (table (valueAt curve us) (curve .samples) targets₀)
+Inv-loop targets₀ us curve j₀ targets j =
+    Left (tableAt (valueAt curve us)) (curve .samples) j targets (table (valueAt curve us) (curve .samples) targets₀)
 
 abbrev μ-loop : tie.MeasureT-loop
 μ-loop targets₀ us curve j₀ targets j = curve .samples - j

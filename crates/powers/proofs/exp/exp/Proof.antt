@@ -30,5 +30,6 @@ exp-spec =
     returns
     returns-2
     returns-3
-    (λ c κs. bounds (c .before .before .before .args .y) (c .before .before .if1 .left) (c .before .if2 .left) (c .if3 .left))
+    (λ c κs.
+    bounds (c .before .before .before .args .y) (c .before .before .if1 .left) (c .before .if2 .left) (c .if3 .left))
     returns-4)

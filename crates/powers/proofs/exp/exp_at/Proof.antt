@@ -17,8 +17,11 @@ returns c =
     let s = i .before in
     let r = c .before .before .before .raised in
     let n = c .before .before .nearest-u64-to-f64 in
-    let f : floor (s .args .w) ≡ negsuc (r .result - 1) = floor-neg (s .args .w) (subst T (sym (i .if1 .taken)) tt) (s .pre .0) ∙ ap (λ (k : ℕ). negsuc (k - 1)) (sym (r .ensures .0)) in
-    let o : ofInt binary64 (negsuc (r .result - 1)) ≡ neg (n .result) = ofInt-neg (r .result) (r .ensures .1) ∙ ap neg (sym (n .ensures)) in
+    let f : floor (s .args .w) ≡ negsuc (r .result - 1)
+    = floor-neg (s .args .w) (subst T (sym (i .if1 .taken)) tt) (s .pre .0)
+    ∙ ap (λ (k : ℕ). negsuc (k - 1)) (sym (r .ensures .0)) in
+    let o : ofInt binary64 (negsuc (r .result - 1)) ≡ neg (n .result)
+    = ofInt-neg (r .result) (r .ensures .1) ∙ ap neg (sym (n .ensures)) in
     rw (f, o, ← c .before .exp-sum .ensures) (c .scale-down .ensures)
 
 truncating-f64-to-u64-requires : tie.Need-truncating-f64-to-u64-requires
@@ -31,7 +34,8 @@ scale-up-requires : tie.Need-scale-up-requires
 scale-up-requires c κs =
     let i = c .before .before .before in
     let s = i .before in
-    rw (c .before .before .truncating-f64-to-u64 .ensures) (part-of (s .args .w) (s .pre .0) (s .pre .1) (i .if1 .left) .most)
+    rw (c .before .before .truncating-f64-to-u64 .ensures)
+    (part-of (s .args .w) (s .pre .0) (s .pre .1) (i .if1 .left) .most)
 
 returns-2 : tie.Need-returns-2
 unfolding expAt
@@ -39,7 +43,8 @@ returns-2 c =
     let i = c .before .before .before .before in
     let s = i .before in
     let t = c .before .before .before .truncating-f64-to-u64 in
-    let f : floor (s .args .w) ≡ pos (t .result) = part-of (s .args .w) (s .pre .0) (s .pre .1) (i .if1 .left) .is ∙ ap pos (sym (t .ensures)) in
+    let f : floor (s .args .w) ≡ pos (t .result)
+    = part-of (s .args .w) (s .pre .0) (s .pre .1) (i .if1 .left) .is ∙ ap pos (sym (t .ensures)) in
     rw (f, ← c .before .before .nearest-u64-to-f642 .ensures, ← c .before .exp-sum2 .ensures) (c .scale-up .ensures)
 
 pub exp-at-spec : {M : Type 1} → statement M

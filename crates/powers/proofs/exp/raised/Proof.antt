@@ -19,7 +19,11 @@ truncating-f64-to-u64-requires c κs =
 add-result : tie.Need-add-result
 add-result c =
     let s = c .before .before .before in
-    omega (arith, c .before .before .truncating-f64-to-u64 .ensures, whole-part (s .args .x) (small (s .args .x) (s .pre .0) (s .pre .1)))
+    omega (
+      arith,
+      c .before .before .truncating-f64-to-u64 .ensures,
+      whole-part (s .args .x) (small (s .args .x) (s .pre .0) (s .pre .1)),
+    )
 
 returns : tie.Need-returns
 returns c =
@@ -27,7 +31,8 @@ returns c =
     let x = s .args .x in
     let k = small x (s .pre .0) (s .pre .1) in
     let t = c .before .before .truncating-f64-to-u64 in
-    let e : lt (ofInt binary64 (pos (toUnsigned 64 x))) x ≡ true = rw (← t .ensures, ← c .before .nearest-u64-to-f64 .ensures) (c .if1 .taken) in
+    let e : lt (ofInt binary64 (pos (toUnsigned 64 x))) x ≡ true
+    = rw (← t .ensures, ← c .before .nearest-u64-to-f64 .ensures) (c .if1 .taken) in
     let r : t .result + 1 ≡ raised x = rw (t .ensures) (raised-more x k e) in
     (r, rw r (raised-above x k), rw r (raised-most x k))
 
@@ -37,7 +42,8 @@ returns-2 c =
     let x = s .args .x in
     let k = small x (s .pre .0) (s .pre .1) in
     let t = c .before .before .truncating-f64-to-u64 in
-    let e : lt (ofInt binary64 (pos (toUnsigned 64 x))) x ≡ false = rw (← t .ensures, ← c .before .nearest-u64-to-f64 .ensures) (c .if1 .left) in
+    let e : lt (ofInt binary64 (pos (toUnsigned 64 x))) x ≡ false
+    = rw (← t .ensures, ← c .before .nearest-u64-to-f64 .ensures) (c .if1 .left) in
     let r : t .result ≡ raised x = rw (t .ensures) (raised-same x k e) in
     (r, rw r (raised-above x k), rw r (raised-most x k))
 

@@ -7,12 +7,16 @@ use Rattle.powers.proofs.exp.scale_down.Tie as tie
 returns-2 : tie.Need-returns-2
 returns-2 c =
     let s = c .before .before .before .before in
-    rw (c .pow2-neg2 .ensures, mul-pow) (down-tiny (s .args .a) (s .args .c) (search needs) (rw (← c .before .before .abs .ensures) (c .before .if2 .taken)))
+    rw (c .pow2-neg2 .ensures, mul-pow)
+    (down-tiny (s .args .a) (s .args .c) (search needs)
+    (rw (← c .before .before .abs .ensures) (c .before .if2 .taken)))
 
 returns-3 : tie.Need-returns-3
 returns-3 c =
     let s = c .before .before .before .before .before in
-    rw (c .before .pow2-neg3 .ensures, c .pow2-neg4 .ensures, mul-pow, mul-pow) (down-two (s .args .a) (s .args .c) (search needs) (search needs) (search needs) (rw (← c .before .before .before .abs .ensures) (c .before .before .if2 .left)))
+    rw (c .before .pow2-neg3 .ensures, c .pow2-neg4 .ensures, mul-pow, mul-pow)
+    (down-two (s .args .a) (s .args .c) (search needs) (search needs) (search needs)
+    (rw (← c .before .before .before .abs .ensures) (c .before .before .if2 .left)))
 
 pub scale-down-spec : {M : Type 1} → statement M
 scale-down-spec =

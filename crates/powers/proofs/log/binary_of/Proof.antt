@@ -14,8 +14,11 @@ split-requires c κs =
 returns : tie.Need-returns
 returns c =
     let s = c .before .before in
-    let p = c .before .split in
-    (mantissa-is (s .args .b) (search needs) (s .pre) (p .result .sig) (p .result .ex) (p .ensures), place-is (s .args .b) (search needs) (s .pre) (p .result .sig) (p .result .ex) (p .ensures), p .ensures .top)
+    let p = c .before .split in (
+      mantissa-is (s .args .b) (search needs) (s .pre) (p .result .sig) (p .result .ex) (p .ensures),
+      place-is (s .args .b) (search needs) (s .pre) (p .result .sig) (p .result .ex) (p .ensures),
+      p .ensures .top,
+    )
 
 pub binary-of-spec : {M : Type 1} → statement M
 binary-of-spec =

@@ -18,7 +18,9 @@ unfolding ofInt
 returns-2 c =
     let p = c .before .before .args .place in
     let h : 1074 - p ≡ suc (1074 - suc p) = omega arith in
-    rw (lt-leb _ _ (c .before .if1 .left)) (ap neg (c .nearest-u64-to-f642 .ensures) ∙ round-neg false (1074 - p) 1 ∙ ap (λ (n : ℕ). round binary64 true n 1) h)
+    rw (lt-leb _ _ (c .before .if1 .left))
+    (ap neg (c .nearest-u64-to-f642 .ensures) ∙ round-neg false (1074 - p) 1
+    ∙ ap (λ (n : ℕ). round binary64 true n 1) h)
 
 pub exponent-spec : {M : Type 1} → statement M
 exponent-spec =

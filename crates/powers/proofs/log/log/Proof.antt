@@ -26,13 +26,20 @@ returns-4 c =
 log-positive-requires : tie.Need-log-positive-requires
 log-positive-requires c κs =
     let i = c .before in
-    is-positive _ (i .before .before .if1 .left) (i .if3 .left) (i .before .if2 .left) (rw one-over-zero at (c .if4 .left))
+    is-positive _ (i .before .before .if1 .left) (i .if3 .left) (i .before .if2 .left)
+    (rw one-over-zero at (c .if4 .left))
 
 returns-5 : tie.Need-returns-5
 unfolding log
 returns-5 c =
     let i = c .before .before in
-    rw (← nan-test _, i .before .before .if1 .left, i .before .if2 .left, i .if3 .left, rw one-over-zero at (c .before .if4 .left)) (c .log-positive .ensures)
+    rw (
+      ← nan-test _,
+      i .before .before .if1 .left,
+      i .before .if2 .left,
+      i .if3 .left,
+      rw one-over-zero at (c .before .if4 .left),
+    ) (c .log-positive .ensures)
 
 pub log-spec : {M : Type 1} → statement M
 log-spec =

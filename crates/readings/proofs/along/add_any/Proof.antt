@@ -14,15 +14,19 @@ use Rattle.readings.proofs.along.add_any.Statement.{statement}
 use Rattle.readings.proofs.along.add_any.Tie as tie
 
 abbrev Inv-loop : tie.InvT-loop
-Inv-loop k m x y z rho₀ i₀ rho i = Filled 64 (λ (j : ℕ) (v : Float). v ≡ getD rho₀ j nan ⊕ densityOf k (lane x y z j)) rho₀ i rho
+Inv-loop k m x y z rho₀ i₀ rho i =
+    Filled 64 (λ (j : ℕ) (v : Float). v ≡ getD rho₀ j nan ⊕ densityOf k (lane x y z j)) rho₀ i rho
 
 abbrev μ-loop : tie.MeasureT-loop
 μ-loop k m x y z rho₀ i₀ rho i = m - i
 
 loop-again : tie.Need-loop-again Inv-loop μ-loop
 loop-again c =
-    let l = c .before .before .before .before .before .before .loop in
-    fills (l .inv) (search needs) (ap (λ (a : Float). a ⊕ c .density-of .result) (l .inv .kept (l .i) (omega arith)) ∙ ap (λ (b : Float). getD (c .before .before .before .before .before .before .before .args .rho .now) (l .i) nan ⊕ b) (c .density-of .ensures))
+    let c6 = c .before .before .before .before .before .before in
+    let l = c6 .loop in
+    fills (l .inv) (search needs)
+    (ap (λ (a : Float). a ⊕ c .density-of .result) (l .inv .kept (l .i) (omega arith))
+    ∙ ap (λ (b : Float). getD (c6 .before .args .rho .now) (l .i) nan ⊕ b) (c .density-of .ensures))
 
 pub add-any-spec : {M : Type 1} → statement M
 add-any-spec =

@@ -9,13 +9,19 @@ use Rattle.readings.proofs.along.add_both.Tie as tie
 add-units-requires : tie.Need-add-units-requires
 add-units-requires c κs =
     let z = c .before .before .before .before .pre in
-    let both = and-eq-true-iff (c .before .before .before .is-unit .result) (c .before .before .is-unit2 .result) .0 (c .before .if1 .taken) in
-    (sym (c .before .before .before .is-unit .ensures) ∙ both .0, sym (c .before .before .is-unit2 .ensures) ∙ both .1, z .0, z .1)
+    let both = and-eq-true-iff (c .before .before .before .is-unit .result) (c .before .before .is-unit2 .result) .0
+    (c .before .if1 .taken) in (
+      sym (c .before .before .before .is-unit .ensures) ∙ both .0,
+      sym (c .before .before .is-unit2 .ensures) ∙ both .1,
+      z .0,
+      z .1,
+    )
 
 returns-2 : tie.Need-returns-2
 returns-2 c =
     let a = c .before .before .before .before .before .before .before .args in
-    both-added (a .m) (a .x .now) (a .y .now) (a .z .now) (a .rho .now) (a .k) (a .l) _ _ (c .before .before .add-kernel .ensures) (c .add-kernel2 .ensures)
+    both-added (a .m) (a .x .now) (a .y .now) (a .z .now) (a .rho .now) (a .k) (a .l) _ _
+    (c .before .before .add-kernel .ensures) (c .add-kernel2 .ensures)
 
 pub add-both-spec : {M : Type 1} → statement M
 add-both-spec =

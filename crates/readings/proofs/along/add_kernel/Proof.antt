@@ -11,4 +11,5 @@ add-unit-requires c κs =
 
 pub add-kernel-spec : {M : Type 1} → statement M
 add-kernel-spec =
-    tie.close (tie.spec (λ c κs. search needs) add-unit-requires (λ c κs. search needs) (λ c. search needs) (λ c. search needs))
+    tie.close
+    (tie.spec (λ c κs. search needs) add-unit-requires (λ c κs. search needs) (λ c. search needs) (λ c. search needs))

@@ -10,7 +10,8 @@ use Rattle.readings.proofs.along.densities.Statement.{statement}
 use Rattle.readings.proofs.along.densities.Tie as tie
 
 abbrev Inv-loop : tie.InvT-loop
-Inv-loop kernels n points count out₀ at₀ out at = (at ≤ count) × Traced (densitizeOf (kernelAt kernels) n) points out₀ at out
+Inv-loop kernels n points count out₀ at₀ out at =
+    (at ≤ count) × Traced (densitizeOf (kernelAt kernels) n) points out₀ at out
 
 abbrev μ-loop : tie.MeasureT-loop
 μ-loop kernels n points count out₀ at₀ out at = count - at
@@ -18,15 +19,22 @@ abbrev μ-loop : tie.MeasureT-loop
 block-requires : tie.Need-block-requires Inv-loop μ-loop
 block-requires c κs =
     let l = c .before .before .before .loop in
-    let m = c .before .share .ensures in
-    (c .before .before .before .before .before .before .before .pre .0, m .0, omega (arith, m .1), omega (arith, m .1, l .inv .1 .long))
+    let m = c .before .share .ensures in (
+      c .before .before .before .before .before .before .before .pre .0,
+      m .0,
+      omega (arith, m .1),
+      omega (arith, m .1, l .inv .1 .long),
+    )
 
 loop-again : tie.Need-loop-again Inv-loop μ-loop
 loop-again c =
     let a = c .before .before .before .before .before .before .before .before .before .before .args in
     let l = c .before .before .before .before .before .before .loop in
-    let m = c .before .before .before .before .share in
-    (omega (arith, m .ensures .1), more-traced (densitizeOf (kernelAt (a .kernels .now)) (a .n)) (a .points .now) (a .out .now) (l .at) (m .result) (l .inv .1) (omega (arith, m .ensures .1)) (c .before .before .block .ensures))
+    let m = c .before .before .before .before .share in (
+      omega (arith, m .ensures .1),
+      more-traced (densitizeOf (kernelAt (a .kernels .now)) (a .n)) (a .points .now) (a .out .now) (l .at) (m .result)
+          (l .inv .1) (omega (arith, m .ensures .1)) (c .before .before .block .ensures),
+    )
 
 returns : tie.Need-returns Inv-loop μ-loop
 returns c =

@@ -21,15 +21,19 @@ loop-holds c = (omega arith, refl, omega arith)
 
 add-sum : tie.Need-add-sum Inv-loop μ-loop
 add-sum c =
-    let h = c .before .before .before .before .before .pre .place (c .before .before .before .loop .i) (c .before .before .loop-test .taken) in
+    let h = c .before .before .before .before .before .pre .place (c .before .before .before .loop .i)
+    (c .before .before .loop-test .taken) in
     omega (arith, c .pieces .ensures, h .pieces, c .before .before .before .loop .inv)
 
 loop-again : tie.Need-loop-again Inv-loop μ-loop
 unfolding heldPieces
 loop-again c =
     let l = c .before .before .before .loop in
-    let h = c .before .before .before .before .before .pre .place (l .i) (c .before .before .loop-test .taken) in
-    (omega arith, rw (add-one, ← l .inv .1) (ap (λ (x : ℕ). l .sum + x) (c .pieces .ensures)), omega (arith, c .pieces .ensures, h .pieces))
+    let h = c .before .before .before .before .before .pre .place (l .i) (c .before .before .loop-test .taken) in (
+      omega arith,
+      rw (add-one, ← l .inv .1) (ap (λ (x : ℕ). l .sum + x) (c .pieces .ensures)),
+      omega (arith, c .pieces .ensures, h .pieces),
+    )
 
 returns : tie.Need-returns Inv-loop μ-loop
 returns c =

@@ -10,15 +10,20 @@ use Rattle.readings.proofs.listing.list_pieces.Tie as tie
 
 returns : tie.Need-returns
 returns c =
-    let a = c .before .before .before .before .before .before .before .before .before .before .args in
+    let c4 = c .before .before .before .before in
+    let a = c4 .before .before .before .before .before .before .args in
     let h = heldAll width (a .floats .now) (a .words .now) 32 in
-    rw (← c .before .before .before .before .scale-of .ensures) (listing-in (c .before .before .before .before .scale-of .result) h (a .out .now) (c .before .before .before .before .before .before .count-pieces .result) (c .before .before .before .before .before .before .count-pieces .ensures .0 ∙ sym (all-length width (a .floats .now) (a .words .now) 32)) (c .before .before .write-list .last .0) (c .before .before .before .before .before .if1 .taken) (c .before .before .write-list .ensures))
+    rw (← c4 .scale-of .ensures)
+    (listing-in (c4 .scale-of .result) h (a .out .now) (c4 .before .before .count-pieces .result)
+    (c4 .before .before .count-pieces .ensures .0 ∙ sym (all-length width (a .floats .now) (a .words .now) 32))
+    (c .before .before .write-list .last .0) (c4 .before .if1 .taken) (c .before .before .write-list .ensures))
 
 returns-2 : tie.Need-returns-2
 returns-2 c =
     let a = c .before .before .before .before .before .args in
     let h = heldAll width (a .floats .now) (a .words .now) 32 in
-    listing-out (applied (a .v) h) h (a .out .now) (c .before .count-pieces .result) (c .before .count-pieces .ensures .0 ∙ sym (all-length width (a .floats .now) (a .words .now) 32)) (c .if1 .left)
+    listing-out (applied (a .v) h) h (a .out .now) (c .before .count-pieces .result)
+    (c .before .count-pieces .ensures .0 ∙ sym (all-length width (a .floats .now) (a .words .now) 32)) (c .if1 .left)
 
 pub list-pieces-spec : {M : Type 1} → statement M
 list-pieces-spec =

@@ -16,9 +16,14 @@ abbrev μ-loop : tie.MeasureT-loop
 
 loop-again : tie.Need-loop-again Inv-loop μ-loop
 loop-again c =
-    let a = c .before .before .before .before .before .before .before .before .before .args in
-    let l = c .before .before .before .before .before .before .loop in
-    (omega arith, piece-listed (a .out .now) (a .at) (a .s) (a .floats .now) (a .i) (l .j) (l .out) (c .before .before .write-six .last .0) (l .inv .1) (omega arith) (rw (c .before .before .before .before .rescaled-at .ensures) at (c .before .before .write-six .ensures)))
+    let c4 = c .before .before .before .before in
+    let a = c4 .before .before .before .before .before .args in
+    let l = c4 .before .before .loop in (
+      omega arith,
+      piece-listed (a .out .now) (a .at) (a .s) (a .floats .now) (a .i) (l .j) (l .out)
+          (c .before .before .write-six .last .0) (l .inv .1) (omega arith)
+          (rw (c4 .rescaled-at .ensures) at (c .before .before .write-six .ensures)),
+    )
 
 returns : tie.Need-returns Inv-loop μ-loop
 returns c =

@@ -11,7 +11,8 @@ use Rattle.readings.proofs.lists.write_list.Statement.{statement}
 use Rattle.readings.proofs.lists.write_list.Tie as tie
 
 abbrev Inv-loop : tie.InvT-loop
-Inv-loop out₀ f w faces s at₀ i₀ out at i = (i ≤ 32) × (at ≡ 6 * heldPieces width w i) × Listed out₀ 0 (rescaledSixes s (heldAll width f w i)) out
+Inv-loop out₀ f w faces s at₀ i₀ out at i =
+    (i ≤ 32) × (at ≡ 6 * heldPieces width w i) × Listed out₀ 0 (rescaledSixes s (heldAll width f w i)) out
 
 abbrev μ-loop : tie.MeasureT-loop
 μ-loop out₀ f w faces s at₀ i₀ out at i = 32 - i
@@ -26,13 +27,19 @@ place-list-requires c κs =
     let l = c .before .before .before .before .loop in
     let h = z .pre .1 .0 .place (l .i) (c .before .before .before .loop-test .taken) in
     let m = count-mono width (z .args .words .now) (l .i + 1) 32 (omega arith) in
-    let n = count-next width (z .args .words .now) (l .i) in
-    (z .pre .0, c .before .before .before .loop-test .taken, omega (arith, c .before .pieces .ensures, h .pieces), omega (arith, c .before .pieces .ensures, l .inv .1, l .inv .2 .long, z .pre .1 .1))
+    let n = count-next width (z .args .words .now) (l .i) in (
+      z .pre .0,
+      c .before .before .before .loop-test .taken,
+      omega (arith, c .before .pieces .ensures, h .pieces),
+      omega (arith, c .before .pieces .ensures, l .inv .1, l .inv .2 .long, z .pre .1 .1),
+    )
 
 mul-at : tie.Need-mul-at Inv-loop μ-loop
 mul-at c =
-    let h = c .before .before .before .before .before .before .before .before .before .before .before .pre .1 .0 .place (c .before .before .before .before .before .before .before .loop .i) (c .before .before .before .before .before .before .loop-test .taken) in
-    omega (arith, c .before .before .before .before .pieces .ensures, h .pieces)
+    let c4 = c .before .before .before .before in
+    let h = c4 .before .before .before .before .before .before .before .pre .1 .0 .place
+    (c4 .before .before .before .loop .i) (c4 .before .before .loop-test .taken) in
+    omega (arith, c4 .pieces .ensures, h .pieces)
 
 add-at : tie.Need-add-at Inv-loop μ-loop
 add-at c =
@@ -44,12 +51,18 @@ add-at c =
 
 loop-again : tie.Need-loop-again Inv-loop μ-loop
 loop-again c =
-    let z = c .before .before .before .before .before .before .before .before .before .before .before in
+    let c4 = c .before .before .before .before in
+    let z = c4 .before .before .before .before .before .before .before in
     let a = z .args in
-    let l = c .before .before .before .before .before .before .before .loop in
+    let l = c4 .before .before .before .loop in
     let m = count-mono width (z .args .words .now) (l .i + 1) 32 (omega arith) in
-    let n = count-next width (z .args .words .now) (l .i) in
-    (omega arith, omega (arith, c .before .before .before .before .pieces .ensures, l .inv .1), place-listed (a .out .now) (a .s) width (a .floats .now) (a .words .now) (l .i) (l .out) (c .before .before .place-list .last .0) (l .inv .2) (omega (arith, z .pre .1 .1)) (rw (l .inv .1, c .before .before .before .before .pieces .ensures) at (c .before .before .place-list .ensures)))
+    let n = count-next width (z .args .words .now) (l .i) in (
+      omega arith,
+      omega (arith, c4 .pieces .ensures, l .inv .1),
+      place-listed (a .out .now) (a .s) width (a .floats .now) (a .words .now) (l .i) (l .out)
+          (c .before .before .place-list .last .0) (l .inv .2) (omega (arith, z .pre .1 .1))
+          (rw (l .inv .1, c4 .pieces .ensures) at (c .before .before .place-list .ensures)),
+    )
 
 returns : tie.Need-returns Inv-loop μ-loop
 returns c =

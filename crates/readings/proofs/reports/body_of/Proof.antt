@@ -13,7 +13,8 @@ use Rattle.readings.proofs.reports.body_of.Tie as tie
 volume-from-requires : tie.Need-volume-from-requires
 volume-from-requires c κs =
     let z = c .before .before .before .before in
-    let m = mesh-ready (z .args .floats .now) (z .args .words .now) (z .args .verts) (z .args .faces) (z .pre) 0 (z .args .faces) (omega arith) in
+    let m = mesh-ready (z .args .floats .now) (z .args .words .now) (z .args .verts) (z .args .faces) (z .pre) 0
+    (z .args .faces) (omega arith) in
     (m .0, (omega arith, omega (arith, m .1)))
 
 returns : tie.Need-returns

@@ -10,9 +10,20 @@ use Rattle.readings.proofs.reports.report_seen.Tie as tie
 
 returns : tie.Need-returns
 returns c =
-    let a = c .before .before .before .before .before .before .before .before .args in
+    let c4 = c .before .before .before .before in
+    let a = c4 .before .before .before .before .args in
     let h = heldAll width (a .floats .now) (a .seen .now) 32 in
-    rw (mass-sum h, origin-sum h, ← c .before .before .before .before .before .raw-mass .ensures, ← c .before .before .before .before .origin-density .ensures, ← c .before .before .before .report-of .ensures, all-length width (a .floats .now) (a .seen .now) 32, ← c .before .count-pieces .ensures .0, ← c .before .before .count-filled .ensures .0, ← c .worst-error .ensures) refl
+    rw (
+      mass-sum h,
+      origin-sum h,
+      ← c4 .before .raw-mass .ensures,
+      ← c4 .origin-density .ensures,
+      ← c .before .before .before .report-of .ensures,
+      all-length width (a .floats .now) (a .seen .now) 32,
+      ← c .before .count-pieces .ensures .0,
+      ← c .before .before .count-filled .ensures .0,
+      ← c .worst-error .ensures,
+    ) refl
 
 pub report-seen-spec : {M : Type 1} → statement M
 report-seen-spec =

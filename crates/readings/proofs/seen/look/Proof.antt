@@ -8,7 +8,9 @@ returns : tie.Need-returns
 returns c = rw (sym (c .before .shows .ensures) ∙ c .if1 .taken) refl
 
 returns-2 : tie.Need-returns-2
-returns-2 c = rw (sym (c .before .before .before .before .before .shows .ensures) ∙ c .before .before .before .before .if1 .left) (c .before .before .zero-words .ensures)
+returns-2 c =
+    let c4 = c .before .before .before .before in
+    rw (sym (c4 .before .shows .ensures) ∙ c4 .if1 .left) (c .before .before .zero-words .ensures)
 
 pub look-spec : {M : Type 1} → statement M
 look-spec =

@@ -23,20 +23,25 @@ copy-words-requires c κs =
 
 loop-holds : tie.Need-loop-holds Inv-loop μ-loop
 loop-holds c =
-    let a = c .before .before .before .before .before .args in
-    none-looked (a .layers) (a .only) (a .words .now) (c .before .before .before .before .before .pre .long) _ _ (length-replicate {A = ℕ} 130 0) (c .before .copy-words .ensures)
+    let c5 = c .before .before .before .before .before in
+    let a = c5 .args in
+    none-looked (a .layers) (a .only) (a .words .now) (c5 .pre .long) _ _ (length-replicate {A = ℕ} 130 0)
+    (c .before .copy-words .ensures)
 
 look-requires : tie.Need-look-requires Inv-loop μ-loop
 look-requires c κs =
+    let c8 = c .before .before .before .before .before .before .before .before in
     let l = c .before .before .loop in
     let h = c .before .loop-test .taken in
-    (c .before .before .before .before .before .before .before .before .pre .long, (omega (arith, l .inv .size), (h, c .before .before .before .before .before .before .before .before .pre .layer (l .i) h)))
+    (c8 .pre .long, (omega (arith, l .inv .size), (h, c8 .pre .layer (l .i) h)))
 
 loop-again : tie.Need-loop-again Inv-loop μ-loop
 loop-again c =
-    let a = c .before .before .before .before .before .before .before .before .before .before .args in
+    let c10 = c .before .before .before .before .before .before .before .before .before .before in
+    let a = c10 .args in
     let l = c .before .before .before .before .loop in
-    next-looked (a .layers) (a .only) (a .words .now) (c .before .before .before .before .before .before .before .before .before .before .pre .long) (l .i) (l .inv) (c .before .before .before .loop-test .taken) (c .before .look .ensures)
+    next-looked (a .layers) (a .only) (a .words .now) (c10 .pre .long) (l .i) (l .inv)
+    (c .before .before .before .loop-test .taken) (c .before .look .ensures)
 
 returns : tie.Need-returns Inv-loop μ-loop
 returns c =
@@ -51,7 +56,8 @@ places-spec =
     Inv-loop
     μ-loop
     (λ c. search needs)
-    (λ c. sym (length-take-le {A = ℕ} 130 (c .before .before .before .args .words .now) (c .before .before .before .pre .long)))
+    (λ c. sym
+    (length-take-le {A = ℕ} 130 (c .before .before .before .args .words .now) (c .before .before .before .pre .long)))
     copy-words-requires
     loop-holds
     (λ c. sym (c .before .before .loop .inv .size))

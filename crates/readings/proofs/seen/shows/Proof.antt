@@ -13,7 +13,8 @@ returns c = rw (not-true (c .before .before .before .before .args .only) (c .if1
 returns-2 : tie.Need-returns-2
 returns-2 c =
     let a = c .before .before .before .before .before .before .args in
-    rw (not-false (a .only) (c .before .before .if1 .left), sym (c .before .complete .ensures) ∙ c .if2 .taken) (c .before .before .before .in-set .ensures)
+    rw (not-false (a .only) (c .before .before .if1 .left), sym (c .before .complete .ensures) ∙ c .if2 .taken)
+    (c .before .before .before .in-set .ensures)
 
 returns-3 : tie.Need-returns-3
 returns-3 c =

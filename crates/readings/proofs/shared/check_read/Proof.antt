@@ -10,7 +10,9 @@ use Rattle.readings.proofs.shared.check_read.Tie as tie
 
 -- the work is not needed
 returns : tie.Need-returns
-returns c = check-idle width _ _ _ (c .before .before .before .check-seen .ensures) _ (c .before .enum-told .given .1) (not-true _ (c .if1 .taken))
+returns c =
+    check-idle width _ _ _ (c .before .before .before .check-seen .ensures) _ (c .before .enum-told .given .1)
+    (not-true _ (c .if1 .taken))
 
 -- 4, 5 or 16
 returns-2 : tie.Need-returns-2
@@ -18,12 +20,16 @@ returns-2 c = check-failed width _ _ _ (c .before .before .before .check-seen .e
 
 returns-3 : tie.Need-returns-3
 returns-3 c =
-    check-work width _ _ _ (c .before .before .before .before .before .before .check-seen .ensures) _ _ _ (c .before .before .before .before .enum-told .given .1) (not-false _ (c .before .before .before .if1 .left)) (c .before .before .word .ensures)
+    let c4 = c .before .before .before .before in
+    check-work width _ _ _ (c4 .before .before .check-seen .ensures) _ _ _ (c4 .enum-told .given .1)
+    (not-false _ (c .before .before .before .if1 .left)) (c .before .before .word .ensures)
     (sym (c .if2 .taken) ∙ c .before .unfinished .ensures)
 
 returns-4 : tie.Need-returns-4
 returns-4 c =
-    check-work width _ _ _ (c .before .before .before .before .before .before .check-seen .ensures) _ _ _ (c .before .before .before .before .enum-told .given .1) (not-false _ (c .before .before .before .if1 .left)) (c .before .before .word .ensures)
+    let c4 = c .before .before .before .before in
+    check-work width _ _ _ (c4 .before .before .check-seen .ensures) _ _ _ (c4 .enum-told .given .1)
+    (not-false _ (c .before .before .before .if1 .left)) (c .before .before .word .ensures)
     (sym (c .if2 .left) ∙ c .before .unfinished .ensures)
 
 pub check-read-spec : {M : Type 1} → statement M
@@ -34,8 +40,13 @@ check-read-spec =
     (λ c. search needs)
     (λ c. search needs)
     returns
-    (λ c κs. omega (arith, check-fine width _ _ _ (c .before .before .before .check-seen .ensures) (c .before .enum-told .given .1) .places))
-    (λ c κs. rw (c .word .ensures) (check-fine width _ _ _ (c .before .before .before .before .check-seen .ensures) (c .before .before .enum-told .given .1) .places))
+    (λ c κs. omega (
+      arith,
+      check-fine width _ _ _ (c .before .before .before .check-seen .ensures) (c .before .enum-told .given .1) .places,
+    ))
+    (λ c κs. rw (c .word .ensures)
+    (check-fine width _ _ _ (c .before .before .before .before .check-seen .ensures)
+    (c .before .before .enum-told .given .1) .places))
     returns-2
     returns-3
     returns-4)

@@ -8,7 +8,8 @@ returns : tie.Need-returns
 returns c = rw (← c .before .before .before .check-store .ensures, c .before .r .given .1) refl
 
 returns-2 : tie.Need-returns-2
-returns-2 c = rw (← c .before .before .before .check-store .ensures, c .before .enum-told .given .1) (c .check-layers .ensures)
+returns-2 c =
+    rw (← c .before .before .before .check-store .ensures, c .before .enum-told .given .1) (c .check-layers .ensures)
 
 pub check-seen-spec : {M : Type 1} → statement M
 check-seen-spec =

@@ -12,7 +12,8 @@ unfolding appliedScale
 returns c =
     let a = c .before .before .before .before .before .args in
     let h = heldAll width (a .floats .now) (a .words .now) 32 in
-    rw (origin-sum h, ← c .before .origin-density .ensures, ← c .before .before .bulk-of .ensures) (c .rho0-scale .ensures)
+    rw (origin-sum h, ← c .before .origin-density .ensures, ← c .before .before .bulk-of .ensures)
+    (c .rho0-scale .ensures)
 
 pub scale-by-rho0-spec : {M : Type 1} → statement M
 scale-by-rho0-spec =

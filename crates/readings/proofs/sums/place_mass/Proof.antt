@@ -18,8 +18,15 @@ abbrev μ-loop : tie.MeasureT-loop
 loop-again : tie.Need-loop-again Inv-loop μ-loop
 loop-again c =
     let a = c .before .before .before .before .before .before .args in
-    let l = c .before .before .before .before .loop in
-    (omega arith, rw (piece-more massStep (a .floats .now) (a .i) (l .j) (a .start), ← l .inv .1, c .before .before .piece-at .ensures) refl)
+    let l = c .before .before .before .before .loop in (
+      omega arith,
+      rw (
+        piece-more massStep (a .floats .now) (a .i) (l .j) (a .start),
+        ← l .inv .1,
+        c .before .before .piece-at .ensures,
+      )
+          refl,
+    )
 
 returns : tie.Need-returns Inv-loop μ-loop
 returns c =

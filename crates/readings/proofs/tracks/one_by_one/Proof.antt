@@ -21,8 +21,11 @@ abbrev μ-loop : tie.MeasureT-loop
 loop-again : tie.Need-loop-again Inv-loop μ-loop
 loop-again c =
     let l = c .before .before .before .before .before .loop in
-    let a = c .before .before .before .before .before .before .before .before .before .before .args in
-    (omega arith, one-traced _ _ _ _ (l .inv .1) (omega arith) (c .density-sum .ensures ∙ sym (scaled-sum (a .s) _ (heldAll width (a .floats .now) (a .words .now) 32))))
+    let a = c .before .before .before .before .before .before .before .before .before .before .args in (
+      omega arith,
+      one-traced _ _ _ _ (l .inv .1) (omega arith)
+          (c .density-sum .ensures ∙ sym (scaled-sum (a .s) _ (heldAll width (a .floats .now) (a .words .now) 32))),
+    )
 
 returns : tie.Need-returns Inv-loop μ-loop
 returns c =

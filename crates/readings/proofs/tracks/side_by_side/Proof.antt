@@ -1,4 +1,5 @@
--- `readings::tracks::side_by_side` meets its contract: the pieces that are laid down have the pieces' density. Assumes nothing.
+-- `readings::tracks::side_by_side` meets its contract: the pieces that are laid down have the pieces' density. Assumes
+-- nothing.
 use mathlib.Core.Path.{sym, ap, _∙_}
 use mathlib.Core.List.{List, map}
 use native.Mathlib.Omega.{arith}
@@ -24,13 +25,18 @@ write-list-requires c κs =
 
 returns : tie.Need-returns
 returns c =
-    let a = c .before .before .before .before .before .before .before .before .before .before .before .before .before .args in
-    let n = c .before .before .before .before .before .before .before .before .count-pieces in
+    let c6 = c .before .before .before .before .before .before in
+    let c13 = c6 .before .before .before .before .before .before .before in
+    let a = c13 .args in
+    let n = c6 .before .before .count-pieces in
     let h = heldAll width (a .floats .now) (a .words .now) 32 in
-    let l = c .before .before .before .before .before .before .write-list in
+    let l = c6 .write-list in
     c .before .before .densities .ensures
     ∙ ap (write (a .out .now) 0)
-    (stretch-same _ (densityAt (map (rescaled (a .s)) (map bare h))) (λ x. ap (λ (ks : List Float). densitizeOf (kernelAt ks) (n .result) x) (l .ensures) ∙ rescaled-density _ (a .s) h (n .result) (n .ensures .0 ∙ sym (all-length width (a .floats .now) (a .words .now) 32)) x) (a .points .now) 0 (a .count))
+    (stretch-same _ (densityAt (map (rescaled (a .s)) (map bare h)))
+    (λ x. ap (λ (ks : List Float). densitizeOf (kernelAt ks) (n .result) x) (l .ensures)
+    ∙ rescaled-density _ (a .s) h (n .result)
+    (n .ensures .0 ∙ sym (all-length width (a .floats .now) (a .words .now) 32)) x) (a .points .now) 0 (a .count))
 
 pub side-by-side-spec : {M : Type 1} → statement M
 side-by-side-spec =

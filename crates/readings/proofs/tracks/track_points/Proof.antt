@@ -18,12 +18,15 @@ trace-requires c κs =
 returns : tie.Need-returns
 returns c =
     let a = c .before .before .before .before .before .before .before .before .args in
-    track-out (a .s) (map bare (heldAll width (a .floats .now) (a .words .now) 32)) (a .points .now) (a .out .now) _ (sym (c .before .before .before .check-track .ensures) ∙ c .before .r .given .1)
+    track-out (a .s) (map bare (heldAll width (a .floats .now) (a .words .now) 32)) (a .points .now) (a .out .now) _
+    (sym (c .before .before .before .check-track .ensures) ∙ c .before .r .given .1)
 
 returns-2 : tie.Need-returns-2
 returns-2 c =
-    let a = c .before .before .before .before .before .before .before .before .before .before .before .args in
-    track-in (a .s) (map bare (heldAll width (a .floats .now) (a .words .now) 32)) (a .points .now) (a .out .now) _ (sym (c .before .before .before .before .before .before .check-track .ensures) ∙ c .before .before .before .before .enum-told .given .1) (c .before .before .trace .ensures)
+    let c4 = c .before .before .before .before in
+    let a = c4 .before .before .before .before .before .before .before .args in
+    track-in (a .s) (map bare (heldAll width (a .floats .now) (a .words .now) 32)) (a .points .now) (a .out .now) _
+    (sym (c4 .before .before .check-track .ensures) ∙ c4 .enum-told .given .1) (c .before .before .trace .ensures)
 
 pub track-points-spec : {M : Type 1} → statement M
 track-points-spec =
@@ -33,7 +36,9 @@ track-points-spec =
     (λ c. search needs)
     (λ c. search needs)
     trace-requires
-    (λ c. omega (arith, trackable _ _ (sym (c .before .before .before .before .before .before .check-track .ensures) ∙ c .before .before .before .before .enum-told .given .1) .few))
+    (λ c.
+    let c4 = c .before .before .before .before in
+    omega (arith, trackable _ _ (sym (c4 .before .before .check-track .ensures) ∙ c4 .enum-told .given .1) .few))
     returns
     (λ c. search needs)
     returns-2)

@@ -18,4 +18,5 @@ returns c z =
     (small (a .result) _ _ (a .ensures) (m .0) z, small (b .result) _ _ (b .ensures) (m .1) z)
 
 pub apart-spec : {M : Type 1} → statement M
-apart-spec = tie.close (tie.spec (λ c. search needs) (λ c κs. search needs) (λ c. search needs) (λ c κs. search needs) returns)
+apart-spec =
+    tie.close (tie.spec (λ c. search needs) (λ c κs. search needs) (λ c. search needs) (λ c κs. search needs) returns)

@@ -12,7 +12,9 @@ use Rattle.root.proofs.Checks.{sound}
 use Rattle.root.proofs.lanes.check.Statement.{statement}
 use Rattle.root.proofs.lanes.check.Tie as tie
 
-squares : (g : ℕ) → g < 2 ^ 53 → (g / 67108864 * (g / 67108864) ≤ 2 ^ 54) × (g / 67108864 * bitAnd g 67108863 ≤ 2 ^ 53) × (bitAnd g 67108863 * bitAnd g 67108863 ≤ 2 ^ 52)
+squares : (g : ℕ) → g < 2 ^ 53
+    → (g / 67108864 * (g / 67108864) ≤ 2 ^ 54) × (g / 67108864 * bitAnd g 67108863 ≤ 2 ^ 53)
+    × (bitAnd g 67108863 * bitAnd g 67108863 ≤ 2 ^ 52)
 squares g h = let p = parts-small g h in (mul-le-mul (p .0) (p .0), mul-le-mul (p .0) (p .1), mul-le-mul (p .1) (p .1))
 
 least : (g w : ℕ) → 2 ^ 52 ≤ g → 2 ^ 52 ≤ g + w / 2 ^ 63
@@ -68,6 +70,11 @@ check-spec =
     (λ c. omega (arith, squares (c .before .before .args .g) (c .before .before .pre .1)))
     (λ c κs. search needs)
     (λ c κs. search needs)
-    (λ c. record { fits = lt-of-le-of-lt (most (c .before .before .before .before .args .g) (c .wrapping-sub-u644 .result) (c .before .before .before .before .pre .1) (c .wrapping-sub-u644 .ok)) (lit< tt) })
+    (λ c. record {
+      fits =
+          lt-of-le-of-lt
+          (most (c .before .before .before .before .args .g) (c .wrapping-sub-u644 .result)
+          (c .before .before .before .before .pre .1) (c .wrapping-sub-u644 .ok)) (lit< tt);
+    })
     (λ c κs. search needs)
     returns)

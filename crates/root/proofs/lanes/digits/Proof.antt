@@ -12,4 +12,7 @@ digits-spec =
     (tie.spec
     (λ c κs. one-no-nan)
     (λ c. c .at-least .ensures .0)
-    (λ c. (omega (arith, guessed (toBits binary64 (c .at-least .result))), omega (arith, guessed (toBits binary64 (c .at-least .result))))))
+    (λ c. (
+      omega (arith, guessed (toBits binary64 (c .at-least .result))),
+      omega (arith, guessed (toBits binary64 (c .at-least .result))),
+    )))

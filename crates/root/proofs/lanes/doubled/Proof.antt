@@ -12,4 +12,5 @@ doubled-spec =
     (tie.spec
     (λ c κs. search needs)
     (λ c. omega (arith, and-le-l (c .before .args .sig) (c .wrapping-sub-u64 .result)))
-    (λ c. double (c .before .args .sig) (c .before .args .odd) (c .wrapping-sub-u64 .result) (c .before .pre .0) (c .before .pre .1) (c .wrapping-sub-u64 .ok) (c .wrapping-sub-u64 .ensures)))
+    (λ c. double (c .before .args .sig) (c .before .args .odd) (c .wrapping-sub-u64 .result) (c .before .pre .0)
+    (c .before .pre .1) (c .wrapping-sub-u64 .ok) (c .wrapping-sub-u64 .ensures)))

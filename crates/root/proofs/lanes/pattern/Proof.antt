@@ -11,4 +11,5 @@ pattern-spec =
     (tie.spec
     (λ c κs. zero-no-nan)
     (λ c. c .at-least .ensures .0)
-    (λ c. raised-bits (c .before .args .x) (c .at-least .result) (subst T (sym (c .before .good .0 .1)) tt) (c .at-least .ensures .1)))
+    (λ c. raised-bits (c .before .args .x) (c .at-least .result) (subst T (sym (c .before .good .0 .1)) tt)
+    (c .at-least .ensures .1)))

@@ -20,8 +20,10 @@ returns c =
     let e = a .ensures .0 in (
       unit-within (a .result .digits) (e .0) (e .1),
       λ y z.
-          let k = near-enough (g .result) (a .result .rest) (a .result .short) (g .ensures .0) (g .ensures .1) (e .2) (e .3) (e .4) (subst (λ (n : ℕ). n < 2 ^ 54) (w .ensures) z) in
-          unit-root (i .args .f) (a .result .digits) (subst T (sym (i .good .0 .1)) tt) (i .pre) (a .ensures .1 y (k .0) (k .1)),
+          let k = near-enough (g .result) (a .result .rest) (a .result .short) (g .ensures .0) (g .ensures .1) (e .2)
+          (e .3) (e .4) (subst (λ (n : ℕ). n < 2 ^ 54) (w .ensures) z) in
+          unit-root (i .args .f) (a .result .digits) (subst T (sym (i .good .0 .1)) tt) (i .pre)
+          (a .ensures .1 y (k .0) (k .1)),
     )
 
 pub unit-lane-spec : {M : Type 1} → statement M
@@ -33,6 +35,7 @@ unit-lane-spec =
     (λ c κs. search needs)
     (λ c κs. search needs)
     (λ c. omega (arith, c .before .check .ensures .0 .1))
-    (λ c. no-nan-below (4602678819172646912 + c .before .check .result .digits) (omega (arith, c .before .check .ensures .0 .1)))
+    (λ c. no-nan-below (4602678819172646912 + c .before .check .result .digits)
+    (omega (arith, c .before .check .ensures .0 .1)))
     (λ c κs. search needs)
     returns)

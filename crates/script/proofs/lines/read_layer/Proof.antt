@@ -15,12 +15,14 @@ returns c =
 
 returns-2 : tie.Need-returns-2
 returns-2 c =
-    let a = c .before .before .before .before .before .before .before .before .before .args in
-    let b = c .before .before .before .before .before .before .read-bytes in
+    let c5 = c .before .before .before .before .before in
+    let a = c5 .before .before .before .before .args in
+    let b = c5 .before .read-bytes in
     let w = c .before .before .before .read-bytes2 .ensures in
     let n = c .before .before .read-u32 .ensures ∙ (λ i. decimal (2 ^ 32 - 1) (w i)) in
     let e = c .read-bytes3 .ensures ∙ (λ i. literal (bytes "))") (n i .text)) in
-    second-end (a .s .now) (a .at) (b .result) (b .ensures) (c .before .before .before .before .before .if1 .left) _ _ (λ i. record { val = n i .val; text = e i })
+    second-end (a .s .now) (a .at) (b .result) (b .ensures) (c5 .if1 .left) _ _
+    (λ i. record { val = n i .val; text = e i })
 
 pub read-layer-spec : {M : Type 1} → statement M
 read-layer-spec =

@@ -12,9 +12,17 @@ use Rattle.script.proofs.lines.read_put.Tie as tie
 returns : tie.Need-returns
 returns c =
     let p = c .before .before .before .put-start .ensures in
-    let l = c .before .before .read-layer .ensures ∙ (λ i. map layerNamed (read (either putEnd layerEnd end) (p i .text))) in
+    let l = c .before .before .read-layer .ensures
+    ∙ (λ i. map layerNamed (read (either putEnd layerEnd end) (p i .text))) in
     let e = c .read-bytes .ensures ∙ (λ i. literal (bytes "\n") (l i .text)) in
-    (λ i. record { val = p i .val .0 & p i .val .1 .0 & p i .val .1 .1 .0 & p i .val .1 .1 .1 .0 & p i .val .1 .1 .1 .1 .0 & p i .val .1 .1 .1 .1 .1 .0 & p i .val .1 .1 .1 .1 .1 .1 .0 & l i .val & tt; text = e i })
+    (λ i. record {
+      val =
+          p i .val .0 & p i .val .1 .0 & p i .val .1 .1 .0 & p i .val .1 .1 .1 .0 & p i .val .1 .1 .1 .1 .0
+          & p i .val .1 .1 .1 .1 .1 .0 & p i .val .1 .1 .1 .1 .1 .1 .0 & l i .val & tt;
+      text = e i;
+    })
 
 pub read-put-spec : {M : Type 1} → statement M
-read-put-spec = tie.close (tie.spec (λ c κs. search needs) (λ c κs. search needs) (λ c. search needs) (λ c κs. search needs) returns)
+read-put-spec =
+    tie.close
+    (tie.spec (λ c κs. search needs) (λ c κs. search needs) (λ c. search needs) (λ c κs. search needs) returns)

@@ -22,8 +22,11 @@ returns c =
     let t = rest (a .s .now) (a .at) in
     let xs = coordsIn (linesFrom vertLine (a .n) t .val) in (
       l .ensures .0,
-      l .ensures .1 ∙ sets-write xs (z .last .0) 1761 (omega (arith, coords-count (a .n) t, simp length-set at (z .kept .0)))
-          ∙ rw (z .ensures, sets-write (a .radius ∷ []) (a .floats .now) 0 (omega arith)) (laid (a .floats .now) (a .radius ∷ []) (replicate 1760 +0) xs 1761 refl (omega (arith, coords-count (a .n) t))),
+      l .ensures .1
+          ∙ sets-write xs (z .last .0) 1761 (omega (arith, coords-count (a .n) t, simp length-set at (z .kept .0)))
+          ∙ rw (z .ensures, sets-write (a .radius ∷ []) (a .floats .now) 0 (omega arith))
+          (laid (a .floats .now) (a .radius ∷ []) (replicate 1760 +0) xs 1761 refl
+          (omega (arith, coords-count (a .n) t))),
     )
 
 pub load-floats-spec : {M : Type 1} → statement M

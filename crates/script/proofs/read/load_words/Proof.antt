@@ -21,8 +21,11 @@ returns c =
     let t = rest (a .s .now) (a .at) in
     let xs = cornersIn (linesFrom faceLine (a .faces) t .val) in (
       l .ensures .0,
-      l .ensures .1 ∙ sets-write xs (z .last .0) 130 (omega (arith, corners-count (a .faces) t, simp length-set at (z .kept .0)))
-          ∙ rw (z .ensures, sets-write (a .verts ∷ a .faces ∷ []) (a .words .now) 0 (omega arith)) (laid (a .words .now) (a .verts ∷ a .faces ∷ []) (replicate 128 0) xs 130 refl (omega (arith, corners-count (a .faces) t))),
+      l .ensures .1
+          ∙ sets-write xs (z .last .0) 130 (omega (arith, corners-count (a .faces) t, simp length-set at (z .kept .0)))
+          ∙ rw (z .ensures, sets-write (a .verts ∷ a .faces ∷ []) (a .words .now) 0 (omega arith))
+          (laid (a .words .now) (a .verts ∷ a .faces ∷ []) (replicate 128 0) xs 130 refl
+          (omega (arith, corners-count (a .faces) t))),
     )
 
 pub load-words-spec : {M : Type 1} → statement M

@@ -8,8 +8,21 @@ use Rattle.script.proofs.write.face_length.Tie as tie
 
 returns : tie.Need-returns
 returns c =
-    let a = c .before .before .before .args in
-    (omega (arith, face-bytes (a .a) (a .b) (a .c), c .decimal-length3 .ensures .0, c .before .decimal-length2 .ensures .0, c .before .before .decimal-length .ensures .0), omega (arith, c .decimal-length3 .ensures .1, c .before .decimal-length2 .ensures .1, c .before .before .decimal-length .ensures .1))
+    let a = c .before .before .before .args in (
+      omega (
+        arith,
+        face-bytes (a .a) (a .b) (a .c),
+        c .decimal-length3 .ensures .0,
+        c .before .decimal-length2 .ensures .0,
+        c .before .before .decimal-length .ensures .0,
+      ),
+      omega (
+        arith,
+        c .decimal-length3 .ensures .1,
+        c .before .decimal-length2 .ensures .1,
+        c .before .before .decimal-length .ensures .1,
+      ),
+    )
 
 pub face-length-spec : {M : Type 1} → statement M
 face-length-spec =

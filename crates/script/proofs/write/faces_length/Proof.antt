@@ -15,24 +15,37 @@ use Rattle.script.proofs.write.faces_length.Statement.{statement}
 use Rattle.script.proofs.write.faces_length.Tie as tie
 
 abbrev Inv-loop : tie.InvT-loop
-Inv-loop w n sum₀ i₀ sum i = (i ≤ n) × (sum ≤ 70 * i) × (sum + length (faceRows width w (n - i) i) ≡ length (faceRows width w n 0))
+Inv-loop w n sum₀ i₀ sum i =
+    (i ≤ n) × (sum ≤ 70 * i) × (sum + length (faceRows width w (n - i) i) ≡ length (faceRows width w n 0))
 
 abbrev μ-loop : tie.MeasureT-loop
 μ-loop w n sum₀ i₀ sum i = n - i
 
 loop-again : tie.Need-loop-again Inv-loop μ-loop
 loop-again c =
-    let a = c .before .before .before .before .before .before .before .args in
-    let l = c .before .before .before .before .before .loop in
+    let c4 = c .before .before .before .before in
+    let a = c4 .before .before .before .args in
+    let l = c4 .before .loop in
     let t = faceRows width (a .words .now) (a .n - (l .i + 1)) (l .i + 1) in
-    let e = c .face-length .ensures in
-    (omega arith, omega (arith, e .1, l .inv .1), omega (arith, e .0, l .inv .2, ap length (faces-more width (a .words .now) (a .n) (l .i) (c .before .before .before .before .loop-test .taken)), length-append (print faceLine (faceAt width (a .words .now) (l .i))) t))
+    let e = c .face-length .ensures in (
+      omega arith,
+      omega (arith, e .1, l .inv .1),
+      omega (
+        arith,
+        e .0,
+        l .inv .2,
+        ap length (faces-more width (a .words .now) (a .n) (l .i) (c4 .loop-test .taken)),
+        length-append (print faceLine (faceAt width (a .words .now) (l .i))) t,
+      ),
+    )
 
 returns : tie.Need-returns Inv-loop μ-loop
 returns c =
     let a = c .before .before .before .args in
-    let l = c .before .loop in
-    (omega (arith, l .inv .2, ap length (faces-none width (a .words .now) (a .n) (l .i) (c .loop-test .left))), omega (arith, l .inv .1))
+    let l = c .before .loop in (
+      omega (arith, l .inv .2, ap length (faces-none width (a .words .now) (a .n) (l .i) (c .loop-test .left))),
+      omega (arith, l .inv .1),
+    )
 
 pub faces-length-spec : {M : Type 1} → statement M
 faces-length-spec =

@@ -10,7 +10,14 @@ use Rattle.script.proofs.write.lines_length.Tie as tie
 returns : tie.Need-returns
 returns c =
     let a = c .before .before .before .before .before .args in
-    λ fs. omega (arith, c .puts-length .ensures .1 fs, c .before .faces-length .ensures .0, c .before .before .decimal-length2 .ensures .0, c .before .before .before .decimal-length .ensures .0, lines-bytes width fs (a .words .now) (a .verts) (a .faces))
+    λ fs. omega (
+      arith,
+      c .puts-length .ensures .1 fs,
+      c .before .faces-length .ensures .0,
+      c .before .before .decimal-length2 .ensures .0,
+      c .before .before .before .decimal-length .ensures .0,
+      lines-bytes width fs (a .words .now) (a .verts) (a .faces),
+    )
 
 pub lines-length-spec : {M : Type 1} → statement M
 lines-length-spec =

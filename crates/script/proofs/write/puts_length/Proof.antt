@@ -14,7 +14,9 @@ use Rattle.script.proofs.write.puts_length.Statement.{statement}
 use Rattle.script.proofs.write.puts_length.Tie as tie
 
 abbrev Inv-loop : tie.InvT-loop
-Inv-loop w sum₀ i₀ sum i = (i ≤ 32) × (sum ≤ 182 * i) × ((fs : List Float) → sum + length (putRows width fs w (32 - i) i) ≡ length (putRows width fs w 32 0))
+Inv-loop w sum₀ i₀ sum i =
+    (i ≤ 32) × (sum ≤ 182 * i)
+    × ((fs : List Float) → sum + length (putRows width fs w (32 - i) i) ≡ length (putRows width fs w 32 0))
 
 abbrev μ-loop : tie.MeasureT-loop
 μ-loop w sum₀ i₀ sum i = 32 - i
@@ -23,14 +25,26 @@ loop-again : tie.Need-loop-again Inv-loop μ-loop
 loop-again c =
     let a = c .before .before .before .before .args in
     let l = c .before .before .loop in
-    let e = c .row-length .ensures in
-    (omega arith, omega (arith, e .0, l .inv .1), λ fs. omega (arith, e .1 fs, l .inv .2 fs, ap length (puts-more width fs (a .words .now) 32 (l .i) (c .before .loop-test .taken)), length-append (putRow width fs (a .words .now) (l .i)) (putRows width fs (a .words .now) (32 - (l .i + 1)) (l .i + 1))))
+    let e = c .row-length .ensures in (
+      omega arith,
+      omega (arith, e .0, l .inv .1),
+      λ fs. omega (
+        arith,
+        e .1 fs,
+        l .inv .2 fs,
+        ap length (puts-more width fs (a .words .now) 32 (l .i) (c .before .loop-test .taken)),
+        length-append (putRow width fs (a .words .now) (l .i))
+            (putRows width fs (a .words .now) (32 - (l .i + 1)) (l .i + 1)),
+      ),
+    )
 
 returns : tie.Need-returns Inv-loop μ-loop
 returns c =
     let a = c .before .before .before .args in
-    let l = c .before .loop in
-    (omega (arith, l .inv .1), λ fs. omega (arith, l .inv .2 fs, ap length (puts-none width fs (a .words .now) 32 (l .i) (c .loop-test .left))))
+    let l = c .before .loop in (
+      omega (arith, l .inv .1),
+      λ fs. omega (arith, l .inv .2 fs, ap length (puts-none width fs (a .words .now) 32 (l .i) (c .loop-test .left))),
+    )
 
 pub puts-length-spec : {M : Type 1} → statement M
 puts-length-spec =

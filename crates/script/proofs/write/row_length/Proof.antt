@@ -18,8 +18,10 @@ returns-2 : tie.Need-returns-2
 returns-2 c =
     let a = c .before .before .before .before .before .before .args in
     let d = c .before .before .decimal-length .ensures in
-    let e = c .decimal-length2 .ensures in
-    (omega (arith, d .1, e .1), λ fs. omega (arith, d .0, e .0, row-bytes width fs (a .words .now) (a .i) (c .before .before .before .if1 .left)))
+    let e = c .decimal-length2 .ensures in (
+      omega (arith, d .1, e .1),
+      λ fs. omega (arith, d .0, e .0, row-bytes width fs (a .words .now) (a .i) (c .before .before .before .if1 .left)),
+    )
 
 pub row-length-spec : {M : Type 1} → statement M
 row-length-spec =

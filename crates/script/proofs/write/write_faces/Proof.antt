@@ -19,16 +19,27 @@ abbrev μ-loop : tie.MeasureT-loop
 
 write-face-requires : tie.Need-write-face-requires Inv-loop μ-loop
 write-face-requires c κs =
-    let a = c .before .before .before .before .before .before .before .before .args in
-    let l = c .before .before .before .before .before .loop in
+    let c4 = c .before .before .before .before in
+    let c8 = c4 .before .before .before .before in
+    let a = c8 .args in
+    let l = c4 .before .loop in
     let v = faceAt width (a .words .now) (l .i) in
-    omega (arith, todo-room (print faceLine v) (faceRows width (a .words .now) (a .n - (l .i + 1)) (l .i + 1)) (l .inv .1) (faces-more width (a .words .now) (a .n) (l .i) (c .before .before .before .before .loop-test .taken)) (c .before .before .before .before .before .before .before .before .pre .0), face-bytes (v .0) (v .1 .0) (v .1 .1 .0))
+    omega (
+      arith,
+      todo-room (print faceLine v) (faceRows width (a .words .now) (a .n - (l .i + 1)) (l .i + 1)) (l .inv .1)
+          (faces-more width (a .words .now) (a .n) (l .i) (c4 .loop-test .taken)) (c8 .pre .0),
+      face-bytes (v .0) (v .1 .0) (v .1 .1 .0),
+    )
 
 loop-again : tie.Need-loop-again Inv-loop μ-loop
 loop-again c =
-    let a = c .before .before .before .before .before .before .before .before .before .before .before .args in
-    let l = c .before .before .before .before .before .before .before .before .loop in
-    (omega arith, todo-next (l .inv .1) (faces-more width (a .words .now) (a .n) (l .i) (c .before .before .before .before .before .before .before .loop-test .taken)) (c .before .before .write-face .ensures .1))
+    let c7 = c .before .before .before .before .before .before .before in
+    let a = c7 .before .before .before .before .args in
+    let l = c7 .before .loop in (
+      omega arith,
+      todo-next (l .inv .1) (faces-more width (a .words .now) (a .n) (l .i) (c7 .loop-test .taken))
+          (c .before .before .write-face .ensures .1),
+    )
 
 returns : tie.Need-returns Inv-loop μ-loop
 returns c =

@@ -10,12 +10,22 @@ use Rattle.script.proofs.write.write_open.Tie as tie
 
 returns : tie.Need-returns
 returns c =
-    let a = c .before .before .before .before .before .before .before .before .before .before .before .before .before .before .before .before .before .before .before .before .before .args in
-    let l0 : c .before .before .before .before .before .before .before .before .before .before .before .before .before .before .before .before .before .write-real .result ≡ a .at + 14 + 16 = c .before .before .before .before .before .before .before .before .before .before .before .before .before .before .before .before .before .write-real .ensures .0 in
-    let l1 : c .before .before .before .before .before .before .before .before .before .before .before .before .write-number .result ≡ c .before .before .before .before .before .before .before .before .before .before .before .before .before .before .before .before .before .write-real .result + 9 + decimalLength (a .verts) = c .before .before .before .before .before .before .before .before .before .before .before .before .write-number .ensures .0 in
-    let l2 : c .before .before .before .before .before .before .before .write-number2 .result ≡ c .before .before .before .before .before .before .before .before .before .before .before .before .write-number .result + 9 + decimalLength (a .faces) = c .before .before .before .before .before .before .before .write-number2 .ensures .0 in
-    let l3 : c .before .before .write-bytes .result ≡ c .before .before .before .before .before .before .before .write-number2 .result + 3 = c .before .before .write-bytes .ensures .next in
-    (omega (arith, l0, l1, l2, l3), then (c .before .before .before .before .before .before .before .before .before .before .before .before .before .before .before .before .before .write-real .ensures .1) (then (c .before .before .before .before .before .before .before .before .before .before .before .before .write-number .ensures .1) (then (c .before .before .before .before .before .before .before .write-number2 .ensures .1) (c .before .before .write-bytes .ensures))))
+    let c7 = c .before .before .before .before .before .before .before in
+    let c12 = c7 .before .before .before .before .before in
+    let c17 = c12 .before .before .before .before .before in
+    let a = c17 .before .before .before .before .args in
+    let l0 : c17 .write-real .result ≡ a .at + 14 + 16 = c17 .write-real .ensures .0 in
+    let l1 : c12 .write-number .result ≡ c17 .write-real .result + 9 + decimalLength (a .verts)
+    = c12 .write-number .ensures .0 in
+    let l2 : c7 .write-number2 .result ≡ c12 .write-number .result + 9 + decimalLength (a .faces)
+    = c7 .write-number2 .ensures .0 in
+    let l3 : c .before .before .write-bytes .result ≡ c7 .write-number2 .result + 3
+    = c .before .before .write-bytes .ensures .next in (
+      omega (arith, l0, l1, l2, l3),
+      then (c17 .write-real .ensures .1)
+          (then (c12 .write-number .ensures .1)
+          (then (c7 .write-number2 .ensures .1) (c .before .before .write-bytes .ensures))),
+    )
 
 pub write-open-spec : {M : Type 1} → statement M
 write-open-spec =

@@ -19,14 +19,20 @@ returns c =
 write-put-requires : tie.Need-write-put-requires
 write-put-requires c κs =
     let a = c .before .before .before .before .before .before .before .args in
-    let p = c .before .before .before .before .before .before .before .pre in
-    (omega (arith, p .0, row-bytes width (a .floats .now) (a .words .now) (a .i) (c .before .before .if1 .left)), p .1, p .2)
+    let p = c .before .before .before .before .before .before .before .pre in (
+      omega (arith, p .0, row-bytes width (a .floats .now) (a .words .now) (a .i) (c .before .before .if1 .left)),
+      p .1,
+      p .2,
+    )
 
 returns-2 : tie.Need-returns-2
 returns-2 c =
     let a = c .before .before .before .before .before .before .before .before .before .before .args in
     let w = c .before .before .write-put in
-    subst (λ (t : List ℕ). Wrote (now (a .out)) (a .at) t (w .result) (w .last .0)) (sym (row-filled width (a .floats .now) (a .words .now) (a .i) (c .before .before .before .before .before .if1 .left))) (w .ensures .1)
+    subst (λ (t : List ℕ). Wrote (now (a .out)) (a .at) t (w .result) (w .last .0))
+    (sym
+    (row-filled width (a .floats .now) (a .words .now) (a .i)
+    (c .before .before .before .before .before .if1 .left))) (w .ensures .1)
 
 pub write-row-spec : {M : Type 1} → statement M
 write-row-spec =

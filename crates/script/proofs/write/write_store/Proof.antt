@@ -14,7 +14,9 @@ returns c = rw (← c .before .before .before .check-store .ensures, c .before .
 
 returns-2 : tie.Need-returns-2
 unfolding writeStep
-returns-2 c = rw (← c .before .before .before .before .before .before .check-store .ensures, c .before .before .before .before .enum-told .given .1) (c .before .before .write-sound .ensures)
+returns-2 c =
+    let c4 = c .before .before .before .before in
+    rw (← c4 .before .before .check-store .ensures, c4 .enum-told .given .1) (c .before .before .write-sound .ensures)
 
 pub write-store-spec : {M : Type 1} → statement M
 write-store-spec =

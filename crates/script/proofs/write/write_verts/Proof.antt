@@ -10,17 +10,22 @@ use Rattle.script.proofs.write.write_verts.Statement.{statement}
 use Rattle.script.proofs.write.write_verts.Tie as tie
 
 abbrev Inv-loop : tie.InvT-loop
-Inv-loop out₀ at f n k₀ i₀ out k i = (i ≤ n) × (k ≡ at + 58 * i) × Todo out₀ at (vertRows f n 0) out k (vertRows f (n - i) i)
+Inv-loop out₀ at f n k₀ i₀ out k i =
+    (i ≤ n) × (k ≡ at + 58 * i) × Todo out₀ at (vertRows f n 0) out k (vertRows f (n - i) i)
 
 abbrev μ-loop : tie.MeasureT-loop
 μ-loop out₀ at f n k₀ i₀ out k i = n - i
 
 loop-again : tie.Need-loop-again Inv-loop μ-loop
 loop-again c =
-    let a = c .before .before .before .before .before .before .before .before .before .before .before .args in
-    let l = c .before .before .before .before .before .before .before .before .loop in
-    let w = c .before .before .write-vert .ensures in
-    (omega arith, omega (arith, w .0, l .inv .1), todo-next (l .inv .2) (verts-more (a .floats .now) (a .n) (l .i) (c .before .before .before .before .before .before .before .loop-test .taken)) (w .1))
+    let c7 = c .before .before .before .before .before .before .before in
+    let a = c7 .before .before .before .before .args in
+    let l = c7 .before .loop in
+    let w = c .before .before .write-vert .ensures in (
+      omega arith,
+      omega (arith, w .0, l .inv .1),
+      todo-next (l .inv .2) (verts-more (a .floats .now) (a .n) (l .i) (c7 .loop-test .taken)) (w .1),
+    )
 
 returns : tie.Need-returns Inv-loop μ-loop
 returns c =

@@ -14,8 +14,11 @@ returns c =
     let s = session (a .o) (a .floats .now) (a .words .now) (a .coords .now) (a .corners .now) in
     let e = c .refuse .ensures in
     let u = e .0 .0 ∙ c .before .before .idle .ensures in
-    let h = sym (c4 .verts-due .ensures) ∙ c .before .before .before .if1 .taken in
-    ((small-as u small-idle, e .0 .1), saying (face-early s (a .a) (a .b) (a .c) h) (λ i. session (u i) (a .floats .now) (a .words .now) (a .coords .now) (a .corners .now)) (e .1))
+    let h = sym (c4 .verts-due .ensures) ∙ c .before .before .before .if1 .taken in (
+      (small-as u small-idle, e .0 .1),
+      saying (face-early s (a .a) (a .b) (a .c) h)
+          (λ i. session (u i) (a .floats .now) (a .words .now) (a .coords .now) (a .corners .now)) (e .1),
+    )
 
 add-face-requires : tie.Need-add-face-requires
 add-face-requires c κs =

@@ -28,8 +28,11 @@ returns-3 c =
     let a = c3 .before .before .before .args in
     let s = session (a .o) (a .floats .now) (a .words .now) (a .coords .now) (a .corners .now) in
     let e = c .refuse .ensures in
-    let u = e .0 .0 ∙ c .before .before .idle .ensures in
-    ((small-as u small-idle, e .0 .1), saying (no-mesh s (a .l) (c3 .match .keys3)) (λ i. session (u i) (a .floats .now) (a .words .now) (a .coords .now) (a .corners .now)) (e .1))
+    let u = e .0 .0 ∙ c .before .before .idle .ensures in (
+      (small-as u small-idle, e .0 .1),
+      saying (no-mesh s (a .l) (c3 .match .keys3))
+          (λ i. session (u i) (a .floats .now) (a .words .now) (a .coords .now) (a .corners .now)) (e .1),
+    )
 
 pub in-opening-spec : {M : Type 1} → statement M
 in-opening-spec =

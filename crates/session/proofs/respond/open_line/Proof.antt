@@ -14,8 +14,10 @@ settle-requires c κs =
     let c3 = c .before .before .before in
     let c9 = c3 .before .before .before .before .before .before in
     let a = c9 .args in
-    let b = both (leb (a .verts) vertBound) (leb (a .faces) faceBound) (c3 .before .if1 .taken) in
-    (small-as (c3 .begun .ensures) (leb-true (a .verts) vertBound (b .0), leb-true (a .faces) faceBound (b .1)), c9 .pre .1)
+    let b = both (leb (a .verts) vertBound) (leb (a .faces) faceBound) (c3 .before .if1 .taken) in (
+      small-as (c3 .begun .ensures) (leb-true (a .verts) vertBound (b .0), leb-true (a .faces) faceBound (b .1)),
+      c9 .pre .1,
+    )
 
 returns : tie.Need-returns
 returns c =
@@ -34,8 +36,11 @@ returns-2 c =
     let a = c7 .args in
     let s = session (a .o) (a .floats .now) (a .words .now) (a .coords .now) (a .corners .now) in
     let e = c .refuse .ensures in
-    let u = e .0 .0 in
-    ((small-as u (c7 .pre .0), e .0 .1), saying (opening-over s (a .radius) (a .verts) (a .faces) (c2 .if1 .left)) (λ i. session (u i) (a .floats .now) (a .words .now) (a .coords .now) (a .corners .now)) (e .1))
+    let u = e .0 .0 in (
+      (small-as u (c7 .pre .0), e .0 .1),
+      saying (opening-over s (a .radius) (a .verts) (a .faces) (c2 .if1 .left))
+          (λ i. session (u i) (a .floats .now) (a .words .now) (a .coords .now) (a .corners .now)) (e .1),
+    )
 
 pub open-line-spec : {M : Type 1} → statement M
 open-line-spec =

@@ -23,8 +23,11 @@ returns-3 c =
     let a = c7 .args in
     let s = session (a .o) (a .floats .now) (a .words .now) (a .coords .now) (a .corners .now) in
     let e = c .refuse .ensures in
-    let u = e .0 .0 in
-    ((small-as u (c7 .pre .0), e .0 .1), saying (no-call s (a .l) (c2 .match .keys3)) (λ i. session (u i) (a .floats .now) (a .words .now) (a .coords .now) (a .corners .now)) (e .1))
+    let u = e .0 .0 in (
+      (small-as u (c7 .pre .0), e .0 .1),
+      saying (no-call s (a .l) (c2 .match .keys3))
+          (λ i. session (u i) (a .floats .now) (a .words .now) (a .coords .now) (a .corners .now)) (e .1),
+    )
 
 pub outside-spec : {M : Type 1} → statement M
 outside-spec =

@@ -12,8 +12,10 @@ returns : tie.Need-returns
 returns c =
     let c6 = c .before .before .before .before .before .before in
     let a = c6 .args in
-    let s = session (a .o) (a .floats .now) (a .words .now) (a .coords .now) (a .corners .now) in
-    ((c6 .pre .0, omega arith), saying (settled-due s (sym (c .before .due .ensures) ∙ c .if1 .taken)) refl (record { next = refl; run = refl }))
+    let s = session (a .o) (a .floats .now) (a .words .now) (a .coords .now) (a .corners .now) in (
+      (c6 .pre .0, omega arith),
+      saying (settled-due s (sym (c .before .due .ensures) ∙ c .if1 .taken)) refl (record { next = refl; run = refl }),
+    )
 
 slice-aggregate-answer-open : tie.Need-slice-aggregate-answer-open
 slice-aggregate-answer-open c =
@@ -33,8 +35,11 @@ returns-2 c =
     let c18 = c13 .before .before .before .before .before in
     let a = c18 .args in
     let s = session (a .o) (a .floats .now) (a .words .now) (a .coords .now) (a .corners .now) in
-    let e = c4 .answer-open .ensures in
-    ((c18 .pre .0, e .0), saying (settled-done s (sym (c13 .due .ensures) ∙ c12 .if1 .left)) (λ i. session (a .o) (e .1 .0 i) (e .1 .1 .0 i) (a .coords .now) (a .corners .now)) (e .1 .1 .1))
+    let e = c4 .answer-open .ensures in (
+      (c18 .pre .0, e .0),
+      saying (settled-done s (sym (c13 .due .ensures) ∙ c12 .if1 .left))
+          (λ i. session (a .o) (e .1 .0 i) (e .1 .1 .0 i) (a .coords .now) (a .corners .now)) (e .1 .1 .1),
+    )
 
 pub settle-spec : {M : Type 1} → statement M
 settle-spec =

@@ -37,8 +37,11 @@ returns-2 c =
     let s = session (a .o) (a .floats .now) (a .words .now) (a .coords .now) (a .corners .now) in
     let e = c .refuse .ensures in
     let u = e .0 .0 ∙ c .before .before .idle .ensures in
-    let h = sym (c4 .verts-due .ensures) ∙ c .before .before .before .if1 .left in
-    ((small-as u small-idle, e .0 .1), saying (vert-late s (a .x) (a .y) (a .z) h) (λ i. session (u i) (a .floats .now) (a .words .now) (a .coords .now) (a .corners .now)) (e .1))
+    let h = sym (c4 .verts-due .ensures) ∙ c .before .before .before .if1 .left in (
+      (small-as u small-idle, e .0 .1),
+      saying (vert-late s (a .x) (a .y) (a .z) h)
+          (λ i. session (u i) (a .floats .now) (a .words .now) (a .coords .now) (a .corners .now)) (e .1),
+    )
 
 pub vert-line-spec : {M : Type 1} → statement M
 vert-line-spec =

@@ -1,4 +1,5 @@
--- `eliminate` meets its contract: the columns that are left, done on the matrix as it is, give `eliminated`, and a flat pivot ends both. Assumes nothing.
+-- `eliminate` meets its contract: the columns that are left, done on the matrix as it is, give `eliminated`, and a flat
+-- pivot ends both. Assumes nothing.
 use borrow.Author.Needs.{needs}
 use Prim.Native.Nat.{_<_, _-_}
 use mathlib.Core.Path.{_≡_, refl, sym, ap, _∙_}
@@ -15,13 +16,15 @@ use Rattle.solve.proofs.eliminate.eliminate.Statement.{statement}
 use Rattle.solve.proofs.eliminate.eliminate.Tie as tie
 
 abbrev Inv-pivots : tie.InvT-pivots
-Inv-pivots m n stop₀ smallest col best₀ row₀ stop best row = (Left (candidate m col) n row best (pivotOf n col m)) × (best .row < n) × (stop ≡ n)
+Inv-pivots m n stop₀ smallest col best₀ row₀ stop best row =
+    (Left (candidate m col) n row best (pivotOf n col m)) × (best .row < n) × (stop ≡ n)
 
 abbrev μ-pivots : tie.MeasureT-pivots
 μ-pivots m n stop₀ smallest col best₀ row₀ stop best row = n - row
 
 abbrev Inv-columns : tie.InvT-columns
-Inv-columns m₀ n stop₀ smallest₀ col₀ m stop smallest col = (Left (columnAt n) n col (reduced smallest m) (eliminated n m₀)) × (stop ≡ n)
+Inv-columns m₀ n stop₀ smallest₀ col₀ m stop smallest col =
+    (Left (columnAt n) n col (reduced smallest m) (eliminated n m₀)) × (stop ≡ n)
 
 abbrev μ-columns : tie.MeasureT-columns
 μ-columns m₀ n stop₀ smallest₀ col₀ m stop smallest col = n - col
@@ -38,9 +41,13 @@ pivots-holds c =
 
 pivots-again : tie.Need-pivots-again Inv-pivots μ-pivots Inv-columns μ-columns
 pivots-again c =
+    let c9 = c .before .before .before .before .before .before .before .before .before in
     let p = c .before .before .before .before .pivots in
-    let h : p .row < c .before .before .before .before .before .before .before .before .before .args .n = search needs in
-    (goes (p .inv .0) h (simp (c .better .ensures, c .before .abs2 .ensures)), rw (c .better .ensures) (better-below _ _ _ (p .inv .1) h), p .inv .2)
+    let h : p .row < c9 .args .n = search needs in (
+      goes (p .inv .0) h (simp (c .better .ensures, c .before .abs2 .ensures)),
+      rw (c .better .ensures) (better-below _ _ _ (p .inv .1) h),
+      p .inv .2,
+    )
 
 columns-again : tie.Need-columns-again Inv-pivots μ-pivots Inv-columns μ-columns
 columns-again c =
@@ -64,7 +71,8 @@ columns-again c =
 returns : tie.Need-returns Inv-pivots μ-pivots Inv-columns μ-columns
 returns c =
     let a = c .before .before .columns in
-    ⊎-elim (λ w. ended (a .inv .0) (w .0 .left)) (λ w. absurd (omega (arith, w .7, w .0 .taken, c .if3 .taken))) (c .before .columns-test .came)
+    ⊎-elim (λ w. ended (a .inv .0) (w .0 .left)) (λ w. absurd (omega (arith, w .7, w .0 .taken, c .if3 .taken)))
+    (c .before .columns-test .came)
 
 -- the column where it stopped is one of the n, which are few
 cast-column : tie.Need-cast-column Inv-pivots μ-pivots Inv-columns μ-columns
@@ -79,7 +87,9 @@ returns-2 c =
     let i = c .before in
     let a = i .before .before .columns in
     ⊎-elim (λ w. absurd (i .if3 .left (w .1 ∙ a .inv .1)))
-    (λ w. ap flat (w .7) ∙ stops (a .inv .0) (w .0 .taken) (ap (λ (p : Pivot). le (p .value) flatLimit) (sym (ended (w .3 .inv .0) (search needs))) ∙ w .6 .taken))
+    (λ w. ap flat (w .7)
+    ∙ stops (a .inv .0) (w .0 .taken)
+    (ap (λ (p : Pivot). le (p .value) flatLimit) (sym (ended (w .3 .inv .0) (search needs))) ∙ w .6 .taken))
     (i .before .columns-test .came)
 
 pub eliminate-spec : {M : Type 1} → statement M

@@ -8,7 +8,8 @@ use Rattle.solve.proofs.matrix.subtract.Statement.{statement}
 use Rattle.solve.proofs.matrix.subtract.Tie as tie
 
 abbrev Inv-loop : tie.InvT-loop
-Inv-loop row₀ pivot-row n col factor width j₀ row j = Left (lessAt pivot-row factor) width j row (less n col pivot-row factor row₀)
+Inv-loop row₀ pivot-row n col factor width j₀ row j =
+    Left (lessAt pivot-row factor) width j row (less n col pivot-row factor row₀)
 
 abbrev μ-loop : tie.MeasureT-loop
 μ-loop row₀ pivot-row n col factor width j₀ row j = width - j

@@ -1,4 +1,5 @@
--- `copy_out` meets its contract: the words that are left, written, give `answers`; the answer keeps its length. Assumes nothing.
+-- `copy_out` meets its contract: the words that are left, written, give `answers`; the answer keeps its length. Assumes
+-- nothing.
 use borrow.Author.Needs.{needs}
 use Prim.Native.Nat.{_-_}
 use mathlib.Core.Path.{_≡_, refl}
@@ -10,7 +11,8 @@ use Rattle.solve.proofs.runs.copy_out.Statement.{statement}
 use Rattle.solve.proofs.runs.copy_out.Tie as tie
 
 abbrev Inv-loop : tie.InvT-loop
-Inv-loop m n answer₀ i₀ answer i = Left (tableAt (answerAt n m)) n i answer (answers n m answer₀) × (length answer ≡ length answer₀)
+Inv-loop m n answer₀ i₀ answer i =
+    Left (tableAt (answerAt n m)) n i answer (answers n m answer₀) × (length answer ≡ length answer₀)
 
 abbrev μ-loop : tie.MeasureT-loop
 μ-loop m n answer₀ i₀ answer i = n - i

@@ -29,8 +29,17 @@ load-spec =
     loop-holds
     (λ c. search needs)
     (λ c. search needs)
-    (λ c. omega (arith, row-within (c .before .before .before .before .args .n) (c .before .before .loop .row) (c .before .loop-test .taken), square-within (c .before .before .before .before .args .n) (search needs)))
-    (λ c κs. omega (arith, row-within (c .before .before .before .before .args .n) (c .before .before .loop .row) (c .before .loop-test .taken)))
+    (λ c. omega (
+      arith,
+      row-within (c .before .before .before .before .args .n) (c .before .before .loop .row)
+          (c .before .loop-test .taken),
+      square-within (c .before .before .before .before .args .n) (search needs),
+    ))
+    (λ c κs. omega (
+      arith,
+      row-within (c .before .before .before .before .args .n) (c .before .before .loop .row)
+          (c .before .loop-test .taken),
+    ))
     (λ c. search needs)
     (λ c. search needs)
     (λ c. search (goes, set-to, needs))

@@ -1,4 +1,5 @@
--- `density_sum` meets its contract: the kernels that are left, added to the sum so far, give the density. Assumes nothing.
+-- `density_sum` meets its contract: the kernels that are left, added to the sum so far, give the density. Assumes
+-- nothing.
 use mathlib.Core.Path.{refl}
 use Prim.Native.Nat.{_-_}
 use borrow.Author.Needs.{needs}
@@ -9,7 +10,8 @@ use Rattle.source.proofs.density.density_sum.Statement.{statement}
 use Rattle.source.proofs.density.density_sum.Tie as tie
 
 abbrev Inv-loop : tie.InvT-loop
-Inv-loop kernels n point density₀ i₀ density i = Left (shareTo (kernelAt kernels) point) n i density (densityOf (kernelAt kernels) n point)
+Inv-loop kernels n point density₀ i₀ density i =
+    Left (shareTo (kernelAt kernels) point) n i density (densityOf (kernelAt kernels) n point)
 
 abbrev μ-loop : tie.MeasureT-loop
 μ-loop kernels n point density₀ i₀ density i = n - i

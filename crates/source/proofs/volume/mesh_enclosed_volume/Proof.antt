@@ -8,7 +8,13 @@ use Rattle.source.proofs.volume.mesh_enclosed_volume.Tie as tie
 
 returns : tie.Need-returns
 unfolding enclosedAnswer
-returns c = rw (← c .before .before .before .before .check-mesh .ensures, c .before .before .enum-told .given .1, c .abs .ensures, c .before .signed-volume .ensures)
+returns c =
+    rw (
+      ← c .before .before .before .before .check-mesh .ensures,
+      c .before .before .enum-told .given .1,
+      c .abs .ensures,
+      c .before .signed-volume .ensures,
+    )
 
 returns-2 : tie.Need-returns-2
 unfolding enclosedAnswer

@@ -1,4 +1,5 @@
--- `signed_volume` meets its contract: the faces that are left, added to the sum so far, give the volume. Assumes nothing.
+-- `signed_volume` meets its contract: the faces that are left, added to the sum so far, give the volume. Assumes
+-- nothing.
 use mathlib.Core.Path.{refl}
 use Prim.Native.Nat.{_-_}
 use borrow.Author.Needs.{needs}
@@ -9,7 +10,8 @@ use Rattle.source.proofs.volume.signed_volume.Statement.{statement}
 use Rattle.source.proofs.volume.signed_volume.Tie as tie
 
 abbrev Inv-loop : tie.InvT-loop
-Inv-loop xyz faces n total₀ f₀ total f = Left (pyramidTo (triangleAt xyz faces)) n f total (signedVolume (triangleAt xyz faces) (faceCount faces))
+Inv-loop xyz faces n total₀ f₀ total f =
+    Left (pyramidTo (triangleAt xyz faces)) n f total (signedVolume (triangleAt xyz faces) (faceCount faces))
 
 abbrev μ-loop : tie.MeasureT-loop
 μ-loop xyz faces n total₀ f₀ total f = n - f

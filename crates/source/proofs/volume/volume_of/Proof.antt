@@ -9,7 +9,9 @@ use Rattle.source.proofs.volume.volume_of.Statement.{statement}
 use Rattle.source.proofs.volume.volume_of.Tie as tie
 
 abbrev Inv-loop : tie.InvT-loop
-Inv-loop xyz faces c sigma n total₀ f₀ total f = Left (faceStep (triangleAt xyz faces) c sigma) n f total (kernelVolume (triangleAt xyz faces) (faceCount faces) c sigma)
+Inv-loop xyz faces c sigma n total₀ f₀ total f =
+    Left (faceStep (triangleAt xyz faces) c sigma) n f total
+    (kernelVolume (triangleAt xyz faces) (faceCount faces) c sigma)
 
 abbrev μ-loop : tie.MeasureT-loop
 μ-loop xyz faces c sigma n total₀ f₀ total f = n - f

@@ -26,7 +26,8 @@ reweigh-spec =
     (λ c. search needs)
     (λ c. search needs)
     (λ c. search needs)
-    (λ c. omega (arith, filled-open width _ _ _ (sym (c .before .before .check-filled .ensures) ∙ c .enum-told .given .1)))
+    (λ c.
+    omega (arith, filled-open width _ _ _ (sym (c .before .before .check-filled .ensures) ∙ c .enum-told .given .1)))
     (λ c. search needs)
     (λ c. search needs)
     returns

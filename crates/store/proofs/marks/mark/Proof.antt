@@ -19,8 +19,11 @@ abbrev μ-loop : tie.MeasureT-loop
 loop-again : tie.Need-loop-again Inv-loop μ-loop
 loop-again c =
     let l = c .before .before .before .before .loop in
-    let a = c .before .before .before .before .before .before in
-    (omega arith, next-marked (a .args .corners .now) (l .marks) (l .i) _ (c .with-digit .result) (l .inv .1) (omega arith) (a .pre .1 .corner (l .i) (omega arith)) refl (c .with-digit .ensures))
+    let a = c .before .before .before .before .before .before in (
+      omega arith,
+      next-marked (a .args .corners .now) (l .marks) (l .i) _ (c .with-digit .result) (l .inv .1) (omega arith)
+          (a .pre .1 .corner (l .i) (omega arith)) refl (c .with-digit .ensures),
+    )
 
 pub mark-spec : {M : Type 1} → statement M
 mark-spec =
@@ -33,11 +36,20 @@ mark-spec =
     (λ c. search needs)
     (λ c. omega (arith, c .before .before .before .before .pre .1 .corner (c .before .before .loop .i) (omega arith)))
     (λ c. omega (arith, c .before .before .before .before .pre .1 .corner (c .before .before .loop .i) (omega arith)))
-    (λ c. omega (arith, c .before .before .before .before .pre .1 .corner (c .before .before .loop .i) (omega arith), c .before .before .loop .inv .1 .long))
+    (λ c. omega (
+      arith,
+      c .before .before .before .before .pre .1 .corner (c .before .before .loop .i) (omega arith),
+      c .before .before .loop .inv .1 .long,
+    ))
     (λ c κs. search needs)
-    (λ c. omega (arith, c .before .before .before .before .before .before .pre .1 .corner (c .before .before .before .before .loop .i) (omega arith)))
-    (λ c. omega (arith, c .before .before .before .before .before .before .pre .1 .corner (c .before .before .before .before .loop .i) (omega arith), c .before .before .before .before .loop .inv .1 .long))
+    (λ c.
+    let c4 = c .before .before .before .before in
+    omega (arith, c4 .before .before .pre .1 .corner (c4 .loop .i) (omega arith)))
+    (λ c.
+    let c4 = c .before .before .before .before in
+    omega (arith, c4 .before .before .pre .1 .corner (c4 .loop .i) (omega arith), c4 .loop .inv .1 .long))
     (λ c. search needs)
     (λ c. search needs)
     loop-again
-    (λ c. rw (take-all (c .before .loop .i) (c .before .before .before .args .corners .now) (omega arith)) at (c .before .loop .inv .1)))
+    (λ c. rw (take-all (c .before .loop .i) (c .before .before .before .args .corners .now) (omega arith)) at
+    (c .before .loop .inv .1)))

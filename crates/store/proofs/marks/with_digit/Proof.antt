@@ -7,4 +7,5 @@ use Rattle.store.proofs.marks.with_digit.Statement.{statement}
 use Rattle.store.proofs.marks.with_digit.Tie as tie
 
 pub with-digit-spec : {M : Type 1} → statement M
-with-digit-spec = tie.close (tie.spec (λ c. search needs) (λ c. ap (bitOr (c .args .x)) (one-shifted (c .args .b) (c .pre))))
+with-digit-spec =
+    tie.close (tie.spec (λ c. search needs) (λ c. ap (bitOr (c .args .x)) (one-shifted (c .args .b) (c .pre))))

@@ -1,4 +1,5 @@
--- `squeeze::moves::gather` meets its contract. The invariant: the kept vertices stand in front, those not looked at are untouched; between them anything. Assumes nothing.
+-- `squeeze::moves::gather` meets its contract. The invariant: the kept vertices stand in front, those not looked at are
+-- untouched; between them anything. Assumes nothing.
 use mathlib.Core.Path.{_≡_, refl, sym}
 use mathlib.Core.List.{List}
 use Prim.Native.Nat.{ℕ, _+_, _*_, _-_, _≤_, _<_}
@@ -11,7 +12,8 @@ use Rattle.store.proofs.moves.gather.Statement.{statement}
 use Rattle.store.proofs.moves.gather.Tie as tie
 
 abbrev Inv-loop : tie.InvT-loop
-Inv-loop xyz₀ marks verts to₀ i₀ xyz to i = (i ≤ verts) × Moving xyz₀ i to xyz × ((ks : List ℕ) → Marked ks marks → Moved ks xyz₀ i to xyz)
+Inv-loop xyz₀ marks verts to₀ i₀ xyz to i =
+    (i ≤ verts) × Moving xyz₀ i to xyz × ((ks : List ℕ) → Marked ks marks → Moved ks xyz₀ i to xyz)
 
 abbrev μ-loop : tie.MeasureT-loop
 μ-loop xyz₀ marks verts to₀ i₀ xyz to i = verts - i
@@ -22,8 +24,12 @@ loop-again c =
     let p = c .before .before .before .before .before .before .before in
     let d = c .marked .result in
     let hd : d ≤ 1 = omega (arith, c .marked .ensures) in
-    let h : 3 * l .i + 2 < length (p .args .xyz .now) = omega arith in
-    (omega arith, one-moving (l .inv .1) h d hd, λ ks m. one-moved (l .inv .1) h d hd ks (l .inv .2 ks m) (vertex-marked ks (p .args .marks .now) (l .i) d m (omega arith) (c .marked .ensures)))
+    let h : 3 * l .i + 2 < length (p .args .xyz .now) = omega arith in (
+      omega arith,
+      one-moving (l .inv .1) h d hd,
+      λ ks m. one-moved (l .inv .1) h d hd ks (l .inv .2 ks m)
+          (vertex-marked ks (p .args .marks .now) (l .i) d m (omega arith) (c .marked .ensures)),
+    )
 
 returns : tie.Need-returns Inv-loop μ-loop
 returns c =

@@ -1,4 +1,5 @@
--- `squeeze::moves::renumber` meets its contract. The invariant: the corners looked at have their new numbers. Assumes nothing.
+-- `squeeze::moves::renumber` meets its contract. The invariant: the corners looked at have their new numbers. Assumes
+-- nothing.
 use mathlib.Core.Path.{_≡_, refl, sym}
 use Prim.Native.Nat.{_*_, _-_, _≤_}
 use native.Mathlib.Omega.{arith}
@@ -24,7 +25,8 @@ number-requires c κs =
 loop-again : tie.Need-loop-again Inv-loop μ-loop
 loop-again c =
     let p = c .before .before .before .before .before in
-    one-renumbered (c .before .before .before .loop .inv) (omega arith) (p .pre .0) (p .pre .1) (p .pre .2) (p .pre .3) (c .number .result) (c .number .ensures)
+    one-renumbered (c .before .before .before .loop .inv) (omega arith) (p .pre .0) (p .pre .1) (p .pre .2) (p .pre .3)
+    (c .number .result) (c .number .ensures)
 
 pub renumber-spec : {M : Type 1} → statement M
 renumber-spec =
@@ -42,4 +44,5 @@ renumber-spec =
     (λ c. omega (arith, c .before .before .before .loop .inv .long))
     loop-again
     (λ c. c .before .loop .inv .long)
-    (λ c. all-mapped (rank (c .before .before .before .args .corners .now)) 0 (c .before .loop .inv) (omega (arith, c .before .loop .inv .long))))
+    (λ c. all-mapped (rank (c .before .before .before .args .corners .now)) 0 (c .before .loop .inv)
+    (omega (arith, c .before .loop .inv .long))))

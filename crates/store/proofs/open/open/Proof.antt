@@ -14,7 +14,14 @@ returns c = rw (← c .before .before .before .check-open .ensures, c .before .r
 
 returns-2 : tie.Need-returns-2
 unfolding openStep
-returns-2 c = rw (c .before .before .write-words .ensures, c .before .before .before .before .before .before .write-floats .ensures, ← c .before .before .before .before .before .before .before .before .before .before .check-open .ensures, c .before .before .before .before .before .before .before .before .enum-told .given .1)
+returns-2 c =
+    let c6 = c .before .before .before .before .before .before in
+    rw (
+      c .before .before .write-words .ensures,
+      c6 .write-floats .ensures,
+      ← c6 .before .before .before .before .check-open .ensures,
+      c6 .before .before .enum-told .given .1,
+    )
 
 pub open-spec : {M : Type 1} → statement M
 open-spec =
@@ -23,10 +30,17 @@ open-spec =
     (λ c κs. search needs)
     (λ c. search needs)
     (λ c. search needs)
-    (λ c. omega (arith, open-passes width _ _ _ _ (sym (c .before .before .check-open .ensures) ∙ c .enum-told .given .1)))
-    (λ c. omega (arith, open-passes width _ _ _ _ (sym (c .before .before .check-open .ensures) ∙ c .enum-told .given .1)))
-    (λ c κs. omega (arith, open-passes width _ _ _ _ (sym (c .before .before .before .check-open .ensures) ∙ c .before .enum-told .given .1)))
-    (λ c κs. omega (arith, open-passes width _ _ _ _ (sym (c .before .before .before .before .before .before .before .check-open .ensures) ∙ c .before .before .before .before .before .enum-told .given .1)))
+    (λ c.
+    omega (arith, open-passes width _ _ _ _ (sym (c .before .before .check-open .ensures) ∙ c .enum-told .given .1)))
+    (λ c.
+    omega (arith, open-passes width _ _ _ _ (sym (c .before .before .check-open .ensures) ∙ c .enum-told .given .1)))
+    (λ c κs. omega (
+      arith,
+      open-passes width _ _ _ _ (sym (c .before .before .before .check-open .ensures) ∙ c .before .enum-told .given .1),
+    ))
+    (λ c κs.
+    let c5 = c .before .before .before .before .before in
+    omega (arith, open-passes width _ _ _ _ (sym (c5 .before .before .check-open .ensures) ∙ c5 .enum-told .given .1)))
     returns
     (λ c. search needs)
     (λ c. search needs)

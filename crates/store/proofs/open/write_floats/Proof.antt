@@ -12,7 +12,11 @@ use Rattle.store.proofs.open.write_floats.Tie as tie
 returns : tie.Need-returns
 returns c =
     let a = c .before .before .before .before .before .before .before .before .before .before .args in
-    rw (c .before .before .copy-floats .ensures, c .before .before .before .before .before .before .zero-floats .ensures, sets-write (a .radius ∷ []) (a .floats .now) 0 (omega arith)) (laid (a .floats .now) (a .radius ∷ []) (replicate 1760 +0) (a .xyz .now) 1761 refl (omega arith))
+    rw (
+      c .before .before .copy-floats .ensures,
+      c .before .before .before .before .before .before .zero-floats .ensures,
+      sets-write (a .radius ∷ []) (a .floats .now) 0 (omega arith),
+    ) (laid (a .floats .now) (a .radius ∷ []) (replicate 1760 +0) (a .xyz .now) 1761 refl (omega arith))
 
 pub write-floats-spec : {M : Type 1} → statement M
 write-floats-spec =

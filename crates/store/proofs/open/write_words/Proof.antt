@@ -11,7 +11,11 @@ use Rattle.store.proofs.open.write_words.Tie as tie
 returns : tie.Need-returns
 returns c =
     let a = c .before .before .before .before .before .before .before .before .before .before .args in
-    rw (c .before .before .copy-words .ensures, c .before .before .before .before .before .before .zero-words .ensures, sets-write (a .verts ∷ a .faces ∷ []) (a .words .now) 0 (omega arith)) (laid (a .words .now) (a .verts ∷ a .faces ∷ []) (replicate 128 0) (a .corners .now) 130 refl (omega arith))
+    rw (
+      c .before .before .copy-words .ensures,
+      c .before .before .before .before .before .before .zero-words .ensures,
+      sets-write (a .verts ∷ a .faces ∷ []) (a .words .now) 0 (omega arith),
+    ) (laid (a .words .now) (a .verts ∷ a .faces ∷ []) (replicate 128 0) (a .corners .now) 130 refl (omega arith))
 
 pub write-words-spec : {M : Type 1} → statement M
 write-words-spec =

@@ -6,7 +6,11 @@ use Rattle.store.proofs.put.fill.Tie as tie
 
 returns : tie.Need-returns
 unfolding putFloats putWords
-returns c = (rw (c .before .before .before .before .before .before .before .write-pieces .ensures, c .before .before .before .before .before .before .before .before .before .before .before .write-kernel .ensures), c .before .before .write-state .ensures)
+returns c =
+    let c11 = c .before .before .before .before .before .before .before .before .before .before .before in (
+      rw (c .before .before .before .before .before .before .before .write-pieces .ensures, c11 .write-kernel .ensures),
+      c .before .before .write-state .ensures,
+    )
 
 pub fill-spec : {M : Type 1} → statement M
 fill-spec =

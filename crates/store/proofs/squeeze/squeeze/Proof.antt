@@ -20,29 +20,97 @@ squeeze-spec =
     (λ c κs. search needs)
     (λ c. search needs)
     (λ c. search needs)
-    (λ c. omega (arith, fine width _ _ (sym (c .before .before .before .check-store .ensures) ∙ c .before .enum-told .given .1)))
-    (λ c. omega (arith, fine width _ _ (sym (c .before .before .before .check-store .ensures) ∙ c .before .enum-told .given .1)))
-    (λ c. omega (arith, fine width _ _ (sym (c .before .before .before .before .check-store .ensures) ∙ c .before .before .enum-told .given .1)))
-    (λ c. omega (arith, fine width _ _ (sym (c .before .before .before .before .check-store .ensures) ∙ c .before .before .enum-told .given .1)))
-    (λ c. omega (arith, fine width _ _ (sym (c .before .before .before .before .check-store .ensures) ∙ c .before .before .enum-told .given .1)))
-    (λ c. omega (arith, fine width _ _ (sym (c .before .before .before .before .check-store .ensures) ∙ c .before .before .enum-told .given .1)))
-    (λ c. omega (arith, fine width _ _ (sym (c .before .before .before .before .check-store .ensures) ∙ c .before .before .enum-told .given .1)))
-    (λ c. omega (arith, fine width _ _ (sym (c .before .before .before .before .check-store .ensures) ∙ c .before .before .enum-told .given .1)))
+    (λ c. omega
+    (arith, fine width _ _ (sym (c .before .before .before .check-store .ensures) ∙ c .before .enum-told .given .1)))
+    (λ c. omega
+    (arith, fine width _ _ (sym (c .before .before .before .check-store .ensures) ∙ c .before .enum-told .given .1)))
+    (λ c. omega (
+      arith,
+      fine width _ _
+          (sym (c .before .before .before .before .check-store .ensures) ∙ c .before .before .enum-told .given .1),
+    ))
+    (λ c. omega (
+      arith,
+      fine width _ _
+          (sym (c .before .before .before .before .check-store .ensures) ∙ c .before .before .enum-told .given .1),
+    ))
+    (λ c. omega (
+      arith,
+      fine width _ _
+          (sym (c .before .before .before .before .check-store .ensures) ∙ c .before .before .enum-told .given .1),
+    ))
+    (λ c. omega (
+      arith,
+      fine width _ _
+          (sym (c .before .before .before .before .check-store .ensures) ∙ c .before .before .enum-told .given .1),
+    ))
+    (λ c. omega (
+      arith,
+      fine width _ _
+          (sym (c .before .before .before .before .check-store .ensures) ∙ c .before .before .enum-told .given .1),
+    ))
+    (λ c. omega (
+      arith,
+      fine width _ _
+          (sym (c .before .before .before .before .check-store .ensures) ∙ c .before .before .enum-told .given .1),
+    ))
     (λ c. search needs)
     (λ c. search needs)
-    (λ c. omega (arith, fine width _ _ (sym (c .before .before .before .before .check-store .ensures) ∙ c .before .before .enum-told .given .1)))
+    (λ c. omega (
+      arith,
+      fine width _ _
+          (sym (c .before .before .before .before .check-store .ensures) ∙ c .before .before .enum-told .given .1),
+    ))
     (λ c. search needs)
     (λ c. search needs)
-    (λ c. omega (arith, fine width _ _ (sym (c .before .before .before .before .before .check-store .ensures) ∙ c .before .before .before .enum-told .given .1)))
-    (λ c κs. whole-held _ _ (sym (c .before .before .before .before .before .before .check-store .ensures) ∙ c .before .before .before .before .enum-told .given .1))
-    (λ c. omega (arith, few-kept _ _ (sym (c .before .before .before .before .before .before .before .before .before .before .before .check-store .ensures) ∙ c .before .before .before .before .before .before .before .before .before .enum-told .given .1) _ (c .before .before .before .before .squeeze-mesh .ensures .0)))
-    (λ c. in-front 130 (c .before .before .before .before .before .before .before .before .before .before .before .before .before .before .before .before .args .words .now) _ (omega arith) (omega (arith, fine width _ _ (sym (c .before .before .before .before .before .before .before .before .before .before .before .check-store .ensures) ∙ c .before .before .before .before .before .before .before .before .before .enum-told .given .1))))
-    (λ c. omega (arith, few-kept _ _ (sym (c .before .before .before .before .before .before .before .before .before .before .before .check-store .ensures) ∙ c .before .before .before .before .before .before .before .before .before .enum-told .given .1) _ (c .before .before .before .before .squeeze-mesh .ensures .0)))
-    (λ c. omega (arith, few-kept _ _ (sym (c .before .before .before .before .before .before .before .before .before .before .before .check-store .ensures) ∙ c .before .before .before .before .before .before .before .before .before .enum-told .given .1) _ (c .before .before .before .before .squeeze-mesh .ensures .0)))
-    (λ c. omega (arith, few-kept _ _ (sym (c .before .before .before .before .before .before .before .before .before .before .before .check-store .ensures) ∙ c .before .before .before .before .before .before .before .before .before .enum-told .given .1) _ (c .before .before .before .before .squeeze-mesh .ensures .0)))
+    (λ c. omega (
+      arith,
+      fine width _ _
+          (sym (c .before .before .before .before .before .check-store .ensures)
+          ∙ c .before .before .before .enum-told .given .1),
+    ))
+    (λ c κs.
+    let c4 = c .before .before .before .before in
+    whole-held _ _ (sym (c4 .before .before .check-store .ensures) ∙ c4 .enum-told .given .1))
+    (λ c.
+    let c9 = c .before .before .before .before .before .before .before .before .before in
+    omega (
+      arith,
+      few-kept _ _ (sym (c9 .before .before .check-store .ensures) ∙ c9 .enum-told .given .1) _
+          (c .before .before .before .before .squeeze-mesh .ensures .0),
+    ))
+    (λ c.
+    let c9 = c .before .before .before .before .before .before .before .before .before in
+    in-front 130 (c9 .before .before .before .before .before .before .before .args .words .now) _ (omega arith)
+    (omega (arith, fine width _ _ (sym (c9 .before .before .check-store .ensures) ∙ c9 .enum-told .given .1))))
+    (λ c.
+    let c9 = c .before .before .before .before .before .before .before .before .before in
+    omega (
+      arith,
+      few-kept _ _ (sym (c9 .before .before .check-store .ensures) ∙ c9 .enum-told .given .1) _
+          (c .before .before .before .before .squeeze-mesh .ensures .0),
+    ))
+    (λ c.
+    let c9 = c .before .before .before .before .before .before .before .before .before in
+    omega (
+      arith,
+      few-kept _ _ (sym (c9 .before .before .check-store .ensures) ∙ c9 .enum-told .given .1) _
+          (c .before .before .before .before .squeeze-mesh .ensures .0),
+    ))
+    (λ c.
+    let c9 = c .before .before .before .before .before .before .before .before .before in
+    omega (
+      arith,
+      few-kept _ _ (sym (c9 .before .before .check-store .ensures) ∙ c9 .enum-told .given .1) _
+          (c .before .before .before .before .squeeze-mesh .ensures .0),
+    ))
     (λ c. search needs)
     (λ c. search needs)
     returns
     (λ c. search needs)
     (λ c. search needs)
-    (λ c. called _ _ (sym (c .before .before .before .before .before .before .before .before .before .before .before .check-store .ensures) ∙ c .before .before .before .before .before .before .before .before .before .enum-told .given .1) _ _ _ (c .before .before .before .before .squeeze-mesh .ensures .0) (c .before .before .before .before .squeeze-mesh .ensures .1) (c .before .before .before .before .squeeze-mesh .ensures .2)))
+    (λ c.
+    let c4 = c .before .before .before .before in
+    let c9 = c4 .before .before .before .before .before in
+    called _ _ (sym (c9 .before .before .check-store .ensures) ∙ c9 .enum-told .given .1) _ _ _
+    (c4 .squeeze-mesh .ensures .0) (c4 .squeeze-mesh .ensures .1) (c4 .squeeze-mesh .ensures .2)))

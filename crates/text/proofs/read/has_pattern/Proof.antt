@@ -23,7 +23,10 @@ loop-again c =
     let l = c .before .before .before .loop in
     let k = hexes (16 - (l .i + 1)) (rest (a .s .now) (a .at + (l .i + 1))) in (
       omega arith,
-      (rw (c .is-digit .ensures) (and-assoc (l .all) _ k ∙ sym (ap (λ (x : Bool). l .all && x) (hexes-turn (a .s .now) (a .at) (l .i) (omega arith) (omega arith))) ∙ l .inv .1)),
+      (rw (c .is-digit .ensures)
+          (and-assoc (l .all) _ k
+          ∙ sym (ap (λ (x : Bool). l .all && x) (hexes-turn (a .s .now) (a .at) (l .i) (omega arith) (omega arith)))
+          ∙ l .inv .1)),
     )
 
 returns : tie.Need-returns Inv-loop μ-loop

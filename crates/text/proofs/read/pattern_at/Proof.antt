@@ -1,4 +1,5 @@
--- Sixteen digits: at each turn those from `at + i` on, after those that make `v`, give what all give at `at`. Assumes nothing.
+-- Sixteen digits: at each turn those from `at + i` on, after those that make `v`, give what all give at `at`. Assumes
+-- nothing.
 use mathlib.Core.Path.{_≡_, refl, sym, _∙_}
 use mathlib.Core.Bool.{true}
 use Prim.Native.Nat.{_+_, _-_, _*_, _^_, _≤_, _<_}
@@ -13,7 +14,8 @@ use Rattle.text.proofs.read.pattern_at.Tie as tie
 
 abbrev Inv-loop : tie.InvT-loop
 Inv-loop s at v₀ i₀ v i =
-    (i ≤ 16) × (v < 16 ^ i) × (hexes (16 - i) (rest s (at + i)) ≡ true) × (patternFrom (16 - i) v (rest s (at + i)) ≡ pattern (rest s at))
+    (i ≤ 16) × (v < 16 ^ i) × (hexes (16 - i) (rest s (at + i)) ≡ true)
+    × (patternFrom (16 - i) v (rest s (at + i)) ≡ pattern (rest s at))
 
 abbrev μ-loop : tie.MeasureT-loop
 μ-loop s at v₀ i₀ v i = 16 - i
@@ -21,7 +23,10 @@ abbrev μ-loop : tie.MeasureT-loop
 mul-v : tie.Need-mul-v Inv-loop μ-loop
 mul-v c =
     let l = c .before .loop in
-    omega (arith, pattern-word (l .i + 1) {v = l .v * 16 + 0} (omega arith) (pattern-room (l .i) (l .inv .1) (omega arith)))
+    omega (
+      arith,
+      pattern-word (l .i + 1) {v = l .v * 16 + 0} (omega arith) (pattern-room (l .i) (l .inv .1) (omega arith)),
+    )
 
 digit-of-requires : tie.Need-digit-of-requires Inv-loop μ-loop
 digit-of-requires c κs =
@@ -44,7 +49,8 @@ loop-again c =
       omega arith,
       (rw (c .digit-of .ensures) (pattern-room (l .i) (l .inv .1) (h .0))),
       h .1,
-      (rw (c .digit-of .ensures) (sym (pattern-turn (a .s .now) (a .at) (l .i) (omega arith) (omega arith) (l .v) (h .0)) ∙ l .inv .3)),
+      (rw (c .digit-of .ensures)
+          (sym (pattern-turn (a .s .now) (a .at) (l .i) (omega arith) (omega arith) (l .v) (h .0)) ∙ l .inv .3)),
     )
 
 returns : tie.Need-returns Inv-loop μ-loop

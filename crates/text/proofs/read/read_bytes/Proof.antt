@@ -15,7 +15,8 @@ use Rattle.text.proofs.read.read_bytes.Statement.{statement}
 use Rattle.text.proofs.read.read_bytes.Tie as tie
 
 abbrev Inv-loop : tie.InvT-loop
-Inv-loop s at p all₀ i₀ all i = (i ≤ length p) × (keepIf all (literal (drop i p) (rest s (at + i))) ≡ literal p (rest s at))
+Inv-loop s at p all₀ i₀ all i =
+    (i ≤ length p) × (keepIf all (literal (drop i p) (rest s (at + i))) ≡ literal p (rest s at))
 
 abbrev μ-loop : tie.MeasureT-loop
 μ-loop s at p all₀ i₀ all i = length p - i
@@ -38,12 +39,14 @@ loop-again c =
       omega arith,
       (rw e
           (keep-both (l .all) _ _
-          ∙ ap (keepIf (l .all)) (sym (literal-turn (a .p .now) (a .s .now) (l .i) (a .at + l .i) (omega arith) (omega arith)))
+          ∙ ap (keepIf (l .all))
+          (sym (literal-turn (a .p .now) (a .s .now) (l .i) (a .at + l .i) (omega arith) (omega arith)))
           ∙ l .inv .1)),
     )
 
 -- after the last byte the flag keeps the text there
-ended : (s p : List ℕ) (at i : ℕ) (all : Bool) → i ≡ length p → keepIf all (literal (drop i p) (rest s (at + i))) ≡ literal p (rest s at)
+ended : (s p : List ℕ) (at i : ℕ) (all : Bool) → i ≡ length p
+    → keepIf all (literal (drop i p) (rest s (at + i))) ≡ literal p (rest s at)
     → keepIf all (rest s (at + length p)) ≡ literal p (rest s at)
 ended s p at i all e h = ap (keepIf all) (sym (literal-all (rest s (at + length p)))) ∙ (rw (e, drop-length) at h)
 
@@ -57,7 +60,8 @@ returns-4 : tie.Need-returns-4 Inv-loop μ-loop
 returns-4 c =
     let a = c .before .before .before .before .before .args in
     let l = c .before .before .loop in
-    rest-past (a .s .now) ∙ (rw (c .if3 .left) at (ended (a .s .now) (a .p .now) (a .at) (l .i) (l .all) (omega arith) (l .inv .1)))
+    rest-past (a .s .now)
+    ∙ (rw (c .if3 .left) at (ended (a .s .now) (a .p .now) (a .at) (l .i) (l .all) (omega arith) (l .inv .1)))
 
 pub read-bytes-spec : {M : Type 1} → statement M
 read-bytes-spec =

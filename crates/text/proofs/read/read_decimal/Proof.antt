@@ -20,27 +20,36 @@ returns-2 c =
     (missed (a .s .now) (sym (decimal-not (a .s .now) (a .most) (a .at) (omega arith) h)), omega arith)
 
 decimal-of-requires : tie.Need-decimal-of-requires
-decimal-of-requires c κs = ltb-true _ 10 (sym (c .before .before .is-decimal .ensures) ∙ not-false _ (c .before .if2 .left))
+decimal-of-requires c κs =
+    ltb-true _ 10 (sym (c .before .before .is-decimal .ensures) ∙ not-false _ (c .before .if2 .left))
 
 returns-3 : tie.Need-returns-3
 returns-3 c =
-    let a = c .before .before .before .before .before .before .before .before .args in
-    (sym (decimal-zero (a .s .now) (a .most) (a .at) (omega arith) (sym (c .before .decimal-of .ensures) ∙ c .if3 .taken)), omega arith)
+    let a = c .before .before .before .before .before .before .before .before .args in (
+      sym
+          (decimal-zero (a .s .now) (a .most) (a .at) (omega arith)
+          (sym (c .before .decimal-of .ensures) ∙ c .if3 .taken)),
+      omega arith,
+    )
 
 read-digits-requires : tie.Need-read-digits-requires
 read-digits-requires c κs =
     let d = c .before .decimal-of in
-    let h = ltb-true _ 10 (sym (c .before .before .before .before .is-decimal .ensures) ∙ not-false _ (c .before .before .before .if2 .left)) in
+    let h = ltb-true _ 10
+    (sym (c .before .before .before .before .is-decimal .ensures)
+    ∙ not-false _ (c .before .before .before .if2 .left)) in
     let l : d .result < 10 = rw (d .ensures) h in
     (omega arith, omega arith, omega arith)
 
 returns-4 : tie.Need-returns-4
 returns-4 c =
-    let a = c .before .before .before .before .before .before .before .before .before .args in
+    let c4 = c .before .before .before .before in
+    let a = c4 .before .before .before .before .before .args in
     let d = c .before .before .decimal-of in
-    let h = ltb-true _ 10 (sym (c .before .before .before .before .before .is-decimal .ensures) ∙ not-false _ (c .before .before .before .before .if2 .left)) in (
+    let h = ltb-true _ 10 (sym (c4 .before .is-decimal .ensures) ∙ not-false _ (c4 .if2 .left)) in (
       c .read-digits .ensures .0 ∙ rw (d .ensures)
-          (sym (decimal-first (a .s .now) (a .most) (a .at) (omega arith) h (rw (d .ensures) at (c .before .if3 .left)))),
+          (sym
+          (decimal-first (a .s .now) (a .most) (a .at) (omega arith) h (rw (d .ensures) at (c .before .if3 .left)))),
       c .read-digits .ensures .1,
     )
 

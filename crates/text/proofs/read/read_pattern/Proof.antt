@@ -17,7 +17,8 @@ returns-2 c = let a = c .before .before .before .args in missed (a .s .now) (few
 returns-4 : tie.Need-returns-4
 returns-4 c =
     let a = c .before .before .before .before .before .args in
-    missed (a .s .now) (sym (no-pattern 16 0 (rest (a .s .now) (a .at)) (sym (c .before .has-pattern .ensures) ∙ c .if3 .left)))
+    missed (a .s .now)
+    (sym (no-pattern 16 0 (rest (a .s .now) (a .at)) (sym (c .before .has-pattern .ensures) ∙ c .if3 .left)))
 
 pub read-pattern-spec : {M : Type 1} → statement M
 read-pattern-spec =

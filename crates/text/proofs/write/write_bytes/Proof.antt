@@ -10,7 +10,8 @@ use Rattle.text.proofs.write.write_bytes.Statement.{statement}
 use Rattle.text.proofs.write.write_bytes.Tie as tie
 
 abbrev Inv-loop : tie.InvT-loop
-Inv-loop out₀ at p i₀ out i = (i ≤ length p) × (length out ≡ length out₀) × (sets out (at + i) (drop i p) ≡ sets out₀ at p)
+Inv-loop out₀ at p i₀ out i =
+    (i ≤ length p) × (length out ≡ length out₀) × (sets out (at + i) (drop i p) ≡ sets out₀ at p)
 
 abbrev μ-loop : tie.MeasureT-loop
 μ-loop out₀ at p i₀ out i = length p - i

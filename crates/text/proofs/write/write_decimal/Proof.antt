@@ -13,8 +13,10 @@ unfolding decimalText
 returns c =
     let a = c .before .before .before .before .before .before .args in
     let w = c .before .before .write-digits in
-    let e = c .before .before .before .decimal-length .ensures .0 in
-    (omega (arith, e, w .ensures .0), subst (λ (k : ℕ). Wrote (now (a .out)) (a .at) (digits 10 k (a .n)) (w .result) (w .last .0)) e (w .ensures .1))
+    let e = c .before .before .before .decimal-length .ensures .0 in (
+      omega (arith, e, w .ensures .0),
+      subst (λ (k : ℕ). Wrote (now (a .out)) (a .at) (digits 10 k (a .n)) (w .result) (w .last .0)) e (w .ensures .1),
+    )
 
 pub write-decimal-spec : {M : Type 1} → statement M
 write-decimal-spec = tie.close (tie.spec (λ c κs. search needs) (λ c κs. search needs) (λ c. search needs) returns)

@@ -1,4 +1,5 @@
--- Sixteen digits written from the last: at each turn those before it, once written, make the run that all make. Assumes nothing.
+-- Sixteen digits written from the last: at each turn those before it, once written, make the run that all make. Assumes
+-- nothing.
 use mathlib.Core.Path.{_≡_, refl, sym, _∙_}
 use Prim.Native.Nat.{_≤_, _+_, _%_}
 use native.Mathlib.Omega.{arith}
@@ -12,7 +13,8 @@ use Rattle.text.proofs.write.write_pattern.Statement.{statement}
 use Rattle.text.proofs.write.write_pattern.Tie as tie
 
 abbrev Inv-loop : tie.InvT-loop
-Inv-loop out₀ at n i₀ m₀ out i m = (i ≤ 16) × (length out ≡ length out₀) × (sets out at (digits 16 i m) ≡ sets out₀ at (digits 16 16 n))
+Inv-loop out₀ at n i₀ m₀ out i m =
+    (i ≤ 16) × (length out ≡ length out₀) × (sets out at (digits 16 i m) ≡ sets out₀ at (digits 16 16 n))
 
 abbrev μ-loop : tie.MeasureT-loop
 μ-loop out₀ at n i₀ m₀ out i m = i
@@ -31,7 +33,10 @@ unfolding patternText
 returns c =
     let a = c .before .before .before .args in
     let l = c .before .loop in
-    record { next = (λ i. a .at + sym (length-digits 16 16 (a .n)) i); run = no-digits (l .out) (a .at) 16 (l .i) (l .m) (omega arith) ∙ l .inv .2 }
+    record {
+      next = (λ i. a .at + sym (length-digits 16 16 (a .n)) i);
+      run = no-digits (l .out) (a .at) 16 (l .i) (l .m) (omega arith) ∙ l .inv .2;
+    }
 
 pub write-pattern-spec : {M : Type 1} → statement M
 write-pattern-spec =

@@ -8,7 +8,8 @@ use Rattle.volume.proofs.block.all_shares.Statement.{statement}
 use Rattle.volume.proofs.block.all_shares.Tie as tie
 
 abbrev Inv-loop : tie.InvT-loop
-Inv-loop sum g heights sum₀ face₀ sum' face = Left (λ i s. sevenShares g heights (7 * i) s) 4 face sum' (allShares g heights sum)
+Inv-loop sum g heights sum₀ face₀ sum' face =
+    Left (λ i s. sevenShares g heights (7 * i) s) 4 face sum' (allShares g heights sum)
 
 abbrev μ-loop : tie.MeasureT-loop
 μ-loop sum g heights sum₀ face₀ sum' face = 4 - face

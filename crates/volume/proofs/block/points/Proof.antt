@@ -10,7 +10,9 @@ use Rattle.volume.proofs.block.points.Statement.{statement}
 use Rattle.volume.proofs.block.points.Tie as tie
 
 abbrev Inv-loop : tie.InvT-loop
-Inv-loop xyz faces f c squares₀ heights₀ j₀ squares heights j = (j ≤ 4) × Points (squaresOf (triangleAt xyz faces) c f) j squares × Points (heightsOf (triangleAt xyz faces) c f) j heights
+Inv-loop xyz faces f c squares₀ heights₀ j₀ squares heights j =
+    (j ≤ 4) × Points (squaresOf (triangleAt xyz faces) c f) j squares
+    × Points (heightsOf (triangleAt xyz faces) c f) j heights
 
 abbrev μ-loop : tie.MeasureT-loop
 μ-loop xyz faces f c squares₀ heights₀ j₀ squares heights j = 4 - j
@@ -18,8 +20,11 @@ abbrev μ-loop : tie.MeasureT-loop
 loop-again : tie.Need-loop-again Inv-loop μ-loop
 loop-again c =
     let t = c .before .before .before .triangle-at .ensures in
-    let i = c .before .before .before .before .before .loop .inv in
-    (search needs, more-points (i .1) (search needs) (rw t at (c .face-points .ensures .0)), more-points (i .2) (search needs) (rw t at (c .face-points .ensures .1)))
+    let i = c .before .before .before .before .before .loop .inv in (
+      search needs,
+      more-points (i .1) (search needs) (rw t at (c .face-points .ensures .0)),
+      more-points (i .2) (search needs) (rw t at (c .face-points .ensures .1)),
+    )
 
 returns : tie.Need-returns Inv-loop μ-loop
 returns c =

@@ -1,4 +1,5 @@
--- `volume::block::volume_blocks` meets its contract: after i turns the sum is that of i blocks, and a turn is 28 points,
+-- `volume::block::volume_blocks` meets its contract: after i turns the sum is that of i blocks, and a turn is 28
+-- points,
 -- their factors, 28 additions. Assumes nothing.
 use borrow.Author.Needs.{needs}
 use Prim.Native.Nat.{_+_, _*_, _-_, _≤_}
@@ -12,16 +13,24 @@ use Rattle.volume.proofs.block.volume_blocks.Statement.{statement}
 use Rattle.volume.proofs.block.volume_blocks.Tie as tie
 
 abbrev Inv-loop : tie.InvT-loop
-Inv-loop sum xyz faces c sigma from n squares₀ heights₀ t₀ u₀ v₀ radicands₀ s₀ g₀ sum₀ i₀ squares heights t u v radicands s g sum' i =
-    (i ≤ n) × (sum' ≡ volumeFrom (triangleAt xyz faces) c sigma from (from + 4 * i) sum) × (length squares ≡ 28) × (length heights ≡ 28)
+Inv-loop sum xyz faces c sigma from n squares₀ heights₀ t₀ u₀ v₀ radicands₀ s₀ g₀ sum₀ i₀ squares heights t u v
+    radicands s g sum' i =
+    (i ≤ n) × (sum' ≡ volumeFrom (triangleAt xyz faces) c sigma from (from + 4 * i) sum) × (length squares ≡ 28)
+    × (length heights ≡ 28)
 
 abbrev μ-loop : tie.MeasureT-loop
-μ-loop sum xyz faces c sigma from n squares₀ heights₀ t₀ u₀ v₀ radicands₀ s₀ g₀ sum₀ i₀ squares heights t u v radicands s g sum' i = n - i
+μ-loop sum xyz faces c sigma from n squares₀ heights₀ t₀ u₀ v₀ radicands₀ s₀ g₀ sum₀ i₀ squares heights t u v radicands
+    s g sum' i =
+    n - i
 
 loop-holds : tie.Need-loop-holds Inv-loop μ-loop
 loop-holds c =
-    let a = c .before .before .args in
-    (search needs, sym (no-block (triangleAt (a .xyz .now) (a .faces .now)) (a .c) (a .sigma) (a .from) (a .sum)), search needs, search needs)
+    let a = c .before .before .args in (
+      search needs,
+      sym (no-block (triangleAt (a .xyz .now) (a .faces .now)) (a .c) (a .sigma) (a .from) (a .sum)),
+      search needs,
+      search needs,
+    )
 
 points-requires : tie.Need-points-requires Inv-loop μ-loop
 points-requires c κs =

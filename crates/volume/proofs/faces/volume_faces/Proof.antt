@@ -8,7 +8,8 @@ use Rattle.volume.proofs.faces.volume_faces.Statement.{statement}
 use Rattle.volume.proofs.faces.volume_faces.Tie as tie
 
 abbrev Inv-loop : tie.InvT-loop
-Inv-loop sum xyz faces c sigma from to sum₀ f₀ sum' f = Left (faceStep (triangleAt xyz faces) c sigma) to f sum' (volumeFrom (triangleAt xyz faces) c sigma from to sum)
+Inv-loop sum xyz faces c sigma from to sum₀ f₀ sum' f =
+    Left (faceStep (triangleAt xyz faces) c sigma) to f sum' (volumeFrom (triangleAt xyz faces) c sigma from to sum)
 
 abbrev μ-loop : tie.MeasureT-loop
 μ-loop sum xyz faces c sigma from to sum₀ f₀ sum' f = to - f

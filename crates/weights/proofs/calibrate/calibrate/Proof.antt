@@ -1,4 +1,5 @@
--- `calibrate` meets its contract: reach, volume and target are worked out once, then the target decides. Assumes nothing.
+-- `calibrate` meets its contract: reach, volume and target are worked out once, then the target decides. Assumes
+-- nothing.
 use borrow.Author.Needs.{needs}
 use Rattle.weights.specs.Calibration.{calibratedRun}
 use Rattle.weights.proofs.calibrate.calibrate.Statement.{statement}
@@ -9,14 +10,29 @@ unfolding calibratedRun
 returns c =
     let i = c .before .before .before .before in
     let v = i .before .before .before in
-    rw (← v .before .before .reach-of .ensures, ← v .before .geometry-scale .ensures, ← v .signed-volume .ensures, ← i .before .before .abs .ensures, ← i .before .target-mass .ensures, i .if1 .taken, c .before .before .write-all .ensures)
+    rw (
+      ← v .before .before .reach-of .ensures,
+      ← v .before .geometry-scale .ensures,
+      ← v .signed-volume .ensures,
+      ← i .before .before .abs .ensures,
+      ← i .before .target-mass .ensures,
+      i .if1 .taken,
+      c .before .before .write-all .ensures,
+    )
 
 returns-2 : tie.Need-returns-2
 unfolding calibratedRun
 returns-2 c =
     let i = c .before .before .before .before in
     let v = i .before .before .before in
-    rw (← v .before .before .reach-of .ensures, ← v .before .geometry-scale .ensures, ← v .signed-volume .ensures, ← i .before .before .abs .ensures, ← i .before .target-mass .ensures, i .if1 .left) (c .before .before .normalize .ensures)
+    rw (
+      ← v .before .before .reach-of .ensures,
+      ← v .before .geometry-scale .ensures,
+      ← v .signed-volume .ensures,
+      ← i .before .before .abs .ensures,
+      ← i .before .target-mass .ensures,
+      i .if1 .left,
+    ) (c .before .before .normalize .ensures)
 
 pub calibrate-spec : {M : Type 1} → statement M
 calibrate-spec =

@@ -23,7 +23,8 @@ calibrate-kernels-spec =
     (tie.spec
     (λ c κs. search needs)
     (λ c. search needs)
-    (λ c κs. passed-call _ _ _ _ (sym (c .before .before .before .check-call .ensures) ∙ c .before .enum-told .given .1))
+    (λ c κs.
+    passed-call _ _ _ _ (sym (c .before .before .before .check-call .ensures) ∙ c .before .enum-told .given .1))
     (λ c. search needs)
     (λ c. search needs)
     returns

@@ -9,7 +9,8 @@ use Rattle.weights.proofs.calibrate.reach_of.Statement.{statement}
 use Rattle.weights.proofs.calibrate.reach_of.Tie as tie
 
 abbrev Inv-loop : tie.InvT-loop
-Inv-loop xyz faces n reach₀ f₀ reach f = Left (reachStep (triangleAt xyz faces)) n f reach (reachOf (triangleAt xyz faces) (faceCount faces))
+Inv-loop xyz faces n reach₀ f₀ reach f =
+    Left (reachStep (triangleAt xyz faces)) n f reach (reachOf (triangleAt xyz faces) (faceCount faces))
 
 abbrev μ-loop : tie.MeasureT-loop
 μ-loop xyz faces n reach₀ f₀ reach f = n - f

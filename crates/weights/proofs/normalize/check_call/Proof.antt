@@ -7,11 +7,13 @@ use Rattle.weights.proofs.normalize.check_call.Tie as tie
 
 returns : tie.Need-returns
 unfolding callCheck
-returns c = rw (← c .before .before .before .check-field .ensures, c .before .enum-told .given .1, le-leb _ _ (c .if1 .taken))
+returns c =
+    rw (← c .before .before .before .check-field .ensures, c .before .enum-told .given .1, le-leb _ _ (c .if1 .taken))
 
 returns-2 : tie.Need-returns-2
 unfolding callCheck
-returns-2 c = rw (← c .before .before .before .check-field .ensures, c .before .enum-told .given .1, lt-leb _ _ (c .if1 .left))
+returns-2 c =
+    rw (← c .before .before .before .check-field .ensures, c .before .enum-told .given .1, lt-leb _ _ (c .if1 .left))
 
 returns-3 : tie.Need-returns-3
 unfolding callCheck

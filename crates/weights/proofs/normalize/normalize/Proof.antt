@@ -14,7 +14,13 @@ returns-2 c =
     let w = c .before .before in
     let s = w .before .before in
     let i = s .before .before in
-    rw (← i .before .some-off .ensures, i .if1 .left, ← s .before .raw-mass .ensures, ← s .scale-of .ensures, w .write-scaled .ensures)
+    rw (
+      ← i .before .some-off .ensures,
+      i .if1 .left,
+      ← s .before .raw-mass .ensures,
+      ← s .scale-of .ensures,
+      w .write-scaled .ensures,
+    )
 
 pub normalize-spec : {M : Type 1} → statement M
 normalize-spec =

@@ -9,7 +9,9 @@ use Rattle.weights.proofs.normalize.raw_mass.Statement.{statement}
 use Rattle.weights.proofs.normalize.raw_mass.Tie as tie
 
 abbrev Inv-loop : tie.InvT-loop
-Inv-loop xyz faces kernels by n sum₀ i₀ sum i = Left (massStep (triangleAt xyz faces) (faceCount faces) (kernelsOf by kernels)) n i sum (rawMass (triangleAt xyz faces) (faceCount faces) (kernelsOf by kernels) n)
+Inv-loop xyz faces kernels by n sum₀ i₀ sum i =
+    Left (massStep (triangleAt xyz faces) (faceCount faces) (kernelsOf by kernels)) n i sum
+    (rawMass (triangleAt xyz faces) (faceCount faces) (kernelsOf by kernels) n)
 
 abbrev μ-loop : tie.MeasureT-loop
 μ-loop xyz faces kernels by n sum₀ i₀ sum i = n - i

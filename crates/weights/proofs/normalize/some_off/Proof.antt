@@ -1,4 +1,5 @@
--- `some_off` meets its contract: the kernels that are left, tested after those so far, give the answer. Assumes nothing.
+-- `some_off` meets its contract: the kernels that are left, tested after those so far, give the answer. Assumes
+-- nothing.
 use mathlib.Core.Path.{refl}
 use Prim.Native.Nat.{_-_}
 use borrow.Author.Needs.{needs}
@@ -8,7 +9,8 @@ use Rattle.weights.proofs.normalize.some_off.Statement.{statement}
 use Rattle.weights.proofs.normalize.some_off.Tie as tie
 
 abbrev Inv-loop : tie.InvT-loop
-Inv-loop kernels by n some₀ i₀ some i = Left (offStep (kernelsOf by kernels)) n i some (someOff (kernelsOf by kernels) n)
+Inv-loop kernels by n some₀ i₀ some i =
+    Left (offStep (kernelsOf by kernels)) n i some (someOff (kernelsOf by kernels) n)
 
 abbrev μ-loop : tie.MeasureT-loop
 μ-loop kernels by n some₀ i₀ some i = n - i

@@ -1,4 +1,5 @@
--- `write_all` meets its contract: the kernels that are left, written, give `writtenOf`; the run keeps its length. Assumes nothing.
+-- `write_all` meets its contract: the kernels that are left, written, give `writtenOf`; the run keeps its length.
+-- Assumes nothing.
 use mathlib.Core.Path.{_≡_, refl}
 use Prim.Native.Nat.{_-_}
 use lib.ListN.{length}
@@ -10,7 +11,9 @@ use Rattle.weights.proofs.normalize.write_all.Statement.{statement}
 use Rattle.weights.proofs.normalize.write_all.Tie as tie
 
 abbrev Inv-loop : tie.InvT-loop
-Inv-loop kernels by n run₀ i₀ run i = Left (writeStep (kernelsOf by kernels)) n i run (writtenOf (kernelsOf by kernels) n run₀) × (length run ≡ length run₀)
+Inv-loop kernels by n run₀ i₀ run i =
+    Left (writeStep (kernelsOf by kernels)) n i run (writtenOf (kernelsOf by kernels) n run₀)
+    × (length run ≡ length run₀)
 
 abbrev μ-loop : tie.MeasureT-loop
 μ-loop kernels by n run₀ i₀ run i = n - i

@@ -38,8 +38,12 @@ nearest-requires c κs = (c .before .split .ensures .most, omega arith)
 returns-3 : tie.Need-returns-3
 returns-3 c =
     let s = c .before .before .before .before in
-    let e = c .nearest .ensures ∙ sym (by-shift _ _ (size-of s) (search needs) _ _ (c .before .before .split .ensures)) in
+    let e = c .nearest .ensures
+    ∙ sym (by-shift _ _ (size-of s) (search needs) _ _ (c .before .before .split .ensures)) in
     (e, rw e (most-is _ _ (size-of s) (search needs)))
 
 pub magnitude-spec : {M : Type 1} → statement M
-magnitude-spec = tie.close (tie.spec (λ c κs. search needs) float-to-bits-b returns split-requires returns-2 sub-nearest nearest-requires returns-3)
+magnitude-spec =
+    tie.close
+    (tie.spec (λ c κs. search needs) float-to-bits-b returns split-requires returns-2 sub-nearest nearest-requires
+    returns-3)
