@@ -4,7 +4,8 @@ use Prim.Native.Nat.{ℕ, _+_, _*_, _%_}
 use mathlib.Core.Bool.{cond}
 use mathlib.Core.List.{List, [], _∷_}
 use lib.Dec.{eqb}
-use lib.ListN.{getD, set, length}
+use lib.ListN.{getD, length}
+use lib.Seq.{sets}
 use lib.Ieee.{Float, nan, neg}
 use Rattle.base.specs.declared.refusal.Refusal.the-variants.{ShortList}
 use Rattle.base.specs.declared.refusal.Checked.{Checked}
@@ -25,15 +26,13 @@ kernelAt xs i =
 unfoldable pub listCheck : List Float → Checked
 listCheck kernels = cond (eqb (length kernels % 6) 0) Passed (Failed ShortList)
 
+-- a kernel as six floats
+abbrev pub six : Kernel → List Float
+six k = getD (k .c) 0 nan ∷ getD (k .c) 1 nan ∷ getD (k .c) 2 nan ∷ k .sigma ∷ k .w ∷ k .alpha ∷ []
+
 -- the list with a kernel written to place i, the other words as they were
 unfoldable pub kernelSet : List Float → ℕ → Kernel → List Float
-kernelSet xs i k =
-    let c0 = set xs (6 * i) (getD (k .c) 0 nan) in
-    let c1 = set c0 (6 * i + 1) (getD (k .c) 1 nan) in
-    let c2 = set c1 (6 * i + 2) (getD (k .c) 2 nan) in
-    let s = set c2 (6 * i + 3) (k .sigma) in
-    let w = set s (6 * i + 4) (k .w) in
-    set w (6 * i + 5) (k .alpha)
+kernelSet xs i k = sets xs (6 * i) (six k)
 
 -- the kernel with the negative of its sigma
 abbrev pub turned : Kernel → Kernel

@@ -3,7 +3,8 @@
 ghost use mathlib.Core.Path.{_≡_};
 ghost use Prim.Native.Nat.{_+_, _*_, _≤_};
 ghost use lib.ListN.{length};
-ghost use Rattle.kernel.specs.Kernels.{kernelAt, listCheck, kernelSet};
+ghost use lib.Seq.{sets};
+ghost use Rattle.kernel.specs.Kernels.{kernelAt, listCheck, six, kernelSet};
 use base::refusal::Checked;
 use base::refusal::Refusal;
 
@@ -40,16 +41,24 @@ pub fn check_list(kernels: &[f64]) -> Checked
     Checked::Failed(Refusal::ShortList)
 }
 
+// Writes a kernel's six floats from index `at` on.
+pub fn write_six(floats: &mut [f64], at: usize, k: Kernel)
+    requires { ⌜ at + 6 ≤ length (now floats) ⌝ }
+    ensures { λ _. ⌜ now (floats .exit) ≡ sets (now (floats .entry)) at (six k) ⌝ }
+{
+    let c = k.c;
+    floats[at] = c[0];
+    floats[at + 1] = c[1];
+    floats[at + 2] = c[2];
+    floats[at + 3] = k.sigma;
+    floats[at + 4] = k.w;
+    floats[at + 5] = k.alpha;
+}
+
 // Writes a kernel to place i of a list.
 pub fn write_kernel(kernels: &mut [f64], i: usize, k: Kernel)
     requires { ⌜ 6 * i + 6 ≤ length (now kernels) ⌝ }
     ensures { λ _. ⌜ now (kernels .exit) ≡ kernelSet (now (kernels .entry)) i k ⌝ }
 {
-    let o = 6 * i;
-    kernels[o] = k.c[0];
-    kernels[o + 1] = k.c[1];
-    kernels[o + 2] = k.c[2];
-    kernels[o + 3] = k.sigma;
-    kernels[o + 4] = k.w;
-    kernels[o + 5] = k.alpha;
+    write_six(kernels, 6 * i, k);
 }

@@ -2,10 +2,11 @@
 use mathlib.Core.Path.{_≡_, refl, sym, ap, _∙_}
 use mathlib.Core.List.{List, [], _∷_, _++_, map, append-assoc}
 use Prim.Native.Nat.{ℕ, zero, suc, _+_, _*_, _-_, _≤_, _<_}
-use native.Mathlib.Numerals.{add-one, add-two, add-three, add-four, add-five}
+use native.Mathlib.Numerals.{add-one}
 use native.Mathlib.Decide.{decLt}
 use native.Mathlib.Omega.{arith}
-use lib.ListN.{length, set, length-append}
+use lib.ListN.{length, length-append}
+use lib.Seq.{sets}
 use lib.Ieee.{Float}
 use Rattle.layout.specs.Runs.{write}
 use Rattle.layout.specs.RunLaws.{sets-write, length-write, write-more, write-none}
@@ -57,7 +58,7 @@ list-more l at vs us f f′ to g e b r =
 -- one piece more of place i
 pub piece-listed : (l : List Float) (at : ℕ) (s : Float) (fs : List Float) (i j : ℕ) (f f′ : List Float)
     → Listed l at (rescaledSixes s (heldAt fs i j)) f → at + 6 * j + 6 ≤ length l
-    → f′ ≡ write f (at + 6 * j) (six (rescaled s (bare (heldPart fs i j))))
+    → f′ ≡ sets f (at + 6 * j) (six (rescaled s (bare (heldPart fs i j))))
     → Listed l at (rescaledSixes s (heldAt fs i (j + 1))) f′
 piece-listed l at s fs i j f f′ g b r =
     let n = rescaled-length s (heldAt fs i j) in
@@ -66,8 +67,9 @@ piece-listed l at s fs i j f f′ g b r =
     ≡ rescaledSixes s (heldAt fs i j) ++ rescaledSixes s (heldPart fs i j ∷ []) = ap
     (λ (t : ℕ). rescaledSixes s (heldAt fs i t)) (add-one j)
     ∙ rescaled-append s (heldAt fs i j) (heldPart fs i j ∷ []) in
-    rw e (list-more l at (rescaledSixes s (heldAt fs i j)) (six (rescaled s (bare (heldPart fs i j)))) f f′
-    (at + 6 * j) g (omega arith) (omega arith) r)
+    let k = six (rescaled s (bare (heldPart fs i j))) in
+    rw e (list-more l at (rescaledSixes s (heldAt fs i j)) k f f′ (at + 6 * j) g (omega arith) (omega arith)
+    (r ∙ sets-write k f (at + 6 * j) (omega (arith, g .long))))
 
 -- one place more
 pub place-listed : (l : List Float) (s : Float) (q : ℕ) (fs : List Float) (ws : List ℕ) (k : ℕ) (f f′ : List Float)
@@ -101,10 +103,8 @@ count-mono q ws k (suc n) h = go (decLt k (suc n)) (λ (l : k ≤ n). count-mono
     go (no l) ih = let e : k ≡ suc n = omega arith in rw e (omega arith)
 
 pub set6-write : (l : List Float) (i : ℕ) (a b c d e f : Float) → i + 6 ≤ length l
-    → set (set (set (set (set (set l i a) (i + 1) b) (i + 2) c) (i + 3) d) (i + 4) e) (i + 5) f
-    ≡ write l i (a ∷ b ∷ c ∷ d ∷ e ∷ f ∷ [])
-set6-write l i a b c d e f h =
-    rw (add-one, add-two, add-three, add-four, add-five) (sets-write (a ∷ b ∷ c ∷ d ∷ e ∷ f ∷ []) l i h)
+    → sets l i (a ∷ b ∷ c ∷ d ∷ e ∷ f ∷ []) ≡ write l i (a ∷ b ∷ c ∷ d ∷ e ∷ f ∷ [])
+set6-write l i a b c d e f h = sets-write (a ∷ b ∷ c ∷ d ∷ e ∷ f ∷ []) l i h
 
 pub count-next : (q : ℕ) (ws : List ℕ) (k : ℕ) → heldPieces q ws (k + 1) ≡ heldPieces q ws k + (statusOf q ws k - 1)
 unfolding heldPieces

@@ -16,6 +16,7 @@ use Rattle.base.specs.declared.refusal.Checked.the-variants.{Passed, Failed}
 use Rattle.layout.specs.Runs.{write}
 use Rattle.volume.specs.Volume.{bodyVolume}
 use Rattle.kernel.specs.declared.kernel.Kernel.{Kernel}
+pub use Rattle.kernel.specs.Kernels.{six}
 use Rattle.pieces.specs.Pieces.{pieceAlpha}
 use Rattle.density.specs.declared.convention.Convention.{Convention}
 use Rattle.density.specs.declared.convention.Convention.the-variants.{Raw, Rho0, Mass}
@@ -111,10 +112,7 @@ reported r filled pieces worst =
       floats = reportValues r ++ (worst ∷ []);
     }
 
--- "List writes c, sigma, rescaled w, alpha per piece"
-abbrev pub six : Kernel → List Float
-six k = getD (k .c) 0 nan ∷ getD (k .c) 1 nan ∷ getD (k .c) 2 nan ∷ k .sigma ∷ k .w ∷ k .alpha ∷ []
-
+-- "List writes c, sigma, rescaled w, alpha per piece": `six` of the piece
 abbrev pub sixes : List Kernel → List Float
 sixes [] = []
 sixes (k ∷ ks) = six k ++ sixes ks

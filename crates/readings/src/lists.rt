@@ -6,29 +6,15 @@ ghost use lib.ListN.{length};
 ghost use Rattle.layout.specs.Runs.{write};
 ghost use Rattle.layout.specs.Layout.{width, placeLimit, pieceLimit, coordsFrom};
 ghost use Rattle.layout.specs.SoundLaws.{Worded};
-ghost use Rattle.readings.specs.Readings.{six, heldAt, heldAll};
+ghost use Rattle.readings.specs.Readings.{heldAt, heldAll};
 ghost use Rattle.readings.specs.Counts.{heldPieces};
 ghost use Rattle.readings.specs.Lists.{rescaledSixes};
 use crate::held::rescaled_at;
-use kernel::kernel::Kernel;
+use kernel::kernel::write_six;
 use layout::left::pieces;
 use layout::offsets::PLACES;
 use layout::offsets::STATE;
 use layout::offsets::WIDTH;
-
-// A kernel's six floats.
-fn write_six(out: &mut [f64], at: usize, k: Kernel)
-    requires { ⌜ at + 6 ≤ length (now out) ⌝ }
-    ensures { λ _. ⌜ now (out .exit) ≡ write (now (out .entry)) at (six k) ⌝ }
-{
-    let c = k.c;
-    out[at] = c[0];
-    out[at + 1] = c[1];
-    out[at + 2] = c[2];
-    out[at + 3] = k.sigma;
-    out[at + 4] = k.w;
-    out[at + 5] = k.alpha;
-}
 
 // The first `count` pieces of place i, by a scale.
 fn place_list(out: &mut [f64], at: usize, floats: &[f64], i: usize, count: usize, s: f64)

@@ -3,7 +3,7 @@ use mathlib.Core.Path.{_≡_, refl, sym, ap, _∙_}
 use mathlib.Core.List.{List, [], _∷_, _++_}
 use Prim.Native.Nat.{ℕ, zero, suc, _+_, _*_, _≤_, _<_}
 use native.Mathlib.Nat.{add-zero, mul-le-mul}
-use native.Mathlib.Numerals.{add-one, add-two, add-three, add-four, add-five, add-six}
+use native.Mathlib.Numerals.{add-one, add-two, add-three}
 use native.Mathlib.Omega.{arith}
 use lib.Ieee.{Float, nan}
 use lib.ListN.{length, getD, set, length-set}
@@ -26,12 +26,6 @@ module _ {A : Type 0} where
   pub set4-write : (l : List A) (i : ℕ) (a b c d : A) → i + 4 ≤ length l
       → set (set (set (set l i a) (i + 1) b) (i + 2) c) (i + 3) d ≡ write l i (a ∷ b ∷ c ∷ d ∷ [])
   set4-write l i a b c d h = rw (add-one, add-two, add-three) (sets-write (a ∷ b ∷ c ∷ d ∷ []) l i h)
-
-  pub set7-write : (l : List A) (i : ℕ) (a b c d e f g : A) → i + 7 ≤ length l
-      → set (set (set (set (set (set (set l i a) (i + 1) b) (i + 2) c) (i + 3) d) (i + 4) e) (i + 5) f) (i + 6) g
-      ≡ write l i (a ∷ b ∷ c ∷ d ∷ e ∷ f ∷ g ∷ [])
-  set7-write l i a b c d e f g h =
-      rw (add-one, add-two, add-three, add-four, add-five, add-six) (sets-write (a ∷ b ∷ c ∷ d ∷ e ∷ f ∷ g ∷ []) l i h)
 
 fresh-length : (fit : Pieces) (n j : ℕ) → length (fresh fit n j) ≡ 3 * n
 fresh-length fit zero j = refl

@@ -1,6 +1,6 @@
 -- 01, "The store": what put answers, with 02's L4, and what it leaves in the two runs. Definitions only.
 use mathlib.Core.Bool.{cond}
-use mathlib.Core.List.{List, [], _∷_}
+use mathlib.Core.List.{List, [], _∷_, _++_}
 use Prim.Native.Nat.{ℕ, zero, suc, _+_, _*_}
 use lib.Dec.{eqb}
 use lib.ListN.{getD}
@@ -9,6 +9,7 @@ use Rattle.base.specs.Answers.{Answer, andThen}
 use Rattle.base.specs.Floats.{+0}
 use Rattle.layout.specs.Runs.{write}
 use Rattle.kernel.specs.declared.kernel.Kernel.{Kernel}
+use Rattle.kernel.specs.Kernels.{six}
 use Rattle.pieces.specs.declared.fit.Fit.{Fit}
 use Rattle.pieces.specs.declared.pieces.Pieces.{Pieces}
 use Rattle.pieces.specs.Pieces.{decomposed}
@@ -19,7 +20,7 @@ use Rattle.layout.specs.After.{After, after, guarded}
 
 -- "c, sigma, w, alpha, error"
 abbrev pub seven : Kernel → Float → List Float
-seven k error = getD (k .c) 0 nan ∷ getD (k .c) 1 nan ∷ getD (k .c) 2 nan ∷ k .sigma ∷ k .w ∷ k .alpha ∷ error ∷ []
+seven k error = six k ++ (error ∷ [])
 
 -- "sigma, coefficient, volume so far", which is "0 before the first" face: n pieces from j on; past the last, the fit's
 -- arrays are +0

@@ -14,6 +14,7 @@ ghost use Rattle.store.specs.PutAnswer.{placed};
 use base::refusal::Checked;
 use base::refusal::Refusal;
 use kernel::kernel::Kernel;
+use kernel::kernel::write_six;
 use layout::check::check_layer;
 use layout::check::check_place;
 use layout::offsets::KERNEL;
@@ -33,18 +34,12 @@ pub enum Placed {
     Refused(Refusal),
 }
 
-// A kernel's seven floats.
-fn write_kernel(floats: &mut [f64], at: usize, k: Kernel, error: f64)
+// A kernel's seven floats: its own six, and its fit's error.
+fn write_seven(floats: &mut [f64], at: usize, k: Kernel, error: f64)
     requires { ⌜ at + 7 ≤ length (now floats) ⌝ }
     ensures { λ _. ⌜ now (floats .exit) ≡ write (now (floats .entry)) at (seven k error) ⌝ }
 {
-    let c = k.c;
-    floats[at] = c[0];
-    floats[at + 1] = c[1];
-    floats[at + 2] = c[2];
-    floats[at + 3] = k.sigma;
-    floats[at + 4] = k.w;
-    floats[at + 5] = k.alpha;
+    write_six(floats, at, k);
     floats[at + 6] = error;
 }
 
@@ -91,7 +86,7 @@ fn fill(floats: &mut [f64], words: &mut [u32], i: usize, k: Kernel, fit: Pieces,
     ensures { λ _. ⌜ (now (floats .exit) ≡ putFloats (now (floats .entry)) i k fit)
         × (now (words .exit) ≡ putWords width (now (words .entry)) i fit layer) ⌝ }
 {
-    write_kernel(floats, KERNEL + KERNEL_SIZE * i, k, fit.error);
+    write_seven(floats, KERNEL + KERNEL_SIZE * i, k, fit.error);
     write_pieces(floats, PIECE + PIECES_SIZE * i, fit);
     write_state(words, STATE + WIDTH * i, fit.count as u32, layer);
 }

@@ -1,5 +1,4 @@
--- `kernel::kernel::write_kernel` meets its contract: the list keeps its length from store to store. Assumes nothing.
-use lib.ListN.{length-set}
+-- `kernel::kernel::write_kernel` meets its contract. Assumes nothing.
 use borrow.Author.Needs.{needs}
 use Rattle.kernel.specs.Kernels.{kernelSet}
 use Rattle.kernel.proofs.kernel.write_kernel.Statement.{statement}
@@ -7,32 +6,8 @@ use Rattle.kernel.proofs.kernel.write_kernel.Tie as tie
 
 returns : tie.Need-returns
 unfolding kernelSet
-returns c = search needs
+returns c = c .before .before .write-six .ensures
 
 pub write-kernel-spec : {M : Type 1} → statement M
 write-kernel-spec =
-    tie.close
-    (tie.spec
-    (λ c. search needs)
-    (λ c. search needs)
-    (λ c. search needs)
-    (λ c. search needs)
-    (λ c. search needs)
-    (λ c. search needs)
-    (λ c. search needs)
-    (λ c. simp length-set (search needs))
-    (λ c. search needs)
-    (λ c. search needs)
-    (λ c. search needs)
-    (λ c. simp length-set (search needs))
-    (λ c. search needs)
-    (λ c. search needs)
-    (λ c. simp length-set (search needs))
-    (λ c. search needs)
-    (λ c. search needs)
-    (λ c. simp length-set (search needs))
-    (λ c. search needs)
-    (λ c. search needs)
-    (λ c. simp length-set (search needs))
-    (λ c. simp length-set)
-    returns)
+    tie.close (tie.spec (λ c. search needs) (λ c κs. search needs) (λ c. search needs) returns)

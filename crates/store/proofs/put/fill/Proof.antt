@@ -8,7 +8,7 @@ returns : tie.Need-returns
 unfolding putFloats putWords
 returns c =
     let c11 = c .before .before .before .before .before .before .before .before .before .before .before in (
-      rw (c .before .before .before .before .before .before .before .write-pieces .ensures, c11 .write-kernel .ensures),
+      rw (c .before .before .before .before .before .before .before .write-pieces .ensures, c11 .write-seven .ensures),
       c .before .before .write-state .ensures,
     )
 
