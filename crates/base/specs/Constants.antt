@@ -208,12 +208,12 @@ quarter-is = refl
 -- ---- 01, "Remainder"
 
 -- mesh_enclosed_volume divides by it
-abbrev pub six : Float
-six = bits 0x4018_0000_0000_0000
+abbrev pub floatSix : Float
+floatSix = bits 0x4018_0000_0000_0000
 
-pub six-is : six ≡ decimal 6 0
+pub floatSix-is : floatSix ≡ decimal 6 0
 unfolding ofBits round
-six-is = refl
+floatSix-is = refl
 
 -- calibrate_kernels stretches the kernels where the mesh reaches beyond it
 abbrev pub ten : Float

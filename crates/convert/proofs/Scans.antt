@@ -10,7 +10,7 @@ use lib.ListN.{length}
 use lib.Ieee.{Float}
 use borrow.Author.Tests.{eqb-true, eqb-false}
 use Rattle.text.specs.Text.{Text, lost, left, Got, rest, got}
-use Rattle.text.specs.TextLaws.{rest-out, rest-whole, rest-all, rest-cons, rest-none}
+use Rattle.text.specs.TextLaws.{rest-out, rest-end, rest-all, rest-cons, rest-none}
 use Rattle.convert.specs.Loaders.{alike, allAlike}
 use Rattle.convert.specs.Lines.{fileLine, fileLines, linesIn, ended}
 use Rattle.convert.specs.declared.file.FileKernel.{FileKernel}
@@ -124,12 +124,12 @@ module _ (s : List ℕ) (d : Float) where
       found z (ap (λ (m : ℕ). fileLines m (rest s k)) e ∙ none-asked (rest s k))
 
 -- whether a position is the text's end
-pub whole-is : (s : List ℕ) (k : ℕ) → length s ≤ k → eqb k (length s) ≡ ended (rest s k)
-whole-is s k h = go (eqb k (length s)) refl
+pub ended-is : (s : List ℕ) (k : ℕ) → length s ≤ k → eqb k (length s) ≡ ended (rest s k)
+ended-is s k h = go (eqb k (length s)) refl
   where
     go : (b : Bool) → eqb k (length s) ≡ b → b ≡ ended (rest s k)
-    go true e = sym (ap (λ (j : ℕ). ended (rest s j)) (eqb-true k (length s) e) ∙ ap ended (rest-whole s))
+    go true e = sym (ap (λ (j : ℕ). ended (rest s j)) (eqb-true k (length s) e) ∙ ap ended (rest-end s))
     go false e = let n = eqb-false k (length s) e in sym (ap ended (rest-out s k (omega (arith, n))))
 
-pub not-whole : (s : List ℕ) (k : ℕ) → k < length s → false ≡ ended (rest s k)
-not-whole s k h = sym (ap ended (rest-cons s k h))
+pub not-ended : (s : List ℕ) (k : ℕ) → k < length s → false ≡ ended (rest s k)
+not-ended s k h = sym (ap ended (rest-cons s k h))

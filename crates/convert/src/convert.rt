@@ -64,7 +64,7 @@ pub fn convert(s: &[u8], default: f64, loader: Loader, out: &mut [f64]) -> Conve
         ≡ conversion (now (s .entry)) default loader (now (out .entry)) ⌝ }
 {
     let scan = scan_lines(s, default);
-    if !scan.whole {
+    if !scan.ended {
         return Converted::Refused(Refusal::BadKernelLine);
     }
     let n = scan.lines;

@@ -29,7 +29,7 @@ pub struct ReadKernel {
 pub struct Scan {
     pub lines: usize,
     pub same: bool,
-    pub whole: bool,
+    pub ended: bool,
 }
 
 // h
@@ -100,7 +100,7 @@ pub fn read_kernel(s: &[u8], at: usize) -> ReadKernel
 pub fn scan_lines(s: &[u8], default: f64) -> Scan
     ensures { λ r. ⌜ r .lines ≡ length (filed (now (s .entry))) ⌝ }
     ensures { λ r. ⌜ r .same ≡ allAlike default (filed (now (s .entry))) ⌝ }
-    ensures { λ r. ⌜ r .whole ≡ allLines (now (s .entry)) ⌝ }
+    ensures { λ r. ⌜ r .ended ≡ allLines (now (s .entry)) ⌝ }
 {
     let mut lines: usize = 0;
     let mut same = true;
@@ -110,7 +110,7 @@ pub fn scan_lines(s: &[u8], default: f64) -> Scan
             return Scan {
                 lines,
                 same,
-                whole: false,
+                ended: false,
             };
         }
         let r = read_kernel(s, at);
@@ -122,6 +122,6 @@ pub fn scan_lines(s: &[u8], default: f64) -> Scan
     Scan {
         lines,
         same,
-        whole: at == s.len(),
+        ended: at == s.len(),
     }
 }

@@ -9,15 +9,15 @@ use lib.Dec.{leb, ltb}
 use borrow.Author.Tests.{ltb-true, ltb-false}
 use Rattle.text.specs.Text.{lost, left, rest, got}
 use Rattle.text.specs.Form.{Form, Vals, map, read}
-use Rattle.text.specs.TextLaws.{rest-out, rest-whole, rest-all, rest-cons}
+use Rattle.text.specs.TextLaws.{rest-out, rest-end, rest-all, rest-cons}
 use Rattle.text.specs.FormLaws.{stands}
 use Rattle.forms.specs.Forms.{ifEnded}
-use Rattle.forms.specs.Words.{whole}
+use Rattle.forms.specs.Words.{readAs}
 use Rattle.forms.specs.declared.line.Line.{Line}
 use Rattle.forms.specs.declared.line.Line.the-variants.{Bad}
 
-pub whole-is : (s : List ℕ) (k : ℕ) (l : Line) → k ≡ length s → l ≡ ifEnded (rest s k) l
-whole-is s k l e = sym ((λ i. ifEnded (rest s (e i)) l) ∙ (λ i. ifEnded (rest-whole s i) l))
+pub ended-is : (s : List ℕ) (k : ℕ) (l : Line) → k ≡ length s → l ≡ ifEnded (rest s k) l
+ended-is s k l e = sym ((λ i. ifEnded (rest s (e i)) l) ∙ (λ i. ifEnded (rest-end s i) l))
 
 pub other-is : (s : List ℕ) (k : ℕ) (l : Line) → (k ≡ length s → ⊥) → Bad ≡ ifEnded (rest s k) l
 other-is s k l h = go (ltb k (length s)) refl
@@ -36,8 +36,8 @@ stands-rest s k = go (leb k (length s))
     go false = refl
 
 -- what a form says of a text from its start on
-pub whole-as : (f : Form) (to : Vals f → Line) (s : List ℕ) (l : Line) (k : ℕ) → got s l k ≡ map to (read f (rest s 0))
-    → ifEnded (rest s k) l ≡ whole f to s
-whole-as f to s l k e =
+pub read-as : (f : Form) (to : Vals f → Line) (s : List ℕ) (l : Line) (k : ℕ) → got s l k ≡ map to (read f (rest s 0))
+    → ifEnded (rest s k) l ≡ readAs f to s
+read-as f to s l k e =
     (λ i. ifEnded (e i .text) (e i .val))
     ∙ (λ i. ifEnded (read f (rest-all s i) .text) (to (read f (rest-all s i) .val)))

@@ -6,7 +6,7 @@ use mathlib.Core.Logic.{_⊎_, inl, inr}
 use Prim.Native.Nat.{ℕ}
 use Rattle.text.specs.Text.{Text, lost, left}
 use Rattle.text.specs.Form.{end, either, Vals, read, Spells, Fit, NoNan}
-use Rattle.text.specs.FormLaws.{back-whole, spells, spelled}
+use Rattle.text.specs.FormLaws.{back-all, spells, spelled}
 use Rattle.density.specs.declared.convention.Convention.{Convention}
 use Rattle.density.specs.declared.convention.Convention.the-variants.{Raw, Rho0, Mass}
 use Rattle.forms.specs.declared.line.Line.{Line}
@@ -60,8 +60,8 @@ of-is v l g e = subst (λ (m : Line). (h : Good m) → ofLine m h ≡ v) (sym e)
 pub parse-print : (l : Line) (g : Good l) → Fit lineForm (ofLine l g) → parseLine (printLine l g) ≡ l
 unfolding parseLine
 parse-print l g h =
-    (λ i. ifEnded (back-whole lineForm (ofLine l g) tt h i .text)
-    (toLine (back-whole lineForm (ofLine l g) tt h i .val))) ∙ to-of l g
+    (λ i. ifEnded (back-all lineForm (ofLine l g) tt h i .text)
+    (toLine (back-all lineForm (ofLine l g) tt h i .val))) ∙ to-of l g
 
 ended : (t : Text) (l : Line) → Good (ifEnded t l) → (t ≡ left []) × (ifEnded t l ≡ l)
 ended lost l g = absurd g

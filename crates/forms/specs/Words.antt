@@ -18,21 +18,21 @@ abbrev ended : Got Line → Line
 ended g = ifEnded (g .text) (g .val)
 
 -- a text that is of this form alone, and else Bad
-abbrev pub whole : (f : Form) → (Vals f → Line) → List ℕ → Line
-whole f to s = ended (map to (read f (left s)))
+abbrev pub readAs : (f : Form) → (Vals f → Line) → List ℕ → Line
+readAs f to s = ended (map to (read f (left s)))
 
 -- the form that the first word names; a line that begins with none of these words but the last is of no form
 abbrev pub byWord : List ℕ → Line
 byWord s =
-    cond (begins (bytes "(open (radius ") s) (whole openForm toOpen s)
-    (cond (begins (bytes "(vert ") s) (whole vertForm toVert s)
-    (cond (begins (bytes "(face ") s) (whole faceForm toFace s)
-    (cond (begins (bytes "(put ") s) (whole putForm toPut s)
-    (cond (begins (bytes "(clear ") s) (whole clearForm toClear s)
-    (cond (begins (bytes "(reweigh ") s) (whole reweighForm toReweigh s)
-    (cond (begins (bytes "(advance ") s) (whole advanceForm toAdvance s)
-    (cond (begins (bytes "(density ") s) (whole densityForm toDensity s)
-    (whole reportForm toReport s))))))))
+    cond (begins (bytes "(open (radius ") s) (readAs openForm toOpen s)
+    (cond (begins (bytes "(vert ") s) (readAs vertForm toVert s)
+    (cond (begins (bytes "(face ") s) (readAs faceForm toFace s)
+    (cond (begins (bytes "(put ") s) (readAs putForm toPut s)
+    (cond (begins (bytes "(clear ") s) (readAs clearForm toClear s)
+    (cond (begins (bytes "(reweigh ") s) (readAs reweighForm toReweigh s)
+    (cond (begins (bytes "(advance ") s) (readAs advanceForm toAdvance s)
+    (cond (begins (bytes "(density ") s) (readAs densityForm toDensity s)
+    (readAs reportForm toReport s))))))))
 
 -- ---- of two forms, the one that the word names
 
@@ -45,12 +45,12 @@ first-says g h e = go (g .val) (g .text)
     go v (left l) = refl
 
 named : (p : List ℕ) (a b : Form) (to : Vals a → Line) (on : Vals b → Line) (s : List ℕ) {y : Line}
-    → Leads p a → T (other p b) → T (clear b) → whole b on s ≡ y
-    → whole (either a b end) (choose to on) s ≡ cond (begins p s) (whole a to s) y
+    → Leads p a → T (other p b) → T (clear b) → readAs b on s ≡ y
+    → readAs (either a b end) (choose to on) s ≡ cond (begins p s) (readAs a to s) y
 named p a b to on s l o c u =
     (λ i. ended (choose-is a b to on (left s) i))
     ∙ go (strip p s) refl
-    ∙ (λ i. cond (begins p s) (whole a to s) (u i))
+    ∙ (λ i. cond (begins p s) (readAs a to s) (u i))
   where
     g : Got Line
     g = map to (read a (left s))

@@ -47,73 +47,76 @@ fn low_quotient(t: f64, v: f64) -> f64
 
 // What the halvings start from, the radicands f of the first, and guesses for their roots, of which
 // nothing is promised. Where no radius is above 1 nothing is divided.
-fn as_given(t: &[f64], v: &mut [f64], f: &mut [f64], y: &mut [f64])
-    requires { ⌜ (length (now t) ≡ 28) × (length (now v) ≡ 28) × (length (now f) ≡ 28) × (length (now y) ≡ 28)
+fn as_given(t: &[f64], v: &mut [f64], radicands: &mut [f64], y: &mut [f64])
+    requires { ⌜ (length (now t) ≡ 28) × (length (now v) ≡ 28) × (length (now radicands) ≡ 28) × (length (now y) ≡ 28)
         × AllLow (now t) ⌝ }
     ensures { λ _. ⌜ Each inverted (now (t .entry)) (now (v .exit))
-        × Each (λ s. radicand (inverted s)) (now (t .entry)) (now (f .exit)) ⌝ }
+        × Each (λ s. radicand (inverted s)) (now (t .entry)) (now (radicands .exit)) ⌝ }
 {
     for i in 0..28usize {
         let a = t[i];
         let s = 1.0 + a * a;
         v[i] = a;
-        f[i] = s;
+        radicands[i] = s;
         y[i] = near_unit(s);
     }
 }
 
 // The same of any radii. In a loop of its own the division is written out 28 times, with branches.
-fn invert(t: &[f64], v: &mut [f64], f: &mut [f64], y: &mut [f64])
-    requires { ⌜ (length (now t) ≡ 28) × (length (now v) ≡ 28) × (length (now f) ≡ 28) × (length (now y) ≡ 28) ⌝ }
+fn invert(t: &[f64], v: &mut [f64], radicands: &mut [f64], y: &mut [f64])
+    requires { ⌜ (length (now t) ≡ 28) × (length (now v) ≡ 28) × (length (now radicands) ≡ 28)
+        × (length (now y) ≡ 28) ⌝ }
     ensures { λ _. ⌜ Each inverted (now (t .entry)) (now (v .exit))
-        × Each (λ s. radicand (inverted s)) (now (t .entry)) (now (f .exit)) ⌝ }
+        × Each (λ s. radicand (inverted s)) (now (t .entry)) (now (radicands .exit)) ⌝ }
 {
     for i in 0..28usize {
         let a = inverted(t[i]);
         let s = 1.0 + a * a;
         v[i] = a;
-        f[i] = s;
+        radicands[i] = s;
         y[i] = near_unit(s);
     }
 }
 
 // The same, by what `high` says of the radii.
-fn start(t: &[f64], high: u64, v: &mut [f64], f: &mut [f64], y: &mut [f64])
-    requires { ⌜ (length (now t) ≡ 28) × (length (now v) ≡ 28) × (length (now f) ≡ 28) × (length (now y) ≡ 28)
+fn start(t: &[f64], high: u64, v: &mut [f64], radicands: &mut [f64], y: &mut [f64])
+    requires { ⌜ (length (now t) ≡ 28) × (length (now v) ≡ 28) × (length (now radicands) ≡ 28) × (length (now y) ≡ 28)
         × (high ≡ 0 → AllLow (now t)) ⌝ }
     ensures { λ _. ⌜ Each inverted (now (t .entry)) (now (v .exit))
-        × Each (λ s. radicand (inverted s)) (now (t .entry)) (now (f .exit)) ⌝ }
+        × Each (λ s. radicand (inverted s)) (now (t .entry)) (now (radicands .exit)) ⌝ }
 {
     if high == 0 {
-        as_given(t, v, f, y);
+        as_given(t, v, radicands, y);
     } else {
-        invert(t, v, f, y);
+        invert(t, v, radicands, y);
     }
 }
 
 // The radicands of the second halving, at most 1.1716, and guesses for their roots.
-fn guess_second(v: &[f64], f: &mut [f64], y: &mut [f64])
-    requires { ⌜ (length (now v) ≡ 28) × (length (now f) ≡ 28) × (length (now y) ≡ 28) ⌝ }
-    ensures { λ _. ⌜ Each radicand (now (v .entry)) (now (f .exit)) ⌝ }
+fn guess_second(v: &[f64], radicands: &mut [f64], y: &mut [f64])
+    requires { ⌜ (length (now v) ≡ 28) × (length (now radicands) ≡ 28) × (length (now y) ≡ 28) ⌝ }
+    ensures { λ _. ⌜ Each radicand (now (v .entry)) (now (radicands .exit)) ⌝ }
 {
     for i in 0..28usize {
         let a = v[i];
         let s = 1.0 + a * a;
-        f[i] = s;
+        radicands[i] = s;
         y[i] = near_one(s);
     }
 }
 
 // The tangents of the half angles, from the radicands f and guesses y, if the flag is 0.
-fn halve(f: &[f64], y: &[f64], v: &mut [f64]) -> u64
-    requires { ⌜ (length (now f) ≡ 28) × (length (now y) ≡ 28) × (length (now v) ≡ 28) × Radicands (now f)
+fn halve(radicands: &[f64], y: &[f64], v: &mut [f64]) -> u64
+    requires { ⌜ (length (now radicands) ≡ 28) × (length (now y) ≡ 28) × (length (now v) ≡ 28)
+        × Radicands (now radicands)
         × Tangents (now v) ⌝ }
-    ensures { λ r. ⌜ Tangents (now (v .exit)) × (r ≡ 0 → Halves (now (v .entry)) (now (f .entry)) (now (v .exit))) ⌝ }
+    ensures { λ r. ⌜ Tangents (now (v .exit))
+        × (r ≡ 0 → Halves (now (v .entry)) (now (radicands .entry)) (now (v .exit))) ⌝ }
 {
     let mut coarse = 0u64;
     let mut far = 0u64;
     for i in 0..28usize {
-        let p = unit_lane(f[i], y[i]);
+        let p = unit_lane(radicands[i], y[i]);
         v[i] = v[i] / (1.0 + p.root);
         coarse = coarse | p.coarse;
         far = far | p.far;
@@ -122,22 +125,24 @@ fn halve(f: &[f64], y: &[f64], v: &mut [f64]) -> u64
 }
 
 // A halving, by guesses that are made better first.
-fn halve_by(f: &[f64], y: &mut [f64], v: &mut [f64]) -> u64
-    requires { ⌜ (length (now f) ≡ 28) × (length (now y) ≡ 28) × (length (now v) ≡ 28) × Radicands (now f)
+fn halve_by(radicands: &[f64], y: &mut [f64], v: &mut [f64]) -> u64
+    requires { ⌜ (length (now radicands) ≡ 28) × (length (now y) ≡ 28) × (length (now v) ≡ 28)
+        × Radicands (now radicands)
         × Tangents (now v) ⌝ }
-    ensures { λ r. ⌜ Tangents (now (v .exit)) × (r ≡ 0 → Halves (now (v .entry)) (now (f .entry)) (now (v .exit))) ⌝ }
+    ensures { λ r. ⌜ Tangents (now (v .exit))
+        × (r ≡ 0 → Halves (now (v .entry)) (now (radicands .entry)) (now (v .exit))) ⌝ }
 {
-    sharpen_all(f, y, 7.8e-17);
-    halve(f, y, v)
+    sharpen_all(radicands, y, 7.8e-17);
+    halve(radicands, y, v)
 }
 
 // The second halving; f is for the radicands and y for guesses.
-fn halve_again(v: &mut [f64], f: &mut [f64], y: &mut [f64]) -> u64
-    requires { ⌜ (length (now v) ≡ 28) × (length (now f) ≡ 28) × (length (now y) ≡ 28) × Tangents (now v) ⌝ }
+fn halve_again(v: &mut [f64], radicands: &mut [f64], y: &mut [f64]) -> u64
+    requires { ⌜ (length (now v) ≡ 28) × (length (now radicands) ≡ 28) × (length (now y) ≡ 28) × Tangents (now v) ⌝ }
     ensures { λ r. ⌜ (r ≡ 0 → Each halved (now (v .entry)) (now (v .exit))) ⌝ }
 {
-    guess_second(v, f, y);
-    halve_by(f, y, v)
+    guess_second(v, radicands, y);
+    halve_by(radicands, y, v)
 }
 
 // The factors of the radii t, none above 1, v being what the halvings leave.
@@ -174,14 +179,14 @@ fn quotients(t: &[f64], high: u64, v: &[f64], g: &mut [f64])
 
 // The factors of radii t of at least 0.1, none above 1 if `high` is 0, if the flag is 0; v is for the
 // tangents, f for the radicands, and g for guesses before it holds the factors.
-pub fn arcs(t: &[f64], high: u64, v: &mut [f64], f: &mut [f64], g: &mut [f64]) -> u64
-    requires { ⌜ (length (now t) ≡ 28) × (length (now v) ≡ 28) × (length (now f) ≡ 28) × (length (now g) ≡ 28)
+pub fn arcs(t: &[f64], high: u64, v: &mut [f64], radicands: &mut [f64], g: &mut [f64]) -> u64
+    requires { ⌜ (length (now t) ≡ 28) × (length (now v) ≡ 28) × (length (now radicands) ≡ 28) × (length (now g) ≡ 28)
         × AllLarge (now t) × (high ≡ 0 → AllLow (now t)) ⌝ }
     ensures { λ r. ⌜ (r ≡ 0 → Each radialG (now (t .entry)) (now (g .exit))) ⌝ }
 {
-    start(t, high, v, f, g);
-    let first = halve_by(f, g, v);
-    let second = halve_again(v, f, g);
+    start(t, high, v, radicands, g);
+    let first = halve_by(radicands, g, v);
+    let second = halve_again(v, radicands, g);
     quotients(t, high, v, g);
     first | second
 }

@@ -34,23 +34,23 @@ fn staged(
     t: &mut [f64],
     u: &mut [f64],
     v: &mut [f64],
-    f: &mut [f64],
+    radicands: &mut [f64],
     s: &mut [f64],
     g: &mut [f64],
 ) -> u64
     requires { ⌜ (length (now x) ≡ 28) × (length (now t) ≡ 28) × (length (now u) ≡ 28) × (length (now v) ≡ 28)
-        × (length (now f) ≡ 28) × (length (now s) ≡ 28) × (length (now g) ≡ 28) ⌝ }
+        × (length (now radicands) ≡ 28) × (length (now s) ≡ 28) × (length (now g) ≡ 28) ⌝ }
     ensures { λ r. ⌜ (r ≡ 0 → Each (factor sigma) (now (x .entry)) (now (g .exit))) ⌝ }
 {
-    let found = radii_of(x, sigma, f, g, t);
+    let found = radii_of(x, sigma, radicands, g, t);
     if found.low == 0 {
-        return found.flag | arcs(t, found.high, v, f, g);
+        return found.flag | arcs(t, found.high, v, radicands, g);
     }
     let large = all_series(t, g);
     if large == 0 {
         return found.flag;
     }
-    found.flag | mixed(t, found.high, u, v, f, s, g)
+    found.flag | mixed(t, found.high, u, v, radicands, s, g)
 }
 
 // Writes to g the radial factor of each point, x being the squares of the distances, for any sigma; the arcs of a
@@ -62,13 +62,13 @@ pub fn factors(
     t: &mut [f64; 28],
     u: &mut [f64; 28],
     v: &mut [f64; 28],
-    f: &mut [f64; 28],
+    radicands: &mut [f64; 28],
     s: &mut [f64; 28],
     g: &mut [f64; 28],
 )
     ensures { λ _. ⌜ Each (factor sigma) (now (x .entry)) (now (g .exit)) ⌝ }
 {
-    if staged(x, sigma, t, u, v, f, s, g) == 0 {
+    if staged(x, sigma, t, u, v, radicands, s, g) == 0 {
         return;
     }
     one_by_one(x, sigma, g);

@@ -65,16 +65,16 @@ pub fn mixed(
     high: u64,
     u: &mut [f64],
     v: &mut [f64],
-    f: &mut [f64],
+    radicands: &mut [f64],
     s: &mut [f64],
     g: &mut [f64],
 ) -> u64
-    requires { ⌜ (length (now t) ≡ 28) × (length (now u) ≡ 28) × (length (now v) ≡ 28) × (length (now f) ≡ 28)
+    requires { ⌜ (length (now t) ≡ 28) × (length (now u) ≡ 28) × (length (now v) ≡ 28) × (length (now radicands) ≡ 28)
         × (length (now s) ≡ 28) × (length (now g) ≡ 28) × SmallFactors (now t) (now g) × (high ≡ 0 → AllLow (now t)) ⌝ }
     ensures { λ r. ⌜ (r ≡ 0 → Each radialG (now (t .entry)) (now (g .exit))) ⌝ }
 {
     let sides = raise(t, u);
-    let arc = arcs(u, high, v, f, s);
+    let arc = arcs(u, high, v, radicands, s);
     choose(t, s, g);
     sides | arc
 }

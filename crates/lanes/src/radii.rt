@@ -17,23 +17,23 @@ pub struct Found {
 }
 
 // Guesses y for the roots of the significands f, of which nothing is promised.
-fn guess(x: &[f64], f: &mut [f64], y: &mut [f64])
-    requires { ⌜ (length (now x) ≡ 28) × (length (now f) ≡ 28) × (length (now y) ≡ 28) ⌝ }
+fn guess(x: &[f64], radicands: &mut [f64], y: &mut [f64])
+    requires { ⌜ (length (now x) ≡ 28) × (length (now radicands) ≡ 28) × (length (now y) ≡ 28) ⌝ }
 {
     for i in 0..28usize {
         let p = near(x[i]);
-        f[i] = p.part;
+        radicands[i] = p.part;
         y[i] = p.near;
     }
 }
 
 // Better guesses, of which nothing is promised but that there are 28; `less` is as `sharpen` takes it.
-pub fn sharpen_all(f: &[f64], y: &mut [f64], less: f64)
-    requires { ⌜ (length (now f) ≡ 28) × (length (now y) ≡ 28) ⌝ }
+pub fn sharpen_all(radicands: &[f64], y: &mut [f64], less: f64)
+    requires { ⌜ (length (now radicands) ≡ 28) × (length (now y) ≡ 28) ⌝ }
     ensures { λ _. ⌜ length (now (y .exit)) ≡ 28 ⌝ }
 {
     for i in 0..28usize {
-        y[i] = sharpen(f[i], y[i], less);
+        y[i] = sharpen(radicands[i], y[i], less);
     }
 }
 
@@ -77,11 +77,12 @@ fn radii(x: &[f64], y: &[f64], sigma: f64, t: &mut [f64]) -> Found
 }
 
 // The radii in t; f is for significands and y for guesses.
-pub fn radii_of(x: &[f64], sigma: f64, f: &mut [f64], y: &mut [f64], t: &mut [f64]) -> Found
-    requires { ⌜ (length (now x) ≡ 28) × (length (now f) ≡ 28) × (length (now y) ≡ 28) × (length (now t) ≡ 28) ⌝ }
+pub fn radii_of(x: &[f64], sigma: f64, radicands: &mut [f64], y: &mut [f64], t: &mut [f64]) -> Found
+    requires { ⌜ (length (now x) ≡ 28) × (length (now radicands) ≡ 28) × (length (now y) ≡ 28)
+        × (length (now t) ≡ 28) ⌝ }
     ensures { λ r. ⌜ Radii sigma (now (x .entry)) r (now (t .exit)) ⌝ }
 {
-    guess(x, f, y);
-    sharpen_all(f, y, 1.1102230246251565e-16);
+    guess(x, radicands, y);
+    sharpen_all(radicands, y, 1.1102230246251565e-16);
     radii(x, y, sigma, t)
 }

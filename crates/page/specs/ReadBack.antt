@@ -57,13 +57,13 @@ abbrev pub told : (ℕ → ℤ) → Got ℕ → Got ℤ
 told f g = record { val = f (g .val); text = g .text }
 
 -- the same after a minus sign or none
-abbrev pub whole : List ℕ → Got ℤ
-whole [] = told pos (count [])
-whole (b ∷ l) = cond (eqb b 45) (told (λ n. negℤ (pos n)) (count l)) (told pos (count (b ∷ l)))
+abbrev pub readWhole : List ℕ → Got ℤ
+readWhole [] = told pos (count [])
+readWhole (b ∷ l) = cond (eqb b 45) (told (λ n. negℤ (pos n)) (count l)) (told pos (count (b ∷ l)))
 
 -- the mass in a line
 abbrev pub readMass : List ℕ → Got ℤ
-readMass l = whole (skip (columns 45 64 l))
+readMass l = readWhole (skip (columns 45 64 l))
 
 -- all that is read in a place's line
 pub record Shown : Type 0 where
@@ -155,15 +155,15 @@ text-starts n = subst (λ (j : ℕ). Starts (digits 10 j n)) (sym (some-digits 1
 plain-skip : (l : List ℕ) → Starts l → skip l ≡ l
 plain-skip l s = rw (s .is) (rw (ne-eqb (s .first) 32 (λ z. omega (arith, s .low))) refl)
 
-plain-whole : (l : List ℕ) → Starts l → whole l ≡ told pos (count l)
+plain-whole : (l : List ℕ) → Starts l → readWhole l ≡ told pos (count l)
 plain-whole l s = rw (s .is) (rw (ne-eqb (s .first) 45 (λ z. omega (arith, s .low))) refl)
 
 number-back : (n : ℕ) → n < 100000000000000000 → count (decimalText n) ≡ exactly n
 number-back n h =
     ap count (sym (append-nil (decimalText n))) ∙ decimal-back 18446744073709551615 n [] (omega arith) (omega arith) tt
 
-text-back : (v : ℤ) → natAbs v < 100000000000000000 → whole (skip (wholeText v)) ≡ exactly v
-text-back (pos n) h = ap whole (plain-skip (decimalText n) (text-starts n))
+text-back : (v : ℤ) → natAbs v < 100000000000000000 → readWhole (skip (wholeText v)) ≡ exactly v
+text-back (pos n) h = ap readWhole (plain-skip (decimalText n) (text-starts n))
     ∙ plain-whole (decimalText n) (text-starts n) ∙ ap (told pos) (number-back n h)
 text-back (negsuc n) h = ap (told (λ m. negℤ (pos m))) (number-back (suc n) h)
 
@@ -171,8 +171,8 @@ count-back : (n : ℕ) → n < 100 → count (skip (right 2 (decimalText n))) �
 count-back n h = ap count (skip-spaces (2 - length (decimalText n)) (decimalText n)
     ∙ plain-skip (decimalText n) (text-starts n)) ∙ number-back n (omega arith)
 
-whole-back : (v : ℤ) → natAbs v < 100000000000000000 → whole (skip (right 20 (wholeText v))) ≡ exactly v
-whole-back v h = ap whole (skip-spaces (20 - length (wholeText v)) (wholeText v)) ∙ text-back v h
+whole-back : (v : ℤ) → natAbs v < 100000000000000000 → readWhole (skip (right 20 (wholeText v))) ≡ exactly v
+whole-back v h = ap readWhole (skip-spaces (20 - length (wholeText v)) (wholeText v)) ∙ text-back v h
 
 -- ---- k bytes after the first a
 cut : (a k : ℕ) (p c u : List ℕ) → length p ≡ a → length c ≡ k → take k (drop a (p ++ (c ++ u))) ≡ c
@@ -195,8 +195,8 @@ mass-back l p v h e a t =
     let w = right-length 20 (wholeText v) (whole-length v h) in
     let j : l ++ t ≡ p ++ (c ++ (10 ∷ t)) = ap (λ (x : List ℕ). x ++ t) e ∙ append-assoc p (c ++ (10 ∷ [])) t
     ∙ ap (λ (x : List ℕ). p ++ x) (append-assoc c (10 ∷ []) t) in
-    ap (λ (x : List ℕ). whole (skip (columns 45 64 x))) j
-    ∙ ap (λ (x : List ℕ). whole (skip x)) (cut 44 20 p c (10 ∷ t) a w) ∙ whole-back v h
+    ap (λ (x : List ℕ). readWhole (skip (columns 45 64 x))) j
+    ∙ ap (λ (x : List ℕ). readWhole (skip x)) (cut 44 20 p c (10 ∷ t) a w) ∙ whole-back v h
 
 -- ---- a place's line
 module _ (i n : ℕ) (v : ℤ) (hi : i < 100) (hn : n < 100) (hv : natAbs v < 100000000000000000) where

@@ -162,10 +162,10 @@ module _ (s : Bool) (m : ℕ) (e : ℤ) (h : T (fits binary64 (fin s (suc m) e))
       let p : 0 < down e * 1 = mul-pos (down-pos e) (pow-pos 0) in
       let first : scale (fin s (suc m) e) (pos 1023) ≡ inf s
       = round-inf s (suc m * up e * 2 ^ 1023) (down e * 1) p over in
-      let whole : scale (fin s (suc m) e) (pos 1024) ≡ inf s
+      let at-once : scale (fin s (suc m) e) (pos 1024) ≡ inf s
       = round-inf s (suc m * up e * 2 ^ 1024) (down e * 1) p
       (le-trans over (mul-le-mul-left (suc m * up e) (lit≤ tt))) in
-      ap (λ (x : Float). scale x (pos 1)) first ∙ sym whole
+      ap (λ (x : Float). scale x (pos 1)) first ∙ sym at-once
 
   up-exact : suc m * up e * 2 ^ 1023 < 2 ^ 1024 * (down e * 1)
       → scale (scale (fin s (suc m) e) (pos 1023)) (pos 1) ≡ scale (fin s (suc m) e) (pos 1024)

@@ -1,4 +1,4 @@
 pub mod Long
-pub mod Whole
+pub mod Prints
 pub mod Zeros
 pub mod Reached

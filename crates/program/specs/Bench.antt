@@ -1,5 +1,5 @@
--- 01, "Remainder", program `bench`: what it prints for its whole input, by lines. Definitions only; `whole`
--- (proofs/Whole.antt) says that the bytes, fed one by one, give this.
+-- 01, "Remainder", program `bench`: what it prints for its whole input, by lines. Definitions only; `prints`
+-- (proofs/Prints.antt) says that the bytes, fed one by one, give this.
 use Prim.Native.Nat.{ℕ}
 use mathlib.Core.Bool.{cond}
 use mathlib.Core.Path.{_≡_}

@@ -37,18 +37,18 @@ module _ (n sig ex a : ℕ) (s : Scaled n sig ex) (r : Rounded (sig * 2 ^ (ex % 
   q : ℕ
   q = floorRoot (sig * 2 ^ (ex % 2) * 2 ^ 54)
 
-  whole : IsRoot (sig * 2 ^ (ex % 2) * 2 ^ 54) q
+  is-root : IsRoot (sig * 2 ^ (ex % 2) * 2 ^ 54) q
   unfolding q
-  whole = floorRoot-is (sig * 2 ^ (ex % 2) * 2 ^ 54)
+  is-root = floorRoot-is (sig * 2 ^ (ex % 2) * 2 ^ 54)
 
   root-least : 2 ^ 53 ≤ q
-  root-least = digits-least (sig * 2 ^ (ex % 2)) q (doubled-least n sig ex s) whole
+  root-least = digits-least (sig * 2 ^ (ex % 2)) q (doubled-least n sig ex s) is-root
 
   root-most : q < 2 ^ 54
-  root-most = digits-most (sig * 2 ^ (ex % 2)) q (doubled-most n sig ex s) whole
+  root-most = digits-most (sig * 2 ^ (ex % 2)) q (doubled-most n sig ex s) is-root
 
   halved : a ≡ q / 2 + q % 2
-  halved = rounded-is (sig * 2 ^ (ex % 2)) a q r whole
+  halved = rounded-is (sig * 2 ^ (ex % 2)) a q r is-root
 
   pub least : 2 ^ 52 ≤ a
   least = subst (λ (x : ℕ). 2 ^ 52 ≤ x) (sym halved) (half-least q root-least)
@@ -59,7 +59,7 @@ module _ (n sig ex a : ℕ) (s : Scaled n sig ex) (r : Rounded (sig * 2 ^ (ex % 
   has-value : HasValue (rootUnits binary64 n) false (a * 2 ^ suc (ex / 2 + 484)) (2 ^ 1074)
   has-value =
       subst (λ (x : ℕ). HasValue (rootUnits binary64 n) false (x * 2 ^ suc (ex / 2 + 484)) (2 ^ 1074)) (sym halved)
-      (root-value n (sig * 2 ^ (ex % 2)) q (ex / 2 + 484) (radicand n sig ex s) whole root-least root-most
+      (root-value n (sig * 2 ^ (ex % 2)) q (ex / 2 + 484) (radicand n sig ex s) is-root root-least root-most
       (few (s .top)))
     where
       few : ex ≤ 2097 → ex / 2 + 484 ≤ 1533

@@ -11,7 +11,7 @@ use lib.Dec.{T, eqb, ltb}
 use lib.Ieee.{Float}
 use lib.ListN.{length}
 use Rattle.text.specs.Text.{Text, lost, left, rest, Got}
-use Rattle.text.specs.TextLaws.{rest-whole, rest-out}
+use Rattle.text.specs.TextLaws.{rest-end, rest-out}
 use Rattle.base.specs.Answers.{Answer, done}
 use Rattle.layout.specs.After.{After, after}
 use Rattle.store.specs.Puts.{putStep}
@@ -103,7 +103,7 @@ module _ (f : Form) where
       go : (b : Bool) → eqb k (length s) ≡ b
           → linesTo f m (rest s k) ≡ record { val = []; text = cond b (left []) lost }
       go true e = let d = eqb-true k (length s) e in ap (λ (j : ℕ). linesTo f m (rest s j)) d
-          ∙ ap (linesTo f m) (rest-whole s) ∙ to-whole m
+          ∙ ap (linesTo f m) (rest-end s) ∙ to-whole m
       go false e = let d = eqb-false k (length s) e in ap (linesTo f m) (rest-out s k (omega arith)) ∙ to-lost m
 
 -- what the check of the put lines finds: whether they are all that follows, how many, and whether each names a place

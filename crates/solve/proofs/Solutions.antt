@@ -24,12 +24,12 @@ pub square-within : (n : ℕ) → n ≤ 16 → n * (n + 1) ≤ 272
 square-within n h = le-trans (mul-le-mul-right (n + 1) h) (omega arith)
 
 module _ (n : ℕ) (cells xs : List Float) (m₁ m₂ : Matrix) (r : Elimination) (small : n ≤ 16)
-    (whole : length cells ≡ n * (n + 1)) (room : n ≤ length xs)
+    (full : length cells ≡ n * (n + 1)) (room : n ≤ length xs)
     (read : m₁ ≡ loaded n cells blank) (ended : endedAs r m₂ ≡ eliminated n m₁) where
   concludes : solution n cells xs ≡ concluded n xs (endedAs r m₂)
   unfolding solution
   concludes =
-      simp (le-ltb 16 n small, eq-eqb (length cells) (n * (n + 1)) whole, le-ltb (length xs) n room, ended, read)
+      simp (le-ltb 16 n small, eq-eqb (length cells) (n * (n + 1)) full, le-ltb (length xs) n room, ended, read)
 
   pub solves : {s : Float} {ys : List Float} → r ≡ Reduced s → ys ≡ answers n m₂ xs
       → outcome (accepted (s ∷ [])) ys ≡ solution n cells xs

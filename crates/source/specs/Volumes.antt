@@ -7,7 +7,7 @@ use mathlib.Core.List.{List, [], _∷_}
 use lib.ListN.{length}
 use lib.Ieee.{Float, le}
 use Rattle.base.specs.Floats.{_⊕_, _⊖_, _⊗_, _⊘_, +0, abs}
-use Rattle.base.specs.Constants.{half, tenth, three, six}
+use Rattle.base.specs.Constants.{half, tenth, three, floatSix}
 use Rattle.base.specs.Loops.{times}
 use Rattle.base.specs.Answers.{Answer, answered}
 use Rattle.powers.specs.Arc.{arc}
@@ -64,7 +64,7 @@ centroidOf t =
 
 -- (centroid·n) / 6
 unfoldable pub pyramid : Triangle → Float
-pyramid t = dot (centroidOf t) (normalOf t) ⊘ six
+pyramid t = dot (centroidOf t) (normalOf t) ⊘ floatSix
 
 abbrev pub pyramidTo : (ℕ → Triangle) → ℕ → Float → Float
 pyramidTo t f total = total ⊕ pyramid (t f)

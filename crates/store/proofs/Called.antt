@@ -15,7 +15,7 @@ use Rattle.layout.specs.Soundness.{storeCheck}
 use Rattle.layout.specs.SoundLaws.{fine}
 use Rattle.layout.specs.After.{after}
 use Rattle.store.specs.Squeeze.{rank, renumbered, squeezed, squeezeStep}
-use Rattle.store.specs.Marks.{Whole}
+use Rattle.store.specs.Marks.{MeshOf}
 use Rattle.store.specs.MarkLaws.{rank-le}
 use Rattle.store.specs.SqueezeLaws.{squeezed-length, part-write}
 
@@ -39,8 +39,8 @@ module _ (fs : List Float) (ws : List ℕ) (ok : storeCheck width fs ws ≡ Pass
   long-corners : length KS ≡ 3 * ms
   long-corners = length-part ws (cornersFrom width) (3 * ms) (fine width fs ws ok .mesh .words)
 
-  pub whole-held : Whole XS KS vs
-  whole-held =
+  pub mesh-held : MeshOf XS KS vs
+  mesh-held =
       let h = fine width fs ws ok .mesh in
       let n = long-corners in
       record {

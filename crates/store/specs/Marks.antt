@@ -42,7 +42,7 @@ abbrev pub numberOf : List ℕ → List ℕ → ℕ → ℕ
 numberOf ms rs k = getD rs (k / 32) 0 + ones (getD ms (k / 32) 0 % 2 ^ (k % 32))
 
 -- a mesh of v vertices
-pub record Whole (xs : List Float) (ks : List ℕ) (v : ℕ) : Type 0 where
+pub record MeshOf (xs : List Float) (ks : List ℕ) (v : ℕ) : Type 0 where
   pub coords : length xs ≡ 3 * v
   pub verts : v ≤ vertexLimit
   pub below : Below v ks

@@ -5,7 +5,7 @@ ghost use mathlib.Core.List.{List, map};
 ghost use Prim.Native.Nat.{ℕ, _+_, _*_, _≤_, _<_};
 ghost use lib.ListN.{length, take};
 ghost use Rattle.store.specs.Squeeze.{rank, keptTo, renumbered, squeezed};
-ghost use Rattle.store.specs.Marks.{Marked, Ranked, Below, Whole, numberOf};
+ghost use Rattle.store.specs.Marks.{Marked, Ranked, Below, MeshOf, numberOf};
 use crate::marks::mark;
 use crate::marks::marked;
 use crate::marks::number;
@@ -48,7 +48,7 @@ fn gather(xyz: &mut [f64], marks: &[u32; 32768], verts: usize) -> usize
 
 // Squeezes a mesh of so many vertices; answers how many are left.
 pub fn squeeze_mesh(xyz: &mut [f64], corners: &mut [u32], verts: usize) -> usize
-    requires { ⌜ Whole (now xyz) (now corners) verts ⌝ }
+    requires { ⌜ MeshOf (now xyz) (now corners) verts ⌝ }
     ensures { λ r. ⌜ (r ≡ rank (now (corners .entry)) verts)
         × (now (xyz .exit) ≡ squeezed (now (corners .entry)) (now (xyz .entry)) verts)
         × (now (corners .exit) ≡ renumbered (now (corners .entry))) ⌝ }

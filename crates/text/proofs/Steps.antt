@@ -13,7 +13,7 @@ use lib.Seq.{drop-cons, drop-length}
 use lib.Dec.{lit<, ltb, eqb}
 use borrow.Author.Tests.{le-leb, lt-leb, eq-eqb, ne-eqb, lt-ltb, le-ltb, ltb-true}
 use Rattle.text.specs.Text.{Text, lost, left, rest, literal, keepIf, digit, pattern, patternFrom, decimalFrom, decimal, missing, Got}
-use Rattle.text.specs.TextLaws.{rest-out, rest-past, rest-whole, rest-cons, rest-next, rest-none, hexes, no-pattern}
+use Rattle.text.specs.TextLaws.{rest-out, rest-past, rest-end, rest-cons, rest-next, rest-none, hexes, no-pattern}
 
 -- a byte of the literal more
 pub literal-turn : (p s : List ℕ) (i k : ℕ) → i < length p → k < length s
@@ -136,7 +136,7 @@ module _ (s : List ℕ) (most k v : ℕ) (hk : k < length s) where
 
 pub decimal-end : (s : List ℕ) (most k v : ℕ) → k ≡ length s
     → decimalFrom most v (drop k s) ≡ record { val = v; text = rest s k }
-decimal-end s most k v e = rw (e, drop-length, rest-whole)
+decimal-end s most k v e = rw (e, drop-length, rest-end)
 
 -- the first digit
 module _ (s : List ℕ) (most k : ℕ) where

@@ -301,9 +301,9 @@ pub back : (f : Form) (v : Vals f) (r : List ℕ) → T (clear f) → Fit f v
 back f v r c h = reads f v (print f v ++ r) r c (printed f v r h)
 
 -- and as a whole text
-pub back-whole : (f : Form) (v : Vals f) → T (clear f) → Fit f v
+pub back-all : (f : Form) (v : Vals f) → T (clear f) → Fit f v
     → read f (left (print f v)) ≡ record { val = v; text = left [] }
-back-whole f v c h =
+back-all f v c h =
     reads f v (print f v) [] c (subst (λ (l : List ℕ). Spells f v l []) (append-nil (print f v)) (printed f v [] h))
 
 -- ---- the first of two tokens at a position

@@ -22,8 +22,8 @@ rest-out s k h = rw (lt-leb k (length s) h)
 pub rest-past : (s : List ℕ) → rest s (length s + 1) ≡ lost
 rest-past s = rest-out s (length s + 1) (omega arith)
 
-pub rest-whole : (s : List ℕ) → rest s (length s) ≡ left []
-rest-whole s = rest-in s (length s) (omega arith) ∙ ap left (drop-length s)
+pub rest-end : (s : List ℕ) → rest s (length s) ≡ left []
+rest-end s = rest-in s (length s) (omega arith) ∙ ap left (drop-length s)
 
 pub rest-all : (s : List ℕ) → rest s 0 ≡ left s
 rest-all s = rest-in s 0 (omega arith)

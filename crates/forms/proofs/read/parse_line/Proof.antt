@@ -2,7 +2,7 @@
 use mathlib.Core.Path.{sym, _∙_}
 use borrow.Author.Needs.{needs}
 use Rattle.forms.specs.Words.{by-word}
-use Rattle.forms.proofs.Steps.{whole-is, other-is}
+use Rattle.forms.proofs.Steps.{ended-is, other-is}
 use Rattle.forms.proofs.read.parse_line.Statement.{statement}
 use Rattle.forms.proofs.read.parse_line.Tie as tie
 
@@ -11,7 +11,7 @@ returns c =
     let s = c .before .before .before .before .args .s .now in
     let r = c .before .before .read-line in
     let e = r .ensures ∙ sym (by-word s) in
-    whole-is s (r .result .at) (r .result .line) (c .if1 .taken) ∙ e
+    ended-is s (r .result .at) (r .result .line) (c .if1 .taken) ∙ e
 
 returns-2 : tie.Need-returns-2
 returns-2 c =

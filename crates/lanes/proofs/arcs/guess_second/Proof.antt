@@ -11,10 +11,10 @@ use Rattle.lanes.proofs.arcs.guess_second.Statement.{statement}
 use Rattle.lanes.proofs.arcs.guess_second.Tie as tie
 
 abbrev Inv-loop : tie.InvT-loop
-Inv-loop v f₀ y₀ i₀ f y i = Filled 28 (Of radicand v) f₀ i f × (length y ≡ 28)
+Inv-loop v radicands₀ y₀ i₀ radicands y i = Filled 28 (Of radicand v) radicands₀ i radicands × (length y ≡ 28)
 
 abbrev μ-loop : tie.MeasureT-loop
-μ-loop v f₀ y₀ i₀ f y i = 28 - i
+μ-loop v radicands₀ y₀ i₀ radicands y i = 28 - i
 
 pub guess-second-spec : {M : Type 1} → statement M
 guess-second-spec =

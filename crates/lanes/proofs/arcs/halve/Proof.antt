@@ -16,14 +16,15 @@ use Rattle.lanes.proofs.arcs.halve.Statement.{statement}
 use Rattle.lanes.proofs.arcs.halve.Tie as tie
 
 abbrev Inv-loop : tie.InvT-loop
-Inv-loop f y v₀ coarse₀ far₀ i₀ v coarse far i =
+Inv-loop radicands y v₀ coarse₀ far₀ i₀ v coarse far i =
     Filled 28 (λ (j : ℕ) (z : Float). Within 0 1 z) v₀ i v
     × Filled 28
-    (If (Clear 54 coarse far) (λ (j : ℕ) (z : Float). z ≡ getD v₀ j nan ⊘ (one ⊕ squareRoot binary64 (getD f j nan))))
+    (If (Clear 54 coarse far)
+    (λ (j : ℕ) (z : Float). z ≡ getD v₀ j nan ⊘ (one ⊕ squareRoot binary64 (getD radicands j nan))))
     v₀ i v
 
 abbrev μ-loop : tie.MeasureT-loop
-μ-loop f y v₀ coarse₀ far₀ i₀ v coarse far i = 28 - i
+μ-loop radicands y v₀ coarse₀ far₀ i₀ v coarse far i = 28 - i
 
 loop-again : tie.Need-loop-again Inv-loop μ-loop
 loop-again c =

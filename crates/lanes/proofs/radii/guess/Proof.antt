@@ -7,10 +7,10 @@ use Rattle.lanes.proofs.radii.guess.Statement.{statement}
 use Rattle.lanes.proofs.radii.guess.Tie as tie
 
 abbrev Inv-loop : tie.InvT-loop
-Inv-loop x f₀ y₀ i₀ f y i = (i ≤ 28) × (length f ≡ 28) × (length y ≡ 28)
+Inv-loop x radicands₀ y₀ i₀ radicands y i = (i ≤ 28) × (length radicands ≡ 28) × (length y ≡ 28)
 
 abbrev μ-loop : tie.MeasureT-loop
-μ-loop x f₀ y₀ i₀ f y i = 28 - i
+μ-loop x radicands₀ y₀ i₀ radicands y i = 28 - i
 
 pub guess-spec : {M : Type 1} → statement M
 guess-spec =

@@ -7,10 +7,10 @@ use Rattle.lanes.proofs.radii.sharpen_all.Statement.{statement}
 use Rattle.lanes.proofs.radii.sharpen_all.Tie as tie
 
 abbrev Inv-loop : tie.InvT-loop
-Inv-loop f y₀ less i₀ y i = (i ≤ 28) × (length y ≡ 28)
+Inv-loop radicands y₀ less i₀ y i = (i ≤ 28) × (length y ≡ 28)
 
 abbrev μ-loop : tie.MeasureT-loop
-μ-loop f y₀ less i₀ y i = 28 - i
+μ-loop radicands y₀ less i₀ y i = 28 - i
 
 pub sharpen-all-spec : {M : Type 1} → statement M
 sharpen-all-spec =

@@ -5,7 +5,7 @@ use native.Mathlib.Omega.{arith}
 use Rattle.layout.specs.Layout.{width}
 use Rattle.layout.specs.SoundLaws.{fine}
 use Rattle.store.specs.Squeeze.{squeezeStep}
-use Rattle.store.proofs.Called.{in-front, whole-held, few-kept, called}
+use Rattle.store.proofs.Called.{in-front, mesh-held, few-kept, called}
 use Rattle.store.proofs.squeeze.squeeze.Statement.{statement}
 use Rattle.store.proofs.squeeze.squeeze.Tie as tie
 
@@ -71,7 +71,7 @@ squeeze-spec =
     ))
     (λ c κs.
     let c4 = c .before .before .before .before in
-    whole-held _ _ (sym (c4 .before .before .check-store .ensures) ∙ c4 .enum-told .given .1))
+    mesh-held _ _ (sym (c4 .before .before .check-store .ensures) ∙ c4 .enum-told .given .1))
     (λ c.
     let c9 = c .before .before .before .before .before .before .before .before .before in
     omega (

@@ -94,5 +94,5 @@ from s l line n (b ∷ input) r h =
     go false p q = q
 
 -- ---- the theorem: whatever stood in the run of a line's bytes
-pub whole : (line input : List ℕ) → length line ≡ lineRoom → printed (heldWith atFirst line 0) input ≡ bench input
-whole line input r = from atFirst [] line 0 input r (all refl (omega arith) refl)
+pub prints : (line input : List ℕ) → length line ≡ lineRoom → printed (heldWith atFirst line 0) input ≡ bench input
+prints line input r = from atFirst [] line 0 input r (all refl (omega arith) refl)
