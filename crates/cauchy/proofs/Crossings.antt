@@ -1,5 +1,5 @@
--- An answer can be read off what C gets: the number is 0 just where nothing is refused, and no value is lost. Assumes
--- nothing.
+-- An answer can be read off what C gets: the number is 0 just where nothing is refused, and no value is lost.
+-- Assumes nothing.
 use Prim.Native.Nat.{ℕ}
 use mathlib.Core.Path.{_≡_, refl}
 use mathlib.Core.Bool.{cond}

@@ -1,5 +1,5 @@
--- The lines of a text, read one after the other: how many, whether both loaders agree, and what is left. Assumes
--- nothing.
+-- The lines of a text, read one after the other: how many, whether both loaders agree, and what is left.
+-- Assumes nothing.
 use mathlib.Core.Path.{_≡_, refl, sym, ap, _∙_}
 use mathlib.Core.List.{List, [], _∷_}
 use mathlib.Core.Bool.{Bool, true, false, _&&_, and-true, and-assoc}

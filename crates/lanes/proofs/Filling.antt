@@ -1,5 +1,5 @@
--- A loop that sets, or looks at, each of 28 elements: what is shown of them, also where that hangs on flags. Assumes
--- nothing.
+-- A loop that sets, or looks at, each of 28 elements: what is shown of them, also where that hangs on flags.
+-- Assumes nothing.
 use mathlib.Core.Path.{_≡_, subst, subst⁻¹}
 use Prim.Native.Nat.{ℕ, _+_, _/_, _^_, _≤_, _<_}
 use native.Mathlib.Nat.{lt-of-le-of-lt, lt-of-lt-of-le, one-mul, div-lt-iff-lt-mul}

@@ -1,6 +1,6 @@
 -- Theorems of how a fit ended: kept exactly where the kernel stays, no exponent exactly where alpha is a NaN, a fitted
--- one's pivot a NaN or above 1e-18, a fallback's column among the terms; and what it does not depend on. Assumes
--- nothing.
+-- one's pivot a NaN or above 1e-18, a fallback's column among the terms; and what it does not depend on.
+-- Assumes nothing.
 use mathlib.Core.Path.{_≡_, refl, sym, ap, subst}
 use mathlib.Core.Bool.{Bool, true, false, cond}
 use mathlib.Core.List.{List}

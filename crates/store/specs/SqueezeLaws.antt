@@ -1,5 +1,5 @@
--- Laws of a squeezed mesh: lengths, what the loops leave, and that its triangles are those of the mesh. Assumes
--- nothing.
+-- Laws of a squeezed mesh: lengths, what the loops leave, and that its triangles are those of the mesh.
+-- Assumes nothing.
 use mathlib.Core.Path.{_≡_, refl, sym, ap, _∙_}
 use mathlib.Core.Bool.{Bool, true, false, _||_, cond}
 use mathlib.Core.List.{List, [], _∷_, _++_, map, append-assoc, append-nil}

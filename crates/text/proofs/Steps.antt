@@ -1,5 +1,5 @@
--- One step of a token at a position: what `rest` is there, and what the token's definition makes of it. Assumes
--- nothing.
+-- One step of a token at a position: what `rest` is there, and what the token's definition makes of it.
+-- Assumes nothing.
 use mathlib.Core.Path.{_≡_, refl, sym, ap, _∙_}
 use mathlib.Core.List.{List, [], _∷_}
 use mathlib.Core.Bool.{Bool, true, false, _&&_, and-false, and-eq-true-iff}

@@ -1,5 +1,5 @@
--- `density_of` meets its contract: its test is the definition's, and the power is called where it fails. Assumes
--- nothing.
+-- `density_of` meets its contract: its test is the definition's, and the power is called where it fails.
+-- Assumes nothing.
 use borrow.Author.Needs.{needs}
 use Rattle.density.specs.Densitize.{densityOf}
 use Rattle.density.proofs.densitize.density_of.Statement.{statement}

@@ -1,5 +1,5 @@
--- `density_sum` meets its contract: the kernels that are left, added to the sum so far, give the density. Assumes
--- nothing.
+-- `density_sum` meets its contract: the kernels that are left, added to the sum so far, give the density.
+-- Assumes nothing.
 use mathlib.Core.Path.{refl}
 use Prim.Native.Nat.{_-_}
 use borrow.Author.Needs.{needs}

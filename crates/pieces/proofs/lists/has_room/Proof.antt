@@ -1,5 +1,5 @@
--- `pieces::lists::has_room` meets its contract: the room that is left and the pieces so far are the room. Assumes
--- nothing.
+-- `pieces::lists::has_room` meets its contract: the room that is left and the pieces so far are the room.
+-- Assumes nothing.
 use mathlib.Core.Path.{_≡_}
 use Prim.Native.Nat.{_+_, _-_, _≤_}
 use native.Mathlib.Omega.{arith}

@@ -1,5 +1,5 @@
--- `add_row` meets its contract: the cells that are left, added to, give `crossed`; then the right side. Assumes
--- nothing.
+-- `add_row` meets its contract: the cells that are left, added to, give `crossed`; then the right side.
+-- Assumes nothing.
 use borrow.Author.Needs.{needs}
 use Prim.Native.Nat.{_-_}
 use mathlib.Core.Path.{refl, ap}

@@ -1,5 +1,5 @@
--- `readings::tracks::side_by_side` meets its contract: the pieces that are laid down have the pieces' density. Assumes
--- nothing.
+-- `readings::tracks::side_by_side` meets its contract: the pieces that are laid down have the pieces' density.
+-- Assumes nothing.
 use mathlib.Core.Path.{sym, ap, _∙_}
 use mathlib.Core.List.{List, map}
 use native.Mathlib.Omega.{arith}

@@ -1,5 +1,5 @@
--- `signed_volume` meets its contract: the faces that are left, added to the sum so far, give the volume. Assumes
--- nothing.
+-- `signed_volume` meets its contract: the faces that are left, added to the sum so far, give the volume.
+-- Assumes nothing.
 use mathlib.Core.Path.{refl}
 use Prim.Native.Nat.{_-_}
 use borrow.Author.Needs.{needs}

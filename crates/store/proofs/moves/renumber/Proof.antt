@@ -1,5 +1,5 @@
--- `squeeze::moves::renumber` meets its contract. The invariant: the corners looked at have their new numbers. Assumes
--- nothing.
+-- `squeeze::moves::renumber` meets its contract. The invariant: the corners looked at have their new numbers.
+-- Assumes nothing.
 use mathlib.Core.Path.{_≡_, refl, sym}
 use Prim.Native.Nat.{_*_, _-_, _≤_}
 use native.Mathlib.Omega.{arith}

@@ -1,5 +1,5 @@
--- `pieces_rows::systems::load_cells` is safe and ends: the indices stay within the table and the array. Assumes
--- nothing.
+-- `pieces_rows::systems::load_cells` is safe and ends: the indices stay within the table and the array.
+-- Assumes nothing.
 use Prim.Native.Nat.{_≤_, _-_}
 use borrow.Author.Needs.{needs}
 use Rattle.test_pieces.proofs.systems.load_cells.Statement.{statement}

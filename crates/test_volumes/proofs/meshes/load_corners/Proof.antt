@@ -1,5 +1,5 @@
--- `volume_rows::meshes::load_corners` is safe and ends: the indices stay within the table and the array. Assumes
--- nothing.
+-- `volume_rows::meshes::load_corners` is safe and ends: the indices stay within the table and the array.
+-- Assumes nothing.
 use Prim.Native.Nat.{_≤_, _-_}
 use borrow.Author.Needs.{needs}
 use Rattle.test_volumes.proofs.meshes.load_corners.Statement.{statement}

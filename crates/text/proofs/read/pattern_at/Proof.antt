@@ -1,5 +1,5 @@
--- Sixteen digits: at each turn those from `at + i` on, after those that make `v`, give what all give at `at`. Assumes
--- nothing.
+-- Sixteen digits: at each turn those from `at + i` on, after those that make `v`, give what all give at `at`.
+-- Assumes nothing.
 use mathlib.Core.Path.{_≡_, refl, sym, _∙_}
 use mathlib.Core.Bool.{true}
 use Prim.Native.Nat.{_+_, _-_, _*_, _^_, _≤_, _<_}

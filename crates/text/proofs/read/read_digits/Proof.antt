@@ -1,5 +1,5 @@
--- Decimal digits: at each turn those from `k` on, after those that make `v`, give what all give at `at`. Assumes
--- nothing.
+-- Decimal digits: at each turn those from `k` on, after those that make `v`, give what all give at `at`.
+-- Assumes nothing.
 use mathlib.Core.Path.{_≡_, refl, sym, _∙_}
 use Prim.Native.Nat.{_*_, _+_, _≤_, _<_, _-_}
 use native.Mathlib.Omega.{arith}

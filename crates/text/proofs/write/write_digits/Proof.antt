@@ -1,5 +1,5 @@
--- Digits written from the last: at each turn those before it, once written, make the run that all make. Assumes
--- nothing.
+-- Digits written from the last: at each turn those before it, once written, make the run that all make.
+-- Assumes nothing.
 use mathlib.Core.Path.{_≡_, refl, sym, _∙_}
 use Prim.Native.Nat.{_≤_, _+_, _%_}
 use native.Mathlib.Omega.{arith}

@@ -1,5 +1,5 @@
--- `volume::block::face_points` meets its contract: a counting loop over the seven points, in both arrays. Assumes
--- nothing.
+-- `volume::block::face_points` meets its contract: a counting loop over the seven points, in both arrays.
+-- Assumes nothing.
 use mathlib.Core.Path.{refl}
 use Prim.Native.Nat.{_-_}
 use borrow.Author.Needs.{needs}

@@ -1,5 +1,5 @@
--- `calibrate` meets its contract: reach, volume and target are worked out once, then the target decides. Assumes
--- nothing.
+-- `calibrate` meets its contract: reach, volume and target are worked out once, then the target decides.
+-- Assumes nothing.
 use borrow.Author.Needs.{needs}
 use Rattle.weights.specs.Calibration.{calibratedRun}
 use Rattle.weights.proofs.calibrate.calibrate.Statement.{statement}

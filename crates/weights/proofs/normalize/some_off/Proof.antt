@@ -1,5 +1,5 @@
--- `some_off` meets its contract: the kernels that are left, tested after those so far, give the answer. Assumes
--- nothing.
+-- `some_off` meets its contract: the kernels that are left, tested after those so far, give the answer.
+-- Assumes nothing.
 use mathlib.Core.Path.{refl}
 use Prim.Native.Nat.{_-_}
 use borrow.Author.Needs.{needs}
