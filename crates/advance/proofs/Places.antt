@@ -107,8 +107,7 @@ module _ (f₀ : List Float) (w₀ : List ℕ) (vs m b₀ : ℕ) where
         mesh-f = ap (drop coordsFrom) ef ∙ (work-mesh _ _ _ i _ hi (r .pieces) b _ ∙ g .mesh-f);
         mesh-w =
             ap (drop (cornersFrom width)) ew
-            ∙
-            (drop-set-lt (cornersFrom width) (set w (3 + width * i) (t .finished)) (4 + width * i) (t .done)
+            ∙ (drop-set-lt (cornersFrom width) (set w (3 + width * i) (t .finished)) (4 + width * i) (t .done)
             (omega arith)
             ∙ (drop-set-lt (cornersFrom width) w (3 + width * i) (t .finished) (omega arith) ∙ g .mesh-w));
         ahead =

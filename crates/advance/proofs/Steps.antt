@@ -207,6 +207,5 @@ module _ (f₀ : List Float) (w : List ℕ) (vs ms i p n₀ d₀ b₀ : ℕ) whe
   stopped f n d b g e =
       let q : b₀ - b + b ≡ b₀ = omega (arith, g .spent) in
       sym (idle _ _ _ _ _ b (work f n d b) e) ∙ (ap (iterate stepHere b) (g .state)
-      ∙
-      (sym (iterate-add stepHere (b₀ - b) b (work f₀ n₀ d₀ b₀))
+      ∙ (sym (iterate-add stepHere (b₀ - b) b (work f₀ n₀ d₀ b₀))
       ∙ ap (λ (j : ℕ). iterate stepHere j (work f₀ n₀ d₀ b₀)) q))

@@ -14,8 +14,7 @@ returns : tie.Need-returns
 returns c =
     let a = c .before .args in
     let q0 = lt-ltb vertexLimit (a .verts) (c .if1 .taken) in
-    sym
-    (λ i. verdict (q0 i) (ltb faceLimit (a .faces)) (a .below) (leb (coordsFrom + 3 * a .verts) (a .floats))
+    sym (λ i. verdict (q0 i) (ltb faceLimit (a .faces)) (a .below) (leb (coordsFrom + 3 * a .verts) (a .floats))
     (leb (cornersFrom width + 3 * a .faces) (a .words)) (a .placed) (a .layered))
 
 returns-2 : tie.Need-returns-2
@@ -23,8 +22,7 @@ returns-2 c =
     let a = c .before .before .args in
     let q0 = le-ltb vertexLimit (a .verts) (c .before .if1 .left) in
     let q1 = lt-ltb faceLimit (a .faces) (c .if2 .taken) in
-    sym
-    (λ i. verdict (q0 i) (q1 i) (a .below) (leb (coordsFrom + 3 * a .verts) (a .floats))
+    sym (λ i. verdict (q0 i) (q1 i) (a .below) (leb (coordsFrom + 3 * a .verts) (a .floats))
     (leb (cornersFrom width + 3 * a .faces) (a .words)) (a .placed) (a .layered))
 
 returns-3 : tie.Need-returns-3
@@ -33,8 +31,7 @@ returns-3 c =
     let q0 = le-ltb vertexLimit (a .verts) (c .before .before .if1 .left) in
     let q1 = le-ltb faceLimit (a .faces) (c .before .if2 .left) in
     let q2 = not-true (a .below) (c .if3 .taken) in
-    sym
-    (λ i. verdict (q0 i) (q1 i) (q2 i) (leb (coordsFrom + 3 * a .verts) (a .floats))
+    sym (λ i. verdict (q0 i) (q1 i) (q2 i) (leb (coordsFrom + 3 * a .verts) (a .floats))
     (leb (cornersFrom width + 3 * a .faces) (a .words)) (a .placed) (a .layered))
 
 returns-4 : tie.Need-returns-4
@@ -44,8 +41,7 @@ returns-4 c =
     let q1 = le-ltb faceLimit (a .faces) (c .before .before .if2 .left) in
     let q2 = not-false (a .below) (c .before .if3 .left) in
     let q3 = lt-leb (coordsFrom + 3 * a .verts) (a .floats) (c .if4 .taken) in
-    sym
-    (λ i.
+    sym (λ i.
     verdict (q0 i) (q1 i) (q2 i) (q3 i) (leb (cornersFrom width + 3 * a .faces) (a .words)) (a .placed) (a .layered))
 
 returns-5 : tie.Need-returns-5

@@ -18,14 +18,11 @@ use Rattle.script.proofs.read.check_puts.Tie as tie
 abbrev Inv-loop : tie.InvT-loop
 Inv-loop s at k₀ placed₀ layered₀ turns₀ k placed layered turns =
     (turns ≤ length s) × (linesTo putLine turns (rest s k) .text ≡ linesTo putLine (length s) (rest s at) .text)
-    ×
-    (length s - turns + length (linesTo putLine turns (rest s k) .val)
+    × (length s - turns + length (linesTo putLine turns (rest s k) .val)
     ≡ length (linesTo putLine (length s) (rest s at) .val))
-    ×
-    (placed && placesIn (linesTo putLine turns (rest s k) .val)
+    × (placed && placesIn (linesTo putLine turns (rest s k) .val)
     ≡ placesIn (linesTo putLine (length s) (rest s at) .val))
-    ×
-    (layered && layersIn (linesTo putLine turns (rest s k) .val)
+    × (layered && layersIn (linesTo putLine turns (rest s k) .val)
     ≡ layersIn (linesTo putLine (length s) (rest s at) .val))
 
 abbrev μ-loop : tie.MeasureT-loop

@@ -43,8 +43,7 @@ loop-again c =
     let p = c .before .skip-vert in
     let v = read vertLine (rest (a .s .now) (l .k)) in (
       omega arith,
-      sym
-          (ap (λ (g : Got (List (Vals vertLine))). g .text)
+      sym (ap (λ (g : Got (List (Vals vertLine))). g .text)
           (from-more vertLine (a .n) (l .i) (rest (a .s .now) (l .k)) (rest (a .s .now) (p .result)) (v .val)
           (c .before .before .loop-test .taken) (λ j. record { val = v .val; text = p .ensures j })))
           ∙ l .inv .1,
@@ -54,8 +53,7 @@ returns-2 : tie.Need-returns-2 Inv-loop μ-loop
 returns-2 c =
     let a = c .before .before .before .args in
     let l = c .before .loop in
-    sym
-    (ap (λ (g : Got (List (Vals vertLine))). g .text)
+    sym (ap (λ (g : Got (List (Vals vertLine))). g .text)
     (from-none vertLine (a .n) (l .i) (rest (a .s .now) (l .k)) (c .loop-test .left)))
     ∙ l .inv .1
 

@@ -33,11 +33,9 @@ Inv-loop f₀ w₀ s at n k₀ i₀ f w k i =
     (i ≤ n) × (length f ≡ length f₀) × (length w ≡ length w₀) × (storeCheck width f w ≡ Passed)
     × (placesIn (linesFrom putLine (n - i) (rest s k) .val) ≡ true)
     × (layersIn (linesFrom putLine (n - i) (rest s k) .val) ≡ true)
-    ×
-    (putsOn width (linesFrom putLine (n - i) (rest s k) .val) (after done f w) .floats
+    × (putsOn width (linesFrom putLine (n - i) (rest s k) .val) (after done f w) .floats
     ≡ putsOn width (linesFrom putLine n (rest s at) .val) (after done f₀ w₀) .floats)
-    ×
-    (putsOn width (linesFrom putLine (n - i) (rest s k) .val) (after done f w) .words
+    × (putsOn width (linesFrom putLine (n - i) (rest s k) .val) (after done f w) .words
     ≡ putsOn width (linesFrom putLine n (rest s at) .val) (after done f₀ w₀) .words)
 
 abbrev μ-loop : tie.MeasureT-loop

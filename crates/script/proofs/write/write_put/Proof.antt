@@ -61,8 +61,7 @@ returns c =
       omega (arith, l0, l1, l2, l3, l4, l5),
       subst (λ (t : List ℕ). Wrote (now (a .out)) (a .at) t (w5 .result) (w5 .last .0))
           (put-joined (decimalText (a .place)) (x k) (x (k + 1)) (x (k + 2)) (tail (n ++ bytes "))\n"))
-          ∙
-          (λ i. bytes "(put "
+          ∙ (λ i. bytes "(put "
           ++ (decimalText (a .place)
           ++ (bytes " (c "
           ++ (x k
