@@ -21,8 +21,7 @@ Inv-loop line₀ floats₀ words₀ coords₀ corners₀ out₀ chunk₀ st₀ t
 
 abbrev μ-loop : tie.MeasureT-loop
 μ-loop line₀ floats₀ words₀ coords₀ corners₀ out₀ chunk₀ st₀ turns₀ line floats words coords corners out chunk st turns
-    =
-    turns
+    = turns
 
 loop-holds : tie.Need-loop-holds Inv-loop μ-loop
 loop-holds c = (
