@@ -9,7 +9,7 @@ ghost use Rattle.volume.specs.Volume.{volumeFrom};
 ghost use Rattle.layout.specs.Layout.{centreAt, width, placeLimit, piecesFrom, coordsFrom, statusOf, finishedOf, doneOf};
 ghost use Rattle.layout.specs.SoundLaws.{Ready, Meshed, Worded};
 ghost use Rattle.layout.specs.Left.{held};
-ghost use Rattle.advance.specs.Steps.{work, workedFrom, standing, placeWork, stored, placesRun};
+ghost use Rattle.advance.specs.Steps.{work, oneFace, workedFrom, standing, placeWork, stored, placesRun};
 use layout::left::pieces;
 use layout::offsets::COORDS;
 use layout::offsets::CORNERS;
