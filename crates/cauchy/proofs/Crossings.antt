@@ -28,6 +28,9 @@ use Rattle.store.specs.PutAnswer.{placed}
 use Rattle.advance.specs.declared.advance.Advanced.{Advanced}
 use Rattle.advance.specs.declared.advance.Advanced.the-variants as advancing
 use Rattle.advance.specs.AdvanceAnswer.{advanced}
+use Rattle.adopt.specs.declared.adopt.Adopted.{Adopted}
+use Rattle.adopt.specs.declared.adopt.Adopted.the-variants as adoption
+use Rattle.adopt.specs.AdoptAnswer.{adopting}
 use Rattle.bill.specs.declared.Billed.{Billed}
 use Rattle.bill.specs.declared.Billed.the-variants as billing
 use Rattle.bill.specs.BillAnswer.{billed}
@@ -49,7 +52,7 @@ use Rattle.cauchy.specs.declared.kernels.CauchySolved.{CauchySolved}
 use Rattle.cauchy.specs.Volumes.{valueFrom}
 use Rattle.cauchy.specs.Bills.{billFrom}
 use Rattle.cauchy.specs.Files.{convertedFrom}
-use Rattle.cauchy.specs.StoreCrossing.{openedFrom, placedFrom, stepsFrom, reportFrom, listedFrom, trackFrom}
+use Rattle.cauchy.specs.StoreCrossing.{openedFrom, placedFrom, stepsFrom, adoptedFrom, reportFrom, listedFrom, trackFrom}
 
 -- the reply of a number and values, which count where the number is 0
 abbrev pub told : ℕ → List ℕ → List Float → Answer
@@ -93,6 +96,12 @@ places (placing.Refused r) = rw (never-zero r) refl
 pub advances : (a : Advanced) → let c = stepsFrom (advanced a) in told (c .no) (c .done ∷ c .left ∷ []) [] ≡ advanced a
 advances (advancing.Steps done left) = refl
 advances (advancing.Refused r) = rw (never-zero r) refl
+
+pub adopts : (a : Adopted)
+    → let c = adoptedFrom (adopting a) in told (c .no) (c .«same_body» ∷ c .pieces ∷ c .left ∷ []) [] ≡ adopting a
+adopts (adoption.Taken pieces left) = refl
+adopts adoption.Another = refl
+adopts (adoption.Refused r) = rw (never-zero r) refl
 
 pub values : (d : Measured) → let c = valueFrom (measuredAs d) in told (c .no) [] (c .value ∷ []) ≡ measuredAs d
 values (measured.Value x) = refl

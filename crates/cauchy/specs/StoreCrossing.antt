@@ -16,6 +16,7 @@ use Rattle.cauchy.specs.Volumes.{massFrom}
 use Rattle.cauchy.specs.declared.stores.CauchyOpened.{CauchyOpened}
 use Rattle.cauchy.specs.declared.stores.CauchyPlaced.{CauchyPlaced}
 use Rattle.cauchy.specs.declared.stores.CauchySteps.{CauchySteps}
+use Rattle.cauchy.specs.declared.stores.CauchyAdopted.{CauchyAdopted}
 use Rattle.cauchy.specs.declared.stores.CauchySqueezed.{CauchySqueezed}
 use Rattle.cauchy.specs.declared.stores.CauchyConvention.{CauchyConvention}
 use Rattle.cauchy.specs.declared.stores.CauchyStoreReport.{CauchyStoreReport}
@@ -52,6 +53,16 @@ placedFrom a =
 -- advance: "done, beside left"
 abbrev pub stepsFrom : Answer → CauchySteps
 stepsFrom a = record { no = a .refusal; done = getD (a .counts) 0 0; left = getD (a .counts) 1 0 }
+
+-- adopt: "adopted or another body, pieces, steps left"
+abbrev pub adoptedFrom : Answer → CauchyAdopted
+adoptedFrom a =
+    record {
+      no = a .refusal;
+      «same_body» = getD (a .counts) 0 0;
+      pieces = getD (a .counts) 1 0;
+      left = getD (a .counts) 2 0;
+    }
 
 -- squeeze: "how many coordinates were freed"
 abbrev pub squeezedFrom : Answer → CauchySqueezed

@@ -15,6 +15,8 @@ ghost use Rattle.store.specs.Puts.{putStep};
 ghost use Rattle.store.specs.PutAnswer.{placed};
 ghost use Rattle.advance.specs.Steps.{advanceStep};
 ghost use Rattle.advance.specs.AdvanceAnswer.{advanced};
+ghost use Rattle.adopt.specs.Adopt.{adoptStep};
+ghost use Rattle.adopt.specs.AdoptAnswer.{adopting};
 ghost use Rattle.store.specs.Squeeze.{squeezeStep};
 ghost use Rattle.store.specs.SqueezeAnswer.{squeezedAs};
 ghost use Rattle.mass.specs.Calls.{pointValues};
@@ -29,13 +31,15 @@ ghost use Rattle.base.specs.Answers.{printedAs};
 ghost use Rattle.page.specs.Page.{pageStep};
 ghost use Rattle.cauchy.specs.Volumes.{valueFrom};
 ghost use Rattle.cauchy.specs.Crossing.{lent, lentFrom, numberFrom};
-ghost use Rattle.cauchy.specs.StoreCrossing.{crossed, across, openedFrom, placedFrom, stepsFrom, squeezedFrom, conventionOf, reportFrom, finishedFrom, listedFrom, trackFrom, bytesFrom, printedFrom};
+ghost use Rattle.cauchy.specs.StoreCrossing.{crossed, across, openedFrom, placedFrom, stepsFrom, adoptedFrom, squeezedFrom, conventionOf, reportFrom, finishedFrom, listedFrom, trackFrom, bytesFrom, printedFrom};
 use crate::kernels::CauchyFit;
 use crate::kernels::fit_of;
 use crate::kernels::no_fit;
 use crate::volumes::CauchyValue;
 use crate::volumes::no_report;
 use crate::volumes::value_of;
+use adopt::adopt::Adopted;
+use adopt::adopt::adopt;
 use advance::advance::Advanced;
 use advance::advance::advance;
 use base::refusal::Printed;
@@ -94,6 +98,16 @@ pub struct CauchySqueezed {
 pub struct CauchySteps {
     pub no: u32,
     pub done: u64,
+    pub left: u64,
+}
+
+// 01's number, then 1 where the other store is of the same body and 0 where it is not, the pieces of the place that
+// came across and the steps that it has left.
+#[repr(C)]
+pub struct CauchyAdopted {
+    pub no: u32,
+    pub same_body: u32,
+    pub pieces: u32,
     pub left: u64,
 }
 
@@ -263,6 +277,50 @@ pub extern "C" fn cauchy_store_advance(
         ≡ across stepsFrom (advanceStep width (now (floats .entry)) (now (words .entry)) budget) ⌝ }
 {
     steps_of(advance(floats, words, budget))
+}
+
+fn adopted_of(a: Adopted) -> CauchyAdopted
+    ensures { λ r. ⌜ r ≡ adoptedFrom (adopting a) ⌝ }
+{
+    match a {
+        Adopted::Taken(pieces, left) => CauchyAdopted {
+            no: 0,
+            same_body: 1,
+            pieces,
+            left,
+        },
+        Adopted::Another => CauchyAdopted {
+            no: 0,
+            same_body: 0,
+            pieces: 0,
+            left: 0,
+        },
+        Adopted::Refused(r) => CauchyAdopted {
+            no: refusal_number(r),
+            same_body: 0,
+            pieces: 0,
+            left: 0,
+        },
+    }
+}
+
+// Takes a filled place of another store of the same body into a place of this one, whatever that held: 4 or 5 of either
+// store, 6 of either place, 7 where the other's place is empty. Where the bodies differ nothing is changed. The other
+// runs are only read.
+#[no_mangle]
+pub extern "C" fn cauchy_store_adopt(
+    floats: &mut [f64],
+    words: &mut [u32],
+    place: u32,
+    other_floats: &[f64],
+    other_words: &[u32],
+    other_place: u32,
+) -> CauchyAdopted
+    ensures { λ r. ⌜ crossed r (now (floats .exit)) (now (words .exit))
+        ≡ across adoptedFrom (adoptStep width (now (floats .entry)) (now (words .entry)) place
+        (now («other_floats» .entry)) (now («other_words» .entry)) «other_place») ⌝ }
+{
+    adopted_of(adopt(floats, words, place, other_floats, other_words, other_place))
 }
 
 // A convention by its kind: 0 raw; 1 rho0, with the bulk density; any other is mass, with the target and

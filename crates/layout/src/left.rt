@@ -24,7 +24,7 @@ pub fn pieces(status: u32) -> usize
 }
 
 // The steps that place i has left.
-fn left_at(words: &[u32], i: usize, faces: usize) -> usize
+pub fn left_at(words: &[u32], i: usize, faces: usize) -> usize
     requires { ⌜ Worded width (now words) faces ⌝ ∗ ⌜ i < placeLimit ⌝ }
     ensures { λ r. ⌜ (r ≡ leftAt width (now (words .entry)) faces i) × (r ≤ 33554432) ⌝ }
 {

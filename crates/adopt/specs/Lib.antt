@@ -1,0 +1,4 @@
+pub mod Same
+pub mod SameLaws
+pub mod Adopt
+pub mod AdoptAnswer
