@@ -1,4 +1,5 @@
--- What a reading makes of the machine's pieces is what demand 2's functions answer on the list of them, six floats each. Assumes nothing.
+-- What a reading makes of the machine's pieces is what demand 2's functions answer on the list of them, six floats
+-- each. Assumes nothing.
 use mathlib.Core.Path.{_≡_, refl, sym, ap, _∙_}
 use mathlib.Core.List.{List, [], _∷_, map, map-append}
 use Prim.Native.Nat.{ℕ, zero, suc, _/_, _%_}
@@ -63,9 +64,13 @@ module _ (m : Mesh) (g : Shape m) where
       let a : length (m .coords) % 3 ≡ 0 = omega arith in
       let b : length (m .corners) % 3 ≡ 0 = omega arith in
       let c : length (m .coords) / 3 ≡ m .verts = omega arith in
-      rw (a, b, c, face-count, le-ltb vertexLimit (m .verts) (g .verts), le-ltb faceLimit (m .faces) (g .faces), g .below) refl
+      rw
+      (a, b, c, face-count, le-ltb vertexLimit (m .verts) (g .verts), le-ltb faceLimit (m .faces) (g .faces), g .below)
+      refl
 
-  mass-call : (ks : List Kernel) → fieldMassCall (m .coords) (m .corners) (sixes ks) ≡ accepted (fieldMass (triangles m) (m .faces) (sixes ks) ∷ [])
+  mass-call : (ks : List Kernel)
+      → fieldMassCall (m .coords) (m .corners) (sixes ks)
+      ≡ accepted (fieldMass (triangles m) (m .faces) (sixes ks) ∷ [])
   unfolding fieldMassCall fieldCheck
   mass-call ks = rw (mesh-sound, list-sound ks, face-count) refl
 
@@ -78,26 +83,35 @@ module _ (m : Mesh) (g : Shape m) where
     raw-on = mass-on (triangles m) (m .faces) ks ∙ ap valueOf (sym (mass-call ks))
 
     origin-on : densityAt (map bare (map (partOf m) ks)) origin ≡ originOf ks
-    origin-on = ap (λ (l : List Kernel). densityAt l origin) (bare-parts m ks) ∙ ap valueOf (sym (densitized-on ks origin))
+    origin-on =
+        ap (λ (l : List Kernel). densityAt l origin) (bare-parts m ks) ∙ ap valueOf (sym (densitized-on ks origin))
 
-    scale-on : (v : Convention) → applied v (map (partOf m) ks) ≡ appliedScale v (massOf m ks) (rho0Scale (bulkOf v) (originOf ks))
+    scale-on : (v : Convention)
+        → applied v (map (partOf m) ks) ≡ appliedScale v (massOf m ks) (rho0Scale (bulkOf v) (originOf ks))
     scale-on v = rw (raw-on, origin-on) refl
 
-    answer-on : (filled : ℕ) (worst : Float) (r : Reading) → answerOf r (seeing (map (partOf m) ks) (bodyVolume (triangles m) (m .faces)) filled worst) ≡ readingOn m ks filled worst r
+    answer-on : (filled : ℕ) (worst : Float) (r : Reading)
+        → answerOf r (seeing (map (partOf m) ks) (bodyVolume (triangles m) (m .faces)) filled worst)
+        ≡ readingOn m ks filled worst r
     answer-on filled worst (density v x) =
         let s = appliedScale v (massOf m ks) (rho0Scale (bulkOf v) (originOf ks)) in
-        rw (scale-on v, bare-parts m ks, whole-rescaled s ks) (ap (λ (a : Answer). outcome a []) (sym (densitized-on (map (rescaled s) ks) x)))
+        rw (scale-on v, bare-parts m ks, whole-rescaled s ks)
+        (ap (λ (a : Answer). outcome a []) (sym (densitized-on (map (rescaled s) ks) x)))
     answer-on filled worst (report v) =
         rw (raw-on, origin-on, length-map ks (partOf m), body-call) refl
     answer-on filled worst (list v out) =
         let s = appliedScale v (massOf m ks) (rho0Scale (bulkOf v) (originOf ks)) in
-        rw (scale-on v, bare-parts m ks, length-map ks whole, whole-rescaled s ks, sixes-whole (map (rescaled s) ks)) refl
+        rw (scale-on v, bare-parts m ks, length-map ks whole, whole-rescaled s ks, sixes-whole (map (rescaled s) ks))
+        refl
     answer-on filled worst (track v points out) =
         let s = appliedScale v (massOf m ks) (rho0Scale (bulkOf v) (originOf ks)) in
         let n = length points / 3 in
         rw (scale-on v, bare-parts m ks, whole-rescaled s ks)
-        (ap (λ (ds : List Float). guardedRun (trackCheck (length points) (length out)) out (outcome (counted (n ∷ [])) (write out 0 ds)))
-        (stretch-same (densityAt (map whole (map (rescaled s) ks))) (λ x. valueOf (densitized (scaledList v m ks) x)) (λ x. ap valueOf (sym (densitized-on (map (rescaled s) ks) x))) points 0 n))
+        (ap
+        (λ (ds : List Float).
+        guardedRun (trackCheck (length points) (length out)) out (outcome (counted (n ∷ [])) (write out 0 ds)))
+        (stretch-same (densityAt (map whole (map (rescaled s) ks))) (λ x. valueOf (densitized (scaledList v m ks) x))
+        (λ x. ap valueOf (sym (densitized-on (map (rescaled s) ks) x))) points 0 n))
 
   -- the mass of one place
   pub place-mass : (k : Kernel) (fit : Pieces) (o : Provenance) (p l : ℕ)

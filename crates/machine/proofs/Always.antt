@@ -16,9 +16,10 @@ use Rattle.pieces.specs.FitEnd.{fitOf}
 use Rattle.layout.specs.Layout.{width, placeLimit}
 use Rattle.machine.specs.Machine.{Mesh, Provenance, own, Place, empty, full, leftPlace, adv, bump, stepsOf, Machine, Turn, turn, putInto, putTurn, clearTurn, weighed, reweighTurn}
 use Rattle.machine.specs.Holding.{placeRow, wordsOf}
-use Rattle.machine.specs.Calls.{Call, machine, Store, after-all, holding, answers}
+use Rattle.machine.specs.Calls.{Call, machine, Store, holding, answers}
+use Rattle.machine.specs.Events.{after-all}
 use Rattle.machine.specs.OldStore.{Todays, Old, puts, clears, reweighs, advances, squeezes, reads, pages, nowadays, OfPut, OfPuts, oldMachine, oldAfter}
-use Rattle.machine.specs.Demands.{carriedPlace, carriedOver}
+use Rattle.machine.specs.Beginnings.{carriedPlace, carriedOver}
 use Rattle.machine.specs.Valid.{Valid}
 use Rattle.machine.proofs.Claim.{all-set}
 use Rattle.machine.proofs.Carrying.{floats-same}

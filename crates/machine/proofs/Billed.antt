@@ -27,14 +27,15 @@ use Rattle.readings.specs.Readings.{list, needsWork, refusing}
 use Rattle.machine.specs.Machine.{empty, seenPlaces, Machine, opened}
 use Rattle.machine.specs.Holding.{excessF, excessW}
 use Rattle.machine.specs.Fresh.{workAll, allPieces, scaledList, workedAfresh}
-use Rattle.machine.specs.Calls.{Call, read, workSeen, machine, Store, Result, store, after-all, holding, chargedIn}
+use Rattle.machine.specs.Calls.{Call, read, workSeen, machine, Store, Result, store, holding}
+use Rattle.machine.specs.Events.{after-all, chargedIn}
 use Rattle.machine.specs.Valid.{Valid}
 use Rattle.machine.specs.Bills.{kernelsFrom, kernelsIn, Reordered, Exact, Every, putIn, placesIn, InStore, layersIn, InSixteen, Apart, listAfter, Due, BillBefore}
 use Rattle.machine.proofs.Rows.{width4, Layered, layered4}
 use Rattle.machine.proofs.Layers.{all-seen}
 use Rattle.machine.proofs.Claim.{one-call}
-use Rattle.machine.proofs.Opened.{none-at, opened-valid}
-use Rattle.machine.proofs.Follow.{last, passed, holds}
+use Rattle.machine.proofs.Adopting.{its-runs, after-calls}
+use Rattle.machine.proofs.Opened.{none-at, holds}
 use Rattle.machine.proofs.Tally.{sumOf, sum-append, sum-reordered, fits, heldIn, pieces-held, seen-within, charged-within, charged-all, radius-after, held-within, held-all}
 
 -- ---- the pieces assumed are at least those of any radius
@@ -152,11 +153,11 @@ module _
   list-after : (cs : List Call) (layers : ℕ) → layers < 2 ^ 16 → (cv : Convention) (run : List Float)
       → Listing (listAfter wd S cs layers cv run) (after cs layers) (length run)
   list-after cs layers few cv run =
-      let i = last wd fm exF exW cs M v in
+      let i = after-calls wd fm exF exW cs (its-runs wd fm exF exW M v) in
       let e = ap (λ (x : Float). heldIn x (seenPlaces layers (after-all M cs .places))) (radius-after cs M v) in
       subst (λ (s : Store). Listing (store wd s (read layers (list cv run)) .reply) (after cs layers) (length run))
-      (sym (i .0))
-      (list-answer wd fm exF exW (after-all M cs) (i .1) layers few cv run (after cs layers) e)
+      (sym (i .runs))
+      (list-answer wd fm exF exW (after-all M cs) (i .valid) layers few cv run (after cs layers) e)
 
   -- never below
   module _ (cs : List Call) (rest : List Kernel) (o : Reordered (putIn cs ++ rest) (kernelsIn kernels)) where
@@ -182,7 +183,7 @@ module _
 
     pieces-exact : Apart (placesIn cs) → after cs 65535 ≡ due
     pieces-exact a =
-        let w = last wd fm exF exW cs M v .1 .within in
+        let w = after-calls wd fm exF exW cs (its-runs wd fm exF exW M v) .valid .within in
         ap (heldIn r) (all-seen (after-all M cs .mesh) (after-all M cs .places) w)
         ∙ (held-all cs M v p b a (all-vacant 32 (placesIn cs)) ∙ omega (arith, no-piece r 32, fits-exact))
 
@@ -211,7 +212,8 @@ module _
 pub bill-before : BillBefore
 unfolding billSteps billFloats
 bill-before r xs ks fs ws h kernels =
-    let v = opened-valid width width4 r xs ks (length fs) (length ws) (passed width width4 r xs ks fs ws h) in
+    let o = holds width width4 r xs ks fs ws h in
+    let v = o .valid in
     let g = assumed-all kernels in
     record {
       accepted =
@@ -219,7 +221,7 @@ bill-before r xs ks fs ws h kernels =
           (record { few-verts = v .mesh .verts; few-faces = v .mesh .faces });
       due = λ steps floats e.
           let d = due-is kernels (length xs / 3) (length ks / 3) steps floats e in
-          subst (λ (s : Store). Due width s kernels steps floats) (sym (holds width width4 r xs ks fs ws h))
+          subst (λ (s : Store). Due width s kernels steps floats) (sym (o .runs))
           (holds-due width layered4 r xs ks v (excessF xs fs) (excessW width ks ws) kernels steps floats
           (d .0 ∙ ap (λ (n : ℕ). n * (length ks / 3)) g) (d .1 ∙ ap (λ (n : ℕ). 6 * n) g));
     }

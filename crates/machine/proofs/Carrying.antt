@@ -14,16 +14,19 @@ use Rattle.base.specs.declared.refusal.Refusal.the-variants.{ShortStore}
 use Rattle.base.specs.declared.refusal.Checked.the-variants.{Passed, Failed}
 use Rattle.layout.specs.Runs.{write}
 use Rattle.layout.specs.Layout.{width, coordsFrom, cornersFrom}
-use Rattle.layout.specs.After.{after}
+use Rattle.layout.specs.After.{After, after}
 use Rattle.carry.specs.Carry.{oldWidth, carriedFloats, carriedRows, carriedWords, carryCheck, carryStep}
-use Rattle.machine.specs.Machine.{Mesh, Place, empty, full, leftPlace, leftSum, shortRow}
+use Rattle.machine.specs.Machine.{Mesh, Place, empty, full, leftPlace, leftSum, Machine, shortRow}
 use Rattle.machine.specs.Holding.{flat, floats7, floats48, floatsOf, placeRow, wordsOf, excessF, excessW}
-use Rattle.machine.specs.Demands.{carriedPlace, refusedBy}
+use Rattle.machine.specs.Calls.{Store, past}
+use Rattle.machine.specs.Demands.{refusedBy}
+use Rattle.machine.specs.Beginnings.{leaving, carriedPlace, carriedOver, carryRow}
 use Rattle.machine.specs.Valid.{Within, Valid}
 use Rattle.machine.proofs.Rows.{width3, width4, flat-length}
 use Rattle.machine.proofs.Sixteen.{sixteen, laidOut, laid-out}
 use Rattle.machine.proofs.Held.{verts-held, faces-held, each-row, each7, each48, status-held, finished-held, done-held, corners-held}
 use Rattle.machine.proofs.Sane.{long-enough, is-sound}
+use Rattle.machine.proofs.Adopting.{Holds}
 use Rattle.machine.proofs.Opened.{write-front}
 use Rattle.machine.proofs.Refused.{not-below, Row}
 
@@ -73,7 +76,7 @@ module _ (m : Mesh) where
   within-same (full k fit o p l) w =
       record { fitted = tt {0}; few = w .few; clean = w .clean; steps = w .steps; layer = omega arith }
 
-  pub carried-valid : (ss : List Place) → Valid m ss → Valid m (map carriedPlace ss)
+  carried-valid : (ss : List Place) → Valid m ss → Valid m (map carriedPlace ss)
   carried-valid ss v =
       record {
         mesh = v .mesh;
@@ -194,7 +197,7 @@ module _ (m : Mesh) (ss : List Place) (v : Valid m ss) (xs : List Float) (ys : L
     abbrev short : ℕ
     short = shortRow width (m .verts) (m .faces) (length gs) (length us)
 
-    pub row : Row short (carryCheck FS WS gs us)
+    row : Row short (carryCheck FS WS gs us)
     unfolding carryCheck
     row =
         rw (
@@ -213,11 +216,11 @@ module _ (m : Mesh) (ss : List Place) (v : Valid m ss) (xs : List Float) (ys : L
         cases false true = record { none = λ e. absurd (omega arith); some = λ h fs ws g. refl }
         cases false false = record { none = λ e. refl; some = λ h fs ws g. absurd (omega arith) }
 
-    pub refuses : 0 < short → carryStep FS WS gs us ≡ after (refusedBy short) gs us
+    refuses : 0 < short → carryStep FS WS gs us ≡ after (refusedBy short) gs us
     unfolding carryStep
     refuses h = row .some h gs us _
 
-    pub carries : short ≡ 0
+    carries : short ≡ 0
         → carryStep FS WS gs us
         ≡ after (counted (m .verts ∷ m .faces ∷ [])) (floatsOf m new (excessF (m .coords) gs))
         (wordsOf width m new (excessW width (m .corners) us))
@@ -226,3 +229,27 @@ module _ (m : Mesh) (ss : List Place) (v : Valid m ss) (xs : List Float) (ys : L
         let f = floats-carried gs in
         let w = words-carried us in
         rw (row .none h, f, w, verts-held oldWidth m ss ys, faces-held oldWidth m ss ys) refl
+
+-- ---- the carry of a store that holds the machine m at three words to a place
+module _
+    {m : Machine} {s : Store} {xs : List Float} {ys : List ℕ} (h : Holds oldWidth m s xs ys) (gs : List Float)
+    (us : List ℕ) where
+  abbrev ofRuns : Store → After
+  ofRuns t = carryStep (t .floats) (t .words) gs us
+
+  pub not-carried : 0 < carryRow m gs us → ofRuns s ≡ after (refusedBy (carryRow m gs us)) gs us
+  not-carried n = ap ofRuns (h .runs) ∙ refuses (m .mesh) (m .places) (h .valid) (past m xs) ys gs us n
+
+  pub carried-reply : carryRow m gs us ≡ 0 → ofRuns s .reply ≡ counted (m .mesh .verts ∷ m .mesh .faces ∷ [])
+  carried-reply n =
+      ap (λ (a : After). a .reply)
+      (ap ofRuns (h .runs) ∙ carries (m .mesh) (m .places) (h .valid) (past m xs) ys gs us n)
+
+  pub carried-holds : carryRow m gs us ≡ 0
+      → Holds width (carriedOver m) (leaving (ofRuns s)) (excessF (m .mesh .coords) gs)
+      (excessW width (m .mesh .corners) us)
+  carried-holds n =
+      record {
+        runs = ap leaving (ap ofRuns (h .runs) ∙ carries (m .mesh) (m .places) (h .valid) (past m xs) ys gs us n);
+        valid = carried-valid (m .mesh) (m .places) (h .valid);
+      }

@@ -1,67 +1,33 @@
 -- Demand 3: of every opening, of every carry, and of every text that is read. Assumes nothing.
 use mathlib.Core.Path.{_≡_, refl, sym, ap, subst, _∙_}
 use mathlib.Core.Bool.{true}
-use mathlib.Core.List.{List, [], _∷_, map}
-use Prim.Native.Nat.{ℕ, _<_}
+use mathlib.Core.List.{List, map}
+use Prim.Native.Nat.{ℕ}
 use native.Mathlib.Omega.{arith}
 use lib.ListN.{length}
 use lib.Ieee.{Float}
-use Rattle.base.specs.Answers.{counted}
 use Rattle.layout.specs.Layout.{width, vertsOf, facesOf}
-use Rattle.layout.specs.After.{After, after}
 use Rattle.store.specs.Calls.{openStep}
-use Rattle.carry.specs.Carry.{oldWidth, carryStep}
-use Rattle.machine.specs.Machine.{Provenance, own, carried, Machine, opened, shortRow, openRow}
+use Rattle.carry.specs.Carry.{oldWidth}
+use Rattle.script.specs.ReadOf.{readOf}
+use Rattle.machine.specs.Machine.{Provenance, own, carried, Machine, opened, openRow}
 use Rattle.machine.specs.Holding.{wordsOf, excessF, excessW}
-use Rattle.machine.specs.Calls.{Call, Store, leaves, after-all, holding, without, heard, answers}
+use Rattle.machine.specs.Calls.{Call, Store, without, heard, answers}
+use Rattle.machine.specs.Events.{leaves, after-all}
 use Rattle.machine.specs.OldStore.{Fitting, Todays, Old, nowadays, OfPuts, oldLeaves, oldAfter}
-use Rattle.machine.specs.Demands.{Follows, leaving, refusedBy, carrying, carriedOver, Carries, Demand3}
-use Rattle.machine.specs.Valid.{Valid}
+use Rattle.machine.specs.Demands.{Carries, Loads, Demand3}
+use Rattle.machine.specs.Beginnings.{leaving, carrying, carriedOver, carryRow, scripted}
 use Rattle.machine.proofs.Rows.{width3, width4, layered4}
-use Rattle.machine.proofs.Opened.{none-at}
+use Rattle.machine.proofs.Adopting.{mesh-is, mesh-self, Holds, after-calls}
+use Rattle.machine.proofs.Opened.{none-at, holds}
 use Rattle.machine.proofs.Unaltered.{heardBy, store-heard, unaltered}
-use Rattle.machine.proofs.Follow.{last, follows, holds, valid, opens-at}
-use Rattle.machine.proofs.Loading.{loads}
-use Rattle.machine.proofs.OldCalls.{Source, both-puts, old-all}
-use Rattle.machine.proofs.Carrying.{left-same, carried-valid, refuses, carries}
+use Rattle.machine.proofs.Loading.{played-on, scripted-holds, scripted-in-step, not-loaded}
+use Rattle.machine.proofs.OldCalls.{Source, old-all, brought-puts, own-puts}
+use Rattle.machine.proofs.Carrying.{left-same, not-carried, carried-reply, carried-holds}
 use Rattle.machine.proofs.Always.{low-all, same-after, carried-told}
+use Rattle.machine.proofs.Follow.{follows, opens-at}
 
--- ---- a carry of runs that hold the machine m, with the excess exF and exW
-module _
-    (m : Machine) (v : Valid (m .mesh) (m .places)) (exF : List Float) (exW : List ℕ) (gs : List Float)
-    (us : List ℕ) where
-  abbrev ofRuns : Store → After
-  ofRuns s = carryStep (s .floats) (s .words) gs us
-
-  abbrev short : ℕ
-  short = shortRow width (m .mesh .verts) (m .mesh .faces) (length gs) (length us)
-
-  abbrev newF : List Float
-  newF = excessF (m .mesh .coords) gs
-
-  abbrev newW : List ℕ
-  newW = excessW width (m .mesh .corners) us
-
-  not-carried : 0 < short → ofRuns (holding oldWidth m exF exW) ≡ after (refusedBy short) gs us
-  not-carried h = refuses (m .mesh) (m .places) v _ exW gs us h
-
-  carried-to : short ≡ 0
-      → (ofRuns (holding oldWidth m exF exW) .reply ≡ counted (m .mesh .verts ∷ m .mesh .faces ∷ []))
-      × (leaving (ofRuns (holding oldWidth m exF exW)) ≡ holding width (carriedOver m) newF newW)
-  carried-to h =
-      let e = carries (m .mesh) (m .places) v _ exW gs us h in
-      (ap (λ (a : After). a .reply) e, ap leaving e)
-
-  over-valid : Valid (carriedOver m .mesh) (carriedOver m .places)
-  over-valid = carried-valid (m .mesh) (m .places) v
-
-  over-follows : (ds : List Call)
-      → Follows width newF newW (carriedOver m) (holding width (carriedOver m) newF newW) ds
-  over-follows ds =
-      follows width layered4 newF newW ds (carriedOver m) over-valid
-      (omega (arith, left-same (m .mesh) (m .places)))
-
--- ---- from the opening of the old store on
+-- ---- a carry, from the opening of the old store on
 module _
     (r : Float) (xs : List Float) (ks : List ℕ) (fs : List Float) (ws : List ℕ)
     (h : openRow oldWidth xs ks (length fs) (length ws) ≡ 0) (cs : List Old) (fitting : OfPuts Fitting cs)
@@ -69,40 +35,23 @@ module _
   abbrev M : Machine
   M = opened r xs ks
 
-  abbrev old : Store
-  old = oldLeaves (leaving (openStep oldWidth fs ws r xs ks)) cs
-
-  abbrev exF : List Float
-  exF = excessF xs fs
-
-  abbrev exW : List ℕ
-  exW = excessW oldWidth ks ws
-
   -- the machine that says o of all pieces
   abbrev by : Provenance → Machine
   by o = oldAfter o M cs
 
-  record Held (o : Provenance) : Type 0 where
-    runs : old ≡ holding oldWidth (by o) exF exW
-    sound : Valid (by o .mesh) (by o .places)
+  abbrev old : Store
+  old = oldLeaves (leaving (openStep oldWidth fs ws r xs ks)) cs
 
-  held : (o : Provenance) → OfPuts (Source o) cs → Held o
-  held o s =
-      let i = old-all o cs s M (valid oldWidth width3 r xs ks fs ws h) exF exW in
-      record {
-        runs = ap (λ (t : Store). oldLeaves t cs) (holds oldWidth width3 r xs ks fs ws h) ∙ i .0;
-        sound = i .1;
-      }
+  held : (o : Provenance) → OfPuts (Source o) cs → Holds oldWidth (by o) old (excessF xs fs) (excessW oldWidth ks ws)
+  held o s = old-all o cs s (holds oldWidth width3 r xs ks fs ws h)
 
-  brought : Held carried
-  brought =
-      held carried
-      (both-puts (λ f p q. record { few = p .few; clean = p .clean; fitted = λ k radius. tt {0} }) cs fitting fitting)
+  brought : Holds oldWidth (by carried) old (excessF xs fs) (excessW oldWidth ks ws)
+  brought = held carried (brought-puts cs fitting)
 
   -- ---- with today's fit
   module _ (same : OfPuts Todays cs) where
-    put : Held own
-    put = held own (both-puts (λ f p q. record { few = p .few; clean = p .clean; fitted = q }) cs fitting same)
+    put : Holds oldWidth (by own) old (excessF xs fs) (excessW oldWidth ks ws)
+    put = held own (own-puts cs fitting same)
 
     -- one pair of runs holds both machines
     counts-same : (by carried .mesh .verts ≡ by own .mesh .verts) × (by carried .mesh .faces ≡ by own .mesh .faces)
@@ -111,51 +60,71 @@ module _
         let e = sym (brought .runs) ∙ put .runs in
         (ap (λ (s : Store). vertsOf (s .words)) e, ap (λ (s : Store). facesOf (s .words)) e)
 
-    always : shortRow width (by carried .mesh .verts) (by carried .mesh .faces) (length gs) (length us) ≡ 0
+    always : carryRow (by carried) gs us ≡ 0
         → (hs : List Float) (vs : List ℕ) → openRow width xs ks (length hs) (length vs) ≡ 0 → (ds : List Call)
         → answers width (leaving (carrying r xs ks fs ws cs gs us)) ds
         ≡ answers width (leaves width (leaving (openStep width hs vs r xs ks)) (map nowadays cs)) ds
     always n hs vs g ds =
         let m = by own in
         let c = counts-same in
-        let z = rw (c .0, c .1) at n in
+        let a = carried-holds put gs us (rw (c .0, c .1) at n) in
+        let f = excessF xs hs in
+        let w = excessW width ks vs in
+        let l = after-calls width layered4 f w (map nowadays cs) (holds width width4 r xs ks hs vs g) in
         let low = low-all own cs M (λ i. rw (none-at 32 i) refl) in
-        let new = ofRuns m (put .sound) exF exW gs us in
-        let a = ap (λ (s : Store). leaving (new s)) (put .runs) ∙ carried-to m (put .sound) exF exW gs us z .1 in
-        let u = valid width width4 r xs ks hs vs g in
-        let l = last width layered4 (excessF xs hs) (excessW width ks vs) (map nowadays cs) M u in
-        let b = ap (λ (s : Store). leaves width s (map nowadays cs)) (holds width width4 r xs ks hs vs g) ∙ l .0 in
-        ap (λ (s : Store). answers width s ds) a
-        ∙ (carried-told m (put .sound) low (excessF (m .mesh .coords) gs) (excessW width (m .mesh .corners) us) ds
+        ap (λ (s : Store). answers width s ds) (a .runs)
+        ∙ (carried-told m (put .valid) low (excessF (m .mesh .coords) gs) (excessW width (m .mesh .corners) us) ds
         ∙ (ap (λ (t : Machine). heardBy (λ c. true) t ds) (same-after cs same M)
-        ∙ sym (ap (λ (s : Store). answers width s ds) b
-        ∙ store-heard width layered4 (excessF xs hs) (excessW width ks vs) (λ c. true) ds
-        (after-all M (map nowadays cs)) (l .1))))
+        ∙ sym (ap (λ (s : Store). answers width s ds) (l .runs)
+        ∙ store-heard width layered4 f w (λ c. true) ds (after-all M (map nowadays cs)) (l .valid))))
 
   carry : Carries r xs ks fs ws cs (by carried) gs us
   carry =
       let m = by carried in
-      let v = brought .sound in
-      let e = ap (ofRuns m v exF exW gs us) (brought .runs) in
       record {
-        refused-as = λ n. e ∙ not-carried m v exF exW gs us n;
+        refused-as = not-carried brought gs us;
         accepted = λ n.
-            let c = carried-to m v exF exW gs us n in
-            let s = ap leaving e ∙ c .1 in
+            let t = carried-holds brought gs us n in
             let f = excessF (m .mesh .coords) gs in
             let w = excessW width (m .mesh .corners) us in
             record {
-              reply = ap (λ (a : After). a .reply) e ∙ c .0;
-              holds = s;
-              every-list = λ ds.
-                  subst (λ (t : Store). Follows width f w (carriedOver m) t ds) (sym s)
-                  (over-follows m v exF exW gs us ds);
+              reply = carried-reply brought gs us n;
+              holds = t .runs;
+              every-list = follows width layered4 f w t (omega (arith, left-same (m .mesh) (m .places)));
               unaltered = λ ds.
-                  subst (λ (t : Store). heard width t ds ≡ heard width t (without ds)) (sym s)
-                  (unaltered width layered4 f w (carriedOver m) (over-valid m v exF exW gs us) ds);
+                  subst (λ (x : Store). heard width x ds ≡ heard width x (without ds)) (sym (t .runs))
+                  (unaltered width layered4 f w (carriedOver m) (t .valid) ds);
               as-if-always = λ same hs vs g ds. always same n hs vs g ds;
             };
       }
 
+-- ---- a text that is read
+reading : (fs : List Float) (ws : List ℕ) (s : List ℕ) → Loads width fs ws s
+reading fs ws s =
+    record {
+      refused-as = not-loaded width layered4 fs ws s;
+      accepted = λ h.
+          let d = readOf s .val in
+          let f = excessF (d .coords) fs in
+          let w = excessW width (d .corners) ws in
+          let e = played-on width layered4 fs ws s h in
+          let t = scripted-holds width layered4 fs ws s h in
+          record {
+            reply = e .0;
+            holds = t .runs;
+            by-calls = e .1;
+            every-list = follows width layered4 f w t (scripted-in-step width layered4 fs ws s h);
+            unaltered = λ cs.
+                subst (λ (x : Store). heard width x cs ≡ heard width x (without cs)) (sym (t .runs))
+                (unaltered width layered4 f w (scripted d) (t .valid) cs);
+          };
+    }
+
 pub demand3 : Demand3
-demand3 = record { opening = opens-at width layered4; carry = carry; reading = loads width layered4 }
+demand3 =
+    record {
+      opening = opens-at width layered4;
+      carry = carry;
+      reading = reading;
+      body = λ m o. (mesh-is m o, mesh-self m o);
+    }

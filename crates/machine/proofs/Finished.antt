@@ -1,4 +1,5 @@
--- 02, L7: the report of what is finished, of a store that holds a machine, is the machine's, worked afresh on the places
+-- 02, L7: the report of what is finished, of a store that holds a machine, is the machine's, worked afresh on the
+-- places
 -- that have nothing left. Assumes nothing.
 use mathlib.Core.Path.{_≡_, refl, sym, ap, _∙_}
 use mathlib.Core.Bool.{Bool, true, false, cond}

@@ -1,10 +1,10 @@
--- Every list of calls on a store that holds a valid machine does what demand 3 says, and so from every opening on.
+-- Every list of events on a store that holds a valid machine does what demand 3 says, and so from every opening on.
 -- Assumes nothing.
 use mathlib.Core.Path.{_≡_, refl, sym, ap, subst, _∙_}
 use mathlib.Core.Bool.{Bool, true, false, _&&_, cond, and-eq-true-iff, true≢false}
 use mathlib.Core.Logic.{_⊎_, inl, inr}
 use mathlib.Core.List.{List, [], _∷_, map}
-use Prim.Native.Nat.{ℕ, _+_, _*_, _/_, _%_, _^_, _<_, min}
+use Prim.Native.Nat.{ℕ, _+_, _*_, _/_, _%_, _^_, min}
 use native.Mathlib.Omega.{arith}
 use lib.Dec.{ltb, leb, eqb}
 use lib.ListN.{length}
@@ -17,27 +17,31 @@ use Rattle.base.specs.declared.refusal.Checked.the-variants.{Passed, Failed}
 use Rattle.layout.specs.Runs.{write}
 use Rattle.readings.specs.Along.{along}
 use Rattle.density.specs.declared.convention.Convention.{Convention}
-use Rattle.layout.specs.After.{After, after}
-use Rattle.store.specs.Calls.{openCheck, openStep}
+use Rattle.layout.specs.After.{After}
 use Rattle.readings.specs.Readings.{Reading, density, report, list, track, bare, applied, rescaled, densityAt, sixes, Seen, trackLimit, trackCheck, answerOf, refusing}
 use Rattle.readings.specs.Finished.{beside}
 use Rattle.page.specs.Page.{Row, allPrintable, pageOf, pageAnswer}
 use Rattle.machine.specs.Machine.{Mesh, Place, leftSum, seenPlaces, completePlaces, passedPlaces, Machine, opened, openRow}
 use Rattle.machine.specs.Holding.{excessF, excessW}
 use Rattle.machine.specs.Fresh.{kernelsOf, freshRows, workedAfresh, finishedAfresh, pageAfresh}
-use Rattle.machine.specs.Calls.{Call, advance, read, finished, page, needs, machine, Store, Result, store, leaves, after-all, holding, leftIn, without, heard}
-use Rattle.machine.specs.Demands.{Same, Read, onlyComplete, Partly, Post, Each, end, next, Follows, leaving, Accepted, refusedBy, Opens}
+use Rattle.machine.specs.Calls.{advance, read, finished, page, needs, machine, Store, Result, store, holding, leftIn, without, heard}
+use Rattle.machine.specs.Events.{Event, call, adopt, turnOf, leavesAll, machineAfter}
+use Rattle.machine.specs.Bills.{Every}
+use Rattle.machine.specs.Demands.{Same, Read, onlyComplete, Partly, Post, Each, end, next, Follows, Accepted, Opens}
+use Rattle.machine.specs.Beginnings.{Came}
 use Rattle.machine.specs.Valid.{Valid}
-use Rattle.machine.proofs.Rows.{Width, Layered, formed}
+use Rattle.machine.proofs.Rows.{Layered, formed}
 use Rattle.machine.proofs.Parts.{freshSeen}
 use Rattle.machine.proofs.Afresh.{joined}
 use Rattle.machine.proofs.Layers.{all-seen, none-seen}
 use Rattle.machine.proofs.Finished.{nothing-left, whole-afresh, complete-valid}
-use Rattle.machine.proofs.Claim.{one-call, kept, books, charges}
+use Rattle.machine.proofs.Claim.{one-call}
+use Rattle.machine.proofs.Adopting.{mesh-stays, Holds, Brought, kept-at, one-event, books, charges, last, its-runs}
+use Rattle.machine.proofs.Coming.{came-brought}
+use Rattle.machine.proofs.Handing.{hands}
 use Rattle.machine.proofs.Unaltered.{From, from-start, from-next, on-opened, finished-opened, page-opened, unaltered}
 use Rattle.machine.proofs.Listed.{listed}
-use Rattle.machine.proofs.Opened.{opens, opened-valid}
-use Rattle.machine.proofs.Refused.{row}
+use Rattle.machine.proofs.Opened.{opens, passed, refuses, holds}
 
 -- ---- what is answered is never 8 or 16: it is accepted, 9 of a list or 14 of a track
 abbrev Answered : ℕ → Type 0
@@ -125,7 +129,10 @@ unfolding pageAnswer
 paged-not rs bs e = go (allPrintable rs) (leb (length (pageOf rs)) (length bs)) (ap (λ (a : Answer). a .refusal) e)
   where
     go : (a b : Bool)
-        → guardedBytes (andThen (cond a Passed (Failed NoFigure)) (cond b Passed (Failed ShortPage))) bs (printout (counted (length (pageOf rs) ∷ [])) (write bs 0 (pageOf rs))) .reply .refusal ≡ 8 → ⊥
+        → guardedBytes (andThen (cond a Passed (Failed NoFigure)) (cond b Passed (Failed ShortPage))) bs
+        (printout (counted (length (pageOf rs) ∷ [])) (write bs 0 (pageOf rs))) .reply .refusal
+        ≡ 8
+        → ⊥
     go true true z = omega arith
     go true false z = omega arith
     go false b z = omega arith
@@ -135,19 +142,33 @@ unfolding pageAfresh
 page-not m ss bs = paged-not (freshRows m 0 ss) bs
 
 module _ (o : Printout) (bs : List ℕ) where
-  page-eight : (o .reply ≡ refused Unfinished → ⊥) → (b : Bool) → cond b (printout (refused Unfinished) bs) o .reply ≡ refused Unfinished → b ≡ true
+  page-eight : (o .reply ≡ refused Unfinished → ⊥) → (b : Bool)
+      → cond b (printout (refused Unfinished) bs) o .reply ≡ refused Unfinished → b ≡ true
   page-eight n true e = refl
   page-eight n false e = absurd (n e)
 
-  page-other : (b : Bool) → (cond b (printout (refused Unfinished) bs) o .reply ≡ refused Unfinished → ⊥) → cond b (printout (refused Unfinished) bs) o ≡ o
+  page-other : (b : Bool) → (cond b (printout (refused Unfinished) bs) o .reply ≡ refused Unfinished → ⊥)
+      → cond b (printout (refused Unfinished) bs) o ≡ o
   page-other true n = absurd (n refl)
   page-other false n = refl
 
+-- the mesh after an event has the triangles of the mesh opened
+from-event : (o : Mesh) (m : Machine) (e : Event) → From o (m .mesh) → From o (turnOf m e .next .mesh)
+from-event o m (call c) f = from-next o m c f
+from-event o m (adopt i n t j) f = subst (From o) (sym (mesh-stays m n t i j)) f
+
 module _ (wd : ℕ) (fm : Layered wd) (exF : List Float) (exW : List ℕ) where
-  same : (m : Machine) → Valid (m .mesh) (m .places) → (c : Call) → Same wd exF exW m (holding wd m exF exW) c
-  same m v c =
-      let e = one-call wd fm m v exF exW c in
-      record { before = refl; reply = ap (λ (r : Result). r .reply) e; lent = ap (λ (r : Result). r .out) e; shown = ap (λ (r : Result). r .bytes) e; fields = ap (λ (r : Result). r .runs) e }
+  same : (m : Machine) → Valid (m .mesh) (m .places) → (e : Event) → Brought wd e
+      → Same wd exF exW m (holding wd m exF exW) e
+  same m v e b =
+      let r = one-event wd fm m v exF exW e b in
+      record {
+        before = refl;
+        reply = ap (λ (x : Result). x .reply) r;
+        lent = ap (λ (x : Result). x .out) r;
+        shown = ap (λ (x : Result). x .bytes) r;
+        fields = ap (λ (x : Result). x .runs) r;
+      }
 
   reading : (o : Mesh) (m : Machine) → Valid (m .mesh) (m .places) → From o (m .mesh)
       → (layers : ℕ) (r : Reading) → Read wd o m (holding wd m exF exW) layers r
@@ -205,7 +226,8 @@ module _ (wd : ℕ) (fm : Layered wd) (exF : List Float) (exW : List ℕ) where
       record {
         no-layer = λ h. er ∙ rw (le-leb (2 ^ 16) layers h) refl;
         one-of-sixteen = λ z.
-            leb-true (2 ^ 16) layers (finished-sixteen (passedPlaces (m .mesh) ss) f n (leb (2 ^ 16) layers) (sym er ∙ z));
+            leb-true (2 ^ 16) layers
+            (finished-sixteen (passedPlaces (m .mesh) ss) f n (leb (2 ^ 16) layers) (sym er ∙ z));
         never = λ z. finished-not (passedPlaces (m .mesh) ss) f n (leb (2 ^ 16) layers) (sym er ∙ z);
         afresh = λ h. er ∙ rw (lt-leb (2 ^ 16) layers h) (finished-opened o (m .mesh) g ss cv);
         alone = λ h.
@@ -220,7 +242,8 @@ module _ (wd : ℕ) (fm : Layered wd) (exF : List Float) (exW : List ℕ) where
         kept = ap (λ (x : Result). x .runs) e;
       }
 
-  posting : (o : Mesh) (m : Machine) → Valid (m .mesh) (m .places) → From o (m .mesh) → (bs : List ℕ) → Post wd o m (holding wd m exF exW) bs
+  posting : (o : Mesh) (m : Machine) → Valid (m .mesh) (m .places) → From o (m .mesh) → (bs : List ℕ)
+      → Post wd o m (holding wd m exF exW) bs
   unfolding machine
   posting o m v g bs =
       let e = one-call wd fm m v exF exW (page bs) in
@@ -237,71 +260,63 @@ module _ (wd : ℕ) (fm : Layered wd) (exF : List Float) (exW : List ℕ) where
         kept = ap (λ (x : Result). x .runs) e;
       }
 
-  each : (o : Mesh) (cs : List Call) (m : Machine) → Valid (m .mesh) (m .places) → From o (m .mesh) → Each wd exF exW o m (holding wd m exF exW) cs
-  each o [] m v g = end
-  each o (c ∷ cs) m v g =
-      let s = same m v c in
-      next s (reading o m v g) (so-far o m v g) (posting o m v g) (subst (λ (t : Store). Each wd exF exW o (machine m c .next) t cs) (sym (s .fields)) (each o cs (machine m c .next) (kept m v c .valid) (from-next o m c g)))
+  each : (o : Mesh) (es : List Event) → Every (Brought wd) es → (m : Machine) → Valid (m .mesh) (m .places)
+      → From o (m .mesh) → Each wd exF exW o m (holding wd m exF exW) es
+  each o [] bs m v g = end
+  each o (e ∷ es) bs m v g =
+      let s = same m v e (bs .0) in
+      let n = turnOf m e .next in
+      next s (reading o m v g) (so-far o m v g) (posting o m v g)
+      (subst (λ (t : Store). Each wd exF exW o n t es) (sym (s .fields))
+      (each o es (bs .1) n (kept-at wd fm m v e (bs .0) .valid) (from-event o m e g)))
 
-  pub last : (cs : List Call) (m : Machine) → Valid (m .mesh) (m .places) → (leaves wd (holding wd m exF exW) cs ≡ holding wd (after-all m cs) exF exW) × Valid (after-all m cs .mesh) (after-all m cs .places)
-  last [] m v = (refl, v)
-  last (c ∷ cs) m v =
-      let i = last cs (machine m c .next) (kept m v c .valid) in
-      (ap (λ (t : Store). leaves wd t cs) (same m v c .fields) ∙ i .0, i .1)
-
-  left-asked : (m : Machine) → Valid (m .mesh) (m .places) → leftIn (store wd (holding wd m exF exW) (advance 0) .reply) ≡ leftSum (m .mesh) (m .places)
+  left-asked : (m : Machine) → Valid (m .mesh) (m .places)
+      → leftIn (store wd (holding wd m exF exW) (advance 0) .reply) ≡ leftSum (m .mesh) (m .places)
   unfolding machine
   left-asked m v =
       let z : min 0 (leftSum (m .mesh) (m .places)) ≡ 0 = omega arith in
       ap (λ (x : Result). leftIn (x .reply)) (one-call wd fm m v exF exW (advance 0)) ∙ rw z refl
 
-  pub follows : (cs : List Call) (m : Machine) → Valid (m .mesh) (m .places) → m .charged ≡ leftSum (m .mesh) (m .places) + m .dropped → Follows wd exF exW m (holding wd m exF exW) cs
-  follows cs m v z =
-      let i = last cs m v in
-      let l : leftIn (store wd (leaves wd (holding wd m exF exW) cs) (advance 0) .reply) ≡ leftSum (after-all m cs .mesh) (after-all m cs .places)
-      = ap (λ (t : Store). leftIn (store wd t (advance 0) .reply)) (i .0) ∙ left-asked (after-all m cs) (i .1) in
-      let b = books wd fm cs m v exF exW in
-      record { calls = each (m .mesh) cs m v (from-start (m .mesh) (v .mesh)); valid = i .1; pieces = listed (m .mesh .radius) (kernelsOf (after-all m cs .places)); sums = omega arith; charged = charges wd fm cs m v exF exW }
+  on-held : (m : Machine) → Valid (m .mesh) (m .places) → m .charged ≡ leftSum (m .mesh) (m .places) + m .dropped
+      → (es : List Event) → Came wd es → Follows wd exF exW m (holding wd m exF exW) es
+  on-held m v z es came =
+      let s = holding wd m exF exW in
+      let bs = came-brought wd fm came in
+      let n = machineAfter m es in
+      let i = last wd fm exF exW es bs (its-runs wd fm exF exW m v) in
+      let l : leftIn (store wd (leavesAll wd s es) (advance 0) .reply) ≡ leftSum (n .mesh) (n .places)
+      = ap (λ (t : Store). leftIn (store wd t (advance 0) .reply)) (i .runs) ∙ left-asked n (i .valid) in
+      let b = books wd fm exF exW es bs m v in
+      record {
+        calls = each (m .mesh) es bs m v (from-start (m .mesh) (v .mesh));
+        valid = i .valid;
+        pieces = listed (m .mesh .radius) (kernelsOf (n .places));
+        sums = omega arith;
+        charged = charges wd fm exF exW es bs m v;
+        hands = hands wd fm i;
+      }
+
+  pub follows : {m : Machine} {s : Store} → Holds wd m s exF exW
+      → m .charged ≡ leftSum (m .mesh) (m .places) + m .dropped
+      → (es : List Event) → Came wd es → Follows wd exF exW m s es
+  follows {m} h z es came =
+      subst (λ (t : Store). Follows wd exF exW m t es) (sym (h .runs)) (on-held m (h .valid) z es came)
 
 -- ---- from an opening on
-module _ (wd : ℕ) (fm : Width wd) (r : Float) (xs : List Float) (ks : List ℕ) (fs : List Float) (ws : List ℕ) where
-  abbrev n : ℕ
-  n = openRow wd xs ks (length fs) (length ws)
-
-  abbrev exF : List Float
-  exF = excessF xs fs
-
-  abbrev exW : List ℕ
-  exW = excessW wd ks ws
-
-  pub passed : n ≡ 0 → openCheck wd (length xs) ks (length fs) (length ws) ≡ Passed
-  passed = row wd xs ks (length fs) (length ws) .none
-
-  refuses : 0 < n → openStep wd fs ws r xs ks ≡ after (refusedBy n) fs ws
-  unfolding openStep
-  refuses h = row wd xs ks (length fs) (length ws) .some h fs ws _
-
-  pub holds : n ≡ 0 → leaving (openStep wd fs ws r xs ks) ≡ holding wd (opened r xs ks) exF exW
-  holds h = ap leaving (opens wd fm r xs ks fs ws (passed h))
-
-  -- the opened machine is valid
-  pub valid : n ≡ 0 → Valid (opened r xs ks .mesh) (opened r xs ks .places)
-  valid h = opened-valid wd fm r xs ks (length fs) (length ws) (passed h)
-
 module _ (wd : ℕ) (ly : Layered wd) (r : Float) (xs : List Float) (ks : List ℕ) (fs : List Float) (ws : List ℕ) where
   accepts : openRow wd xs ks (length fs) (length ws) ≡ 0 → Accepted wd r xs ks fs ws
   accepts h =
       let fm = formed ly in
-      let m = opened r xs ks in
-      let v = valid wd fm r xs ks fs ws h in
       let e = holds wd fm r xs ks fs ws h in
       let f = excessF xs fs in
       let w = excessW wd ks ws in
       record {
         reply = ap (λ (a : After). a .reply) (opens wd fm r xs ks fs ws (passed wd fm r xs ks fs ws h));
-        holds = e;
-        every-list = λ cs. subst (λ (s : Store). Follows wd f w m s cs) (sym e) (follows wd ly f w cs m v refl);
-        unaltered = λ cs. subst (λ (s : Store). heard wd s cs ≡ heard wd s (without cs)) (sym e) (unaltered wd ly f w m v cs);
+        holds = e .runs;
+        every-list = follows wd ly f w e refl;
+        unaltered = λ cs.
+            subst (λ (s : Store). heard wd s cs ≡ heard wd s (without cs)) (sym (e .runs))
+            (unaltered wd ly f w (opened r xs ks) (e .valid) cs);
       }
 
   pub opens-at : Opens wd r xs ks fs ws

@@ -1,4 +1,5 @@
--- Words in which some places are emptied are those of a store that holds only the others; so are the words as a reading of
+-- Words in which some places are emptied are those of a store that holds only the others; so are the words as a reading
+-- of
 -- some layers sees them. Assumes nothing.
 use mathlib.Core.Path.{_≡_, refl, sym, ap, subst, _∙_}
 use mathlib.Core.Bool.{Bool, true, false, cond}
@@ -59,7 +60,8 @@ Emptying f = (s : Place) → (f s ≡ s) ⊎ (f s ≡ empty)
 
 module _ (f : Place → Place) (one : Emptying f) where
   -- what is then in a place was there
-  was-there : (s : Place) (k : Kernel) (fit : Pieces) (o : Provenance) (p l : ℕ) → f s ≡ full k fit o p l → s ≡ full k fit o p l
+  was-there : (s : Place) (k : Kernel) (fit : Pieces) (o : Provenance) (p l : ℕ) → f s ≡ full k fit o p l
+      → s ≡ full k fit o p l
   was-there s k fit o p l e = go (one s)
     where
       go : (f s ≡ s) ⊎ (f s ≡ empty) → s ≡ full k fit o p l

@@ -40,19 +40,23 @@ worst-append e (x ∷ a) b = worst-append (greater e (x .fit .error)) a b
 
 sixes-append : (a b : List Kernel) → sixes (a ++ b) ≡ sixes a ++ sixes b
 sixes-append [] b = refl
-sixes-append (k ∷ a) b = ap (λ (l : List Float). six k ++ l) (sixes-append a b) ∙ sym (append-assoc (six k) (sixes a) (sixes b))
+sixes-append (k ∷ a) b =
+    ap (λ (l : List Float). six k ++ l) (sixes-append a b) ∙ sym (append-assoc (six k) (sixes a) (sixes b))
 
 pub pieces-length : (k : Kernel) (fit : Pieces) (n : ℕ) → length (piecesTo k fit n) ≡ n
 pieces-length k fit zero = refl
-pieces-length k fit (suc n) = length-append (piecesTo k fit n) (pieceAt k fit n ∷ []) ∙ omega (arith, pieces-length k fit n)
+pieces-length k fit (suc n) =
+    length-append (piecesTo k fit n) (pieceAt k fit n ∷ []) ∙ omega (arith, pieces-length k fit n)
 
 -- ---- a kernel written is six floats written
 set-write : (xs : List Float) (i : ℕ) (k : Kernel) → 6 * i + 6 ≤ length xs → kernelSet xs i k ≡ write xs (6 * i) (six k)
 unfolding kernelSet
-set-write xs i k h = set6-write xs (6 * i) (getD (k .c) 0 nan) (getD (k .c) 1 nan) (getD (k .c) 2 nan) (k .sigma) (k .w) (k .alpha) h
+set-write xs i k h =
+    set6-write xs (6 * i) (getD (k .c) 0 nan) (getD (k .c) 1 nan) (getD (k .c) 2 nan) (k .sigma) (k .w) (k .alpha) h
 
 module _ (n : ℕ) (k : Kernel) (fit : Pieces) (xs : List Float) where
-  lay-to : (j : ℕ) → 6 * (n + j) ≤ length xs → times (layAt n k fit) j 0 xs ≡ write xs (6 * n) (sixes (piecesTo k fit j))
+  lay-to : (j : ℕ) → 6 * (n + j) ≤ length xs
+      → times (layAt n k fit) j 0 xs ≡ write xs (6 * n) (sixes (piecesTo k fit j))
   unfolding times
   lay-to zero h = sym (write-none xs (6 * n))
   lay-to (suc j) h =
@@ -70,14 +74,18 @@ module _ (n : ℕ) (k : Kernel) (fit : Pieces) (xs : List Float) where
 
 -- ---- a list of kernels as six floats each
 same-fit : (k : Kernel) (r : Float) → decomposed (whole k) r ≡ decomposed k r
-same-fit k r = same-pieces (getD (k .c) 0 nan ∷ getD (k .c) 1 nan ∷ getD (k .c) 2 nan ∷ []) (k .c) (k .sigma) (k .w) (k .w) (k .alpha) r
+same-fit k r =
+    same-pieces (getD (k .c) 0 nan ∷ getD (k .c) 1 nan ∷ getD (k .c) 2 nan ∷ []) (k .c) (k .sigma) (k .w) (k .w)
+    (k .alpha) r
 
 same-sixes : (k : Kernel) (fit : Pieces) (n : ℕ) → sixes (piecesTo (whole k) fit n) ≡ sixes (piecesTo k fit n)
 unfolding pieceAt
 same-sixes k fit zero = refl
 same-sixes k fit (suc n) =
     sixes-append (piecesTo (whole k) fit n) (pieceAt (whole k) fit n ∷ [])
-    ∙ (ap (λ (l : List Float). l ++ six (pieceAt k fit n)) (same-sixes k fit n) ∙ sym (sixes-append (piecesTo k fit n) (pieceAt k fit n ∷ [])))
+    ∙
+    (ap (λ (l : List Float). l ++ six (pieceAt k fit n)) (same-sixes k fit n)
+    ∙ sym (sixes-append (piecesTo k fit n) (pieceAt k fit n ∷ [])))
 
 module _ (ks : List Kernel) (r : Float) where
   abbrev L : List Float
@@ -106,7 +114,8 @@ module _ (ks : List Kernel) (r : Float) where
   length-more n h =
       ap length (every-more n h)
       ∙ (length-append (allPieces (first n)) (piecesOf (one n))
-      ∙ ap (λ (c : ℕ). length (allPieces (first n)) + c) (pieces-length (one n .kernel) (one n .fit) (one n .fit .count)))
+      ∙ ap (λ (c : ℕ). length (allPieces (first n)) + c)
+      (pieces-length (one n .kernel) (one n .fit) (one n .fit .count)))
 
   count-to : (n : ℕ) → n ≤ length ks → pieceCount L r n ≡ length (allPieces (first n))
   unfolding pieceCount
@@ -116,7 +125,8 @@ module _ (ks : List Kernel) (r : Float) where
   error-to : (n : ℕ) → n ≤ length ks → greatestError L r n ≡ worstFrom +0 (first n)
   unfolding greatestError
   error-to zero h = refl
-  error-to (suc n) h = rw (error-to n (omega arith), fit-at n h, first-more n h) (sym (worst-append +0 (first n) (one n ∷ [])))
+  error-to (suc n) h =
+      rw (error-to n (omega arith), fit-at n h, first-more n h) (sym (worst-append +0 (first n) (one n ∷ [])))
 
   spread-to : (xs : List Float) (n : ℕ) → n ≤ length ks → 6 * length (allPieces (first n)) ≤ length xs
       → spread L r n xs ≡ write xs 0 (sixes (allPieces (first n)))
@@ -143,7 +153,8 @@ module _ (ks : List Kernel) (r : Float) where
 
   all-listed : (xs : List Float) → 6 * length (allPieces every) ≤ length xs
       → listDecomposition L r xs
-      ≡ outcome (fittedAll (length ks) (length (allPieces every)) (worstFrom +0 every)) (write xs 0 (sixes (allPieces every)))
+      ≡ outcome (fittedAll (length ks) (length (allPieces every)) (worstFrom +0 every))
+      (write xs 0 (sixes (allPieces every)))
   unfolding listDecomposition
   all-listed xs room =
       let n = length ks in

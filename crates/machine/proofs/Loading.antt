@@ -1,6 +1,6 @@
 -- 02, L10: a text is refused by the row that the machine's side says, and else leaves what its opening and puts, call
--- by call, leave; so every list of calls goes on from there as demand 3 says. Assumes nothing.
-use mathlib.Core.Path.{_≡_, refl, sym, ap, subst, _∙_}
+-- by call, leave: the runs of the machine that gets them. Assumes nothing.
+use mathlib.Core.Path.{_≡_, refl, sym, ap, _∙_}
 use mathlib.Core.Bool.{Bool, true, false, not, _&&_, cond}
 use mathlib.Core.List.{List, [], _∷_, map}
 use Prim.Native.Nat.{ℕ, _+_, _<_}
@@ -23,14 +23,16 @@ use Rattle.script.specs.Lines.{putLine}
 use Rattle.script.specs.ReadOf.{placeIn, layerIn, Script, readOf, putOn, putsOn, formCheck, placesIn, layersIn, putsCheck, scriptCheck, loadStep}
 use Rattle.machine.specs.Machine.{Machine, leftSum, opened, openRow}
 use Rattle.machine.specs.Holding.{excessF, excessW}
-use Rattle.machine.specs.Calls.{machine, Store, store, leaves, after-all, holding, without, heard}
-use Rattle.machine.specs.Demands.{Follows, leaving, refusedBy, putCall, scripted, anyRow, linesRow, Loaded, Loads}
+use Rattle.machine.specs.Calls.{machine, store}
+use Rattle.machine.specs.Events.{leaves, after-all}
+use Rattle.machine.specs.Demands.{refusedBy}
+use Rattle.machine.specs.Beginnings.{leaving, putCall, scripted, anyRow, linesRow}
 use Rattle.machine.specs.Valid.{Valid}
 use Rattle.machine.proofs.Rows.{Layered, formed}
 use Rattle.machine.proofs.Refused.{not-below, Row, row}
 use Rattle.machine.proofs.Claim.{kept}
-use Rattle.machine.proofs.Unaltered.{unaltered}
-use Rattle.machine.proofs.Follow.{last, follows, holds, valid}
+use Rattle.machine.proofs.Adopting.{Holds, after-calls}
+use Rattle.machine.proofs.Opened.{holds}
 
 -- ---- which row refuses
 
@@ -87,7 +89,7 @@ puts-row vs = rw (puts-tests vs) (go (placesIn vs) (layersIn vs))
     go true false = record { none = λ e. absurd (omega arith); some = λ h fs ws g. refl }
     go false b = record { none = λ e. absurd (omega arith); some = λ h fs ws g. refl }
 
-pub lines-row : (t : Text) (q : ℕ) (d : Script) (a b : ℕ)
+lines-row : (t : Text) (q : ℕ) (d : Script) (a b : ℕ)
     → Row (linesRow t q d a b) (andThen (formCheck t) (scriptCheck q d a b))
 lines-row lost q d a b = record { none = λ e. absurd (omega arith); some = λ h fs ws g. refl }
 lines-row (left l) q d a b = row-then (row q (d .coords) (d .corners) a b) (puts-row (d .puts))
@@ -120,73 +122,42 @@ in-step (x ∷ vs) m v e =
     let k = kept m v (putCall x) in
     in-step vs (machine m (putCall x) .next) (k .valid) (omega (arith, e, k .charged, k .balance))
 
-module _ (wd : ℕ) (ly : Layered wd) (fs : List Float) (ws : List ℕ) where
-  -- a script whose opening is not refused
-  module _ (d : Script) (h : openRow wd (d .coords) (d .corners) (length fs) (length ws) ≡ 0) where
-    abbrev exF : List Float
-    exF = excessF (d .coords) fs
+module _ (wd : ℕ) (ly : Layered wd) (fs : List Float) (ws : List ℕ) (s : List ℕ) where
+  abbrev d : Script
+  d = readOf s .val
 
-    abbrev exW : List ℕ
-    exW = excessW wd (d .corners) ws
+  abbrev n : ℕ
+  n = linesRow (readOf s .text) wd d (length fs) (length ws)
 
-    abbrev M : Machine
-    M = opened (d .radius) (d .coords) (d .corners)
+  -- what its opening leaves
+  opening : n ≡ 0
+      → Holds wd (opened (d .radius) (d .coords) (d .corners))
+      (leaving (openStep wd fs ws (d .radius) (d .coords) (d .corners))) (excessF (d .coords) fs)
+      (excessW wd (d .corners) ws)
+  opening h =
+      holds wd (formed ly) (d .radius) (d .coords) (d .corners) fs ws
+      (opens-too (readOf s .text) wd d (length fs) (length ws) h)
 
-    opening : Valid (M .mesh) (M .places)
-    opening = valid wd (formed ly) (d .radius) (d .coords) (d .corners) fs ws h
+  pub played-on : n ≡ 0
+      → (loadStep wd fs ws s .reply ≡ counted (d .verts ∷ d .faces ∷ length (d .puts) ∷ []))
+      × (leaving (loadStep wd fs ws s)
+      ≡ leaves wd (leaving (openStep wd fs ws (d .radius) (d .coords) (d .corners))) (map putCall (d .puts)))
+  unfolding loadStep
+  played-on h =
+      rw (lines-row (readOf s .text) wd d (length fs) (length ws) .none h)
+      (refl, puts-called wd (d .puts) (openStep wd fs ws (d .radius) (d .coords) (d .corners)))
 
-    pub scripted-valid : Valid (scripted d .mesh) (scripted d .places)
-    scripted-valid = last wd ly exF exW (map putCall (d .puts)) M opening .1
+  pub scripted-holds : n ≡ 0
+      → Holds wd (scripted d) (leaving (loadStep wd fs ws s)) (excessF (d .coords) fs) (excessW wd (d .corners) ws)
+  scripted-holds h =
+      let cs = map putCall (d .puts) in
+      let e = after-calls wd ly (excessF (d .coords) fs) (excessW wd (d .corners) ws) cs (opening h) in
+      record { runs = played-on h .1 ∙ e .runs; valid = e .valid }
 
-    scripted-held :
-        leaves wd (leaving (openStep wd fs ws (d .radius) (d .coords) (d .corners))) (map putCall (d .puts))
-        ≡ holding wd (scripted d) exF exW
-    scripted-held =
-        ap (λ (s : Store). leaves wd s (map putCall (d .puts)))
-        (holds wd (formed ly) (d .radius) (d .coords) (d .corners) fs ws h)
-        ∙ last wd ly exF exW (map putCall (d .puts)) M opening .0
+  pub scripted-in-step : n ≡ 0
+      → scripted d .charged ≡ leftSum (scripted d .mesh) (scripted d .places) + scripted d .dropped
+  scripted-in-step h = in-step (d .puts) (opened (d .radius) (d .coords) (d .corners)) (opening h .valid) refl
 
-  -- a text
-  module _ (s : List ℕ) where
-    abbrev d : Script
-    d = readOf s .val
-
-    abbrev n : ℕ
-    n = linesRow (readOf s .text) wd d (length fs) (length ws)
-
-    played-on : n ≡ 0
-        → (loadStep wd fs ws s .reply ≡ counted (d .verts ∷ d .faces ∷ length (d .puts) ∷ []))
-        × (leaving (loadStep wd fs ws s)
-        ≡ leaves wd (leaving (openStep wd fs ws (d .radius) (d .coords) (d .corners))) (map putCall (d .puts)))
-    unfolding loadStep
-    played-on h =
-        rw (lines-row (readOf s .text) wd d (length fs) (length ws) .none h)
-        (refl, puts-called wd (d .puts) (openStep wd fs ws (d .radius) (d .coords) (d .corners)))
-
-    pub loaded : n ≡ 0 → Loaded wd fs ws s d (loadStep wd fs ws s)
-    loaded h =
-        let o = opens-too (readOf s .text) wd d (length fs) (length ws) h in
-        let e = played-on h in
-        let v = scripted-valid d o in
-        let t = e .1 ∙ scripted-held d o in
-        let f = excessF (d .coords) fs in
-        let w = excessW wd (d .corners) ws in
-        let z = in-step (d .puts) (M d o) (opening d o) refl in
-        record {
-          reply = e .0;
-          holds = t;
-          by-calls = e .1;
-          every-list = λ cs.
-              subst (λ (x : Store). Follows wd f w (scripted d) x cs) (sym t)
-              (follows wd ly f w cs (scripted d) v z);
-          unaltered = λ cs.
-              subst (λ (x : Store). heard wd x cs ≡ heard wd x (without cs)) (sym t)
-              (unaltered wd ly f w (scripted d) v cs);
-        }
-
-    not-loaded : 0 < n → loadStep wd fs ws s ≡ after (refusedBy n) fs ws
-    unfolding loadStep
-    not-loaded h = lines-row (readOf s .text) wd d (length fs) (length ws) .some h fs ws _
-
-    pub loads : Loads wd fs ws s
-    loads = record { refused-as = not-loaded; accepted = loaded }
+  pub not-loaded : 0 < n → loadStep wd fs ws s ≡ after (refusedBy n) fs ws
+  unfolding loadStep
+  not-loaded h = lines-row (readOf s .text) wd d (length fs) (length ws) .some h fs ws _

@@ -57,21 +57,29 @@ zero-not : lt +0 +0 ≡ false
 unfolding lt ofBits
 zero-not = refl
 
-scale-blind : (v : Convention) → byMass v ≡ false → (raw raw′ scale : Float) → appliedScale v raw scale ≡ appliedScale v raw′ scale
+scale-blind : (v : Convention) → byMass v ≡ false → (raw raw′ scale : Float)
+    → appliedScale v raw scale ≡ appliedScale v raw′ scale
 unfolding appliedScale massScale targetOf
 scale-blind Raw n raw raw′ scale = refl
 scale-blind (Rho0 b) n raw raw′ scale = refl
 scale-blind (Mass t b) n raw raw′ scale = rw (n, zero-not) refl
 
-applied-blind : (v : Convention) → byMass v ≡ false → (ps qs : List Part) → map bare ps ≡ map bare qs → applied v ps ≡ applied v qs
+applied-blind : (v : Convention) → byMass v ≡ false → (ps qs : List Part) → map bare ps ≡ map bare qs
+    → applied v ps ≡ applied v qs
 applied-blind v n ps qs e =
     scale-blind v n (rawMass ps) (rawMass qs) (rho0Scale (bulkOf v) (densityAt (map bare ps) origin))
     ∙ ap (λ (ks : List Kernel). appliedScale v (rawMass qs) (rho0Scale (bulkOf v) (densityAt ks origin))) e
 
-pub blind : (r : Reading) → needsWork r ≡ false → (s t : Seen) → map bare (s .parts) ≡ map bare (t .parts) → answerOf r s ≡ answerOf r t
+pub blind : (r : Reading) → needsWork r ≡ false → (s t : Seen) → map bare (s .parts) ≡ map bare (t .parts)
+    → answerOf r s ≡ answerOf r t
 blind (density v x) n s t e =
-    ap (λ (a : Float). outcome (record { refusal = 0; counts = []; floats = densityAt (map (rescaled a) (map bare (s .parts))) x ∷ [] }) []) (applied-blind v n (s .parts) (t .parts) e)
-    ∙ ap (λ (ks : List Kernel). outcome (record { refusal = 0; counts = []; floats = densityAt (map (rescaled (applied v (t .parts))) ks) x ∷ [] }) []) e
+    ap
+    (λ (a : Float). outcome
+    (record { refusal = 0; counts = []; floats = densityAt (map (rescaled a) (map bare (s .parts))) x ∷ [] }) [])
+    (applied-blind v n (s .parts) (t .parts) e)
+    ∙ ap
+    (λ (ks : List Kernel). outcome
+    (record { refusal = 0; counts = []; floats = densityAt (map (rescaled (applied v (t .parts))) ks) x ∷ [] }) []) e
 blind (report v) n s t e = absurd (true≢false n)
 blind (list v out) n s t e =
     ap (λ (a : Float). listing a (map bare (s .parts)) out) (applied-blind v n (s .parts) (t .parts) e)
@@ -109,11 +117,14 @@ module _
   filled-one empty = refl
   filled-one (full k fit o p l) = rw (not-empty fit) refl
 
-  worst-one : (i : ℕ) → i < 32 → (e : Float) (s : Place) → getD ts i empty ≡ s → Within m s → cond (eqb (getD (placeRow wd m s) 0 0) 0) e (greater e (getD FS (7 + 7 * i) nan)) ≡ worstFrom e (workPlace (m .radius) s)
+  worst-one : (i : ℕ) → i < 32 → (e : Float) (s : Place) → getD ts i empty ≡ s → Within m s
+      → cond (eqb (getD (placeRow wd m s) 0 0) 0) e (greater e (getD FS (7 + 7 * i) nan))
+      ≡ worstFrom e (workPlace (m .radius) s)
   worst-one i h e empty q w = refl
   worst-one i h e (full k fit o p l) q w =
       let a : 7 + 7 * i ≡ 1 + (7 * i + 6) = omega arith in
-      rw (not-empty fit, a, get7 wd fm m ss hs xs i h 6 (omega arith), there i k fit o p l q) (ap (λ (f : Pieces). greater e (f .error)) (fit-afresh (m .radius) k fit o (w .fitted)))
+      rw (not-empty fit, a, get7 wd fm m ss hs xs i h 6 (omega arith), there i k fit o p l q)
+      (ap (λ (f : Pieces). greater e (f .error)) (fit-afresh (m .radius) k fit o (w .fitted)))
 
   filled-to : (n : ℕ) → n ≤ 32 → heldFilled wd WS n ≡ length (workAll (m .radius) (take n ts))
   unfolding heldFilled
@@ -170,7 +181,8 @@ module _
 
   read-parts : (r : Reading)
       → readingOf r (leftOf wd WS (facesOf WS) 32) (heldSeen wd FS WS) ≡ readingOf r (leftSum m ts) (freshSeen m ts)
-  read-parts r = rw (faces-held wd m ts ys, left-held wd fm m ts v ys) (go (needsWork r) refl (ltb 0 (leftSum m ts)) refl)
+  read-parts r =
+      rw (faces-held wd m ts ys, left-held wd fm m ts v ys) (go (needsWork r) refl (ltb 0 (leftSum m ts)) refl)
     where
       go : (b : Bool) → needsWork r ≡ b → (c : Bool) → ltb 0 (leftSum m ts) ≡ c
           → cond (b && c) (refusing r Unfinished) (answerOf r (heldSeen wd FS WS))
@@ -185,7 +197,8 @@ module _
   seen-held r =
       read-parts r
       ∙ (ap (cond (needsWork r && ltb 0 (leftSum m ts)) (refusing r Unfinished)) (joined m (v .mesh) ts r)
-      ∙ ap (λ (b : Bool). cond (b && ltb 0 (leftSum m ts)) (refusing r Unfinished) (workedAfresh m ts r)) (same-needs r))
+      ∙ ap (λ (b : Bool). cond (b && ltb 0 (leftSum m ts)) (refusing r Unfinished) (workedAfresh m ts r))
+      (same-needs r))
 
 -- ---- a reading of a set of layers
 module _

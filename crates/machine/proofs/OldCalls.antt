@@ -14,13 +14,14 @@ use Rattle.pieces.specs.declared.pieces.Pieces.{Pieces}
 use Rattle.pieces.specs.PieceLaws.{Clean}
 use Rattle.layout.specs.Layout.{placeLimit}
 use Rattle.carry.specs.Carry.{oldWidth}
-use Rattle.machine.specs.Machine.{Provenance, Machine, putInto}
+use Rattle.machine.specs.Machine.{Provenance, own, carried, Machine, putInto}
 use Rattle.machine.specs.Calls.{clear, reweigh, advance, squeeze, Store, Result, store, past, holding}
-use Rattle.machine.specs.OldStore.{Fitter, Old, puts, clears, reweighs, advances, squeezes, reads, pages, OfPut, OfPuts, oldStore, oldLeaves, oldMachine, oldAfter}
+use Rattle.machine.specs.OldStore.{Fitter, Fitting, Todays, Old, puts, clears, reweighs, advances, squeezes, reads, pages, OfPut, OfPuts, oldStore, oldLeaves, oldMachine, oldAfter}
 use Rattle.machine.specs.Valid.{FittedBy, Valid}
 use Rattle.machine.proofs.Rows.{width3}
 use Rattle.machine.proofs.Held.{radius-held}
 use Rattle.machine.proofs.Claim.{inner, place-in, place-out, put-runs, clear-held, reweigh-held, advance-held, squeeze-held, put-valid, kept, held-in}
+use Rattle.machine.proofs.Adopting.{Holds}
 
 -- what may fit the pieces of places that say o of them
 pub record Source (o : Provenance) (fitter : Fitter) : Type 0 where
@@ -29,7 +30,7 @@ pub record Source (o : Provenance) (fitter : Fitter) : Type 0 where
   pub fitted : (k : Kernel) (radius : Float) → FittedBy radius k (fitter k radius) o
 
 -- of puts that were fitted by such and such
-pub both-puts : {P Q R : Fitter → Type 0} → ((fitter : Fitter) → P fitter → Q fitter → R fitter)
+both-puts : {P Q R : Fitter → Type 0} → ((fitter : Fitter) → P fitter → Q fitter → R fitter)
     → (cs : List Old) → OfPuts P cs → OfPuts Q cs → OfPuts R cs
 both-puts f [] p q = tt {0}
 both-puts f (puts fitter i k ∷ cs) p q = (f fitter (p .0) (q .0), both-puts f cs (p .1) (q .1))
@@ -90,12 +91,23 @@ module _ (o : Provenance) where
         ∙ (call-in c ∙ sym (held-in oldWidth (oldMachine o m c) (still-valid c source) xs ys))
 
   -- every list of calls
-  pub old-all : (cs : List Old) → OfPuts (Source o) cs → (m : Machine) → Valid (m .mesh) (m .places)
-      → (xs : List Float) (ys : List ℕ)
-      → (oldLeaves (holding oldWidth m xs ys) cs ≡ holding oldWidth (oldAfter o m cs) xs ys)
-      × Valid (oldAfter o m cs .mesh) (oldAfter o m cs .places)
-  old-all [] sources m v xs ys = (refl, v)
-  old-all (c ∷ cs) sources m v xs ys =
+  pub old-all : (cs : List Old) → OfPuts (Source o) cs → {m : Machine} {s : Store} {xs : List Float} {ys : List ℕ}
+      → Holds oldWidth m s xs ys → Holds oldWidth (oldAfter o m cs) (oldLeaves s cs) xs ys
+  old-all [] sources h = h
+  old-all (c ∷ cs) sources {m} {s} {xs} {ys} h =
       let source = sources .0 in
-      let i = old-all cs (sources .1) (oldMachine o m c) (still-valid m v xs ys c source) xs ys in
-      (ap (λ (s : Store). oldLeaves s cs) (one-old m v xs ys c source) ∙ i .0, i .1)
+      old-all cs (sources .1)
+      (record {
+        runs = ap (λ (t : Store). oldStore t c) (h .runs) ∙ one-old m (h .valid) xs ys c source;
+        valid = still-valid m (h .valid) xs ys c source;
+      })
+
+-- of pieces that are fitted by anything, where they count as brought
+pub brought-puts : (cs : List Old) → OfPuts Fitting cs → OfPuts (Source carried) cs
+brought-puts cs fitting =
+    both-puts (λ f p q. record { few = p .few; clean = p .clean; fitted = λ k radius. tt {0} }) cs fitting fitting
+
+-- and by today's decomposition, where they count as the store's own
+pub own-puts : (cs : List Old) → OfPuts Fitting cs → OfPuts Todays cs → OfPuts (Source own) cs
+own-puts cs fitting same =
+    both-puts (λ f p q. record { few = p .few; clean = p .clean; fitted = q }) cs fitting same

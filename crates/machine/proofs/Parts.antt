@@ -42,4 +42,6 @@ freshAll m [] = []
 freshAll m (s ∷ ss) = freshPlace m s ++ freshAll m ss
 
 unfoldable pub freshSeen : Mesh → List Place → Seen
-freshSeen m ss = seeing (freshAll m ss) (bodyVolume (triangles m) (m .faces)) (length (workAll (m .radius) ss)) (worstFrom +0 (workAll (m .radius) ss))
+freshSeen m ss =
+    seeing (freshAll m ss) (bodyVolume (triangles m) (m .faces)) (length (workAll (m .radius) ss))
+    (worstFrom +0 (workAll (m .radius) ss))

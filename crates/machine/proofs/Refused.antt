@@ -46,8 +46,10 @@ loose-below v (k ∷ ks) = rw (not-below v k, loose-below v ks) (go (ltb k v) (a
 threes : (n : ℕ) (ks : List ℕ) → ragged n ks ≡ false → (3 * (n / 3) ≡ n) × (3 * (length ks / 3) ≡ length ks)
 threes n ks = go (eqb (n % 3) 0) refl (eqb (length ks % 3) 0) refl
   where
-    go : (s : Bool) → eqb (n % 3) 0 ≡ s → (t : Bool) → eqb (length ks % 3) 0 ≡ t → (not s || not t) ≡ false → (3 * (n / 3) ≡ n) × (3 * (length ks / 3) ≡ length ks)
-    go true d true e h = let x = eqb-true (n % 3) 0 d in let y = eqb-true (length ks % 3) 0 e in (omega arith, omega arith)
+    go : (s : Bool) → eqb (n % 3) 0 ≡ s → (t : Bool) → eqb (length ks % 3) 0 ≡ t → (not s || not t) ≡ false
+        → (3 * (n / 3) ≡ n) × (3 * (length ks / 3) ≡ length ks)
+    go true d true e h =
+        let x = eqb-true (n % 3) 0 d in let y = eqb-true (length ks % 3) 0 e in (omega arith, omega arith)
     go true d false e h = absurd (true≢false h)
     go false d t e h = absurd (true≢false h)
 
@@ -74,7 +76,8 @@ row q xs ks a b = at (ragged n ks) refl
         let t = threes n ks h in
         let e : 1761 + 3 * (n / 3) ≡ coordsFrom + n = omega (arith, t .0) in
         let f : 2 + 32 * q + 3 * (length ks / 3) ≡ cornersFrom q + length ks = omega (arith, t .1) in
-        rw (e, f, not-below (coordsFrom + n) a, not-below (cornersFrom q + length ks) b) (either (ltb a (coordsFrom + n)) (ltb b (cornersFrom q + length ks)))
+        rw (e, f, not-below (coordsFrom + n) a, not-below (cornersFrom q + length ks) b)
+        (either (ltb a (coordsFrom + n)) (ltb b (cornersFrom q + length ks)))
 
     cases : (y z w : Bool) → Row (cond y 2 (cond (not z) 3 (cond (not w) 4 0)))
         (andThen (cond y (Failed Oversize) (cond z Passed (Failed LooseCorner))) (cond w Passed (Failed ShortStore)))
@@ -83,7 +86,11 @@ row q xs ks a b = at (ragged n ks) refl
     cases false true false = record { none = λ e. absurd (omega arith); some = λ h fs ws g. refl }
     cases false true true = record { none = λ e. refl; some = λ h fs ws g. absurd (omega arith) }
 
-    at : (x : Bool) → ragged n ks ≡ x → Row (cond x 1 (cond (oversize n ks) 2 (cond (looseIn (n / 3) ks) 3 (cond short 4 0))))
-        (andThen (cond x (Failed Ragged) (cond (oversize n ks) (Failed Oversize) (cond (allBelow (n / 3) ks) Passed (Failed LooseCorner)))) (cond enough Passed (Failed ShortStore)))
+    at : (x : Bool) → ragged n ks ≡ x
+        → Row (cond x 1 (cond (oversize n ks) 2 (cond (looseIn (n / 3) ks) 3 (cond short 4 0))))
+        (andThen
+        (cond x (Failed Ragged)
+        (cond (oversize n ks) (Failed Oversize) (cond (allBelow (n / 3) ks) Passed (Failed LooseCorner))))
+        (cond enough Passed (Failed ShortStore)))
     at true e = record { none = λ z. absurd (omega arith); some = λ h fs ws g. refl }
     at false e = rw (loose-below (n / 3) ks, short-not e) (cases (oversize n ks) (allBelow (n / 3) ks) enough)

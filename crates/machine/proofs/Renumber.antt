@@ -24,15 +24,14 @@ use Rattle.machine.specs.Machine.{Mesh, Machine, turn, freedBy, opened, 
 use Rattle.machine.specs.Holding.{excessF, excessW}
 use Rattle.machine.specs.Lines.{machineLines}
 use Rattle.machine.specs.Calls.{Call, put, clear, reweigh, advance, squeeze, read, finished, page, lines, machine, Store, Heard, heardOf, numberless}
-use Rattle.machine.specs.Demands.{leaving}
+use Rattle.machine.specs.Beginnings.{leaving}
 use Rattle.machine.specs.Renumbering.{Renumbered, Renumbering}
-use Rattle.machine.specs.Valid.{Valid}
 use Rattle.machine.proofs.Rows.{width4, layered4, map-getD}
 use Rattle.machine.proofs.Slim.{thinned, slim-is, freed-is}
 use Rattle.machine.proofs.Squeezing.{remesh}
 use Rattle.machine.proofs.Unaltered.{remade, Alike, told, heardBy, store-heard, corners-below, squeezed-alike, Goes, put-goes, clear-goes, reweigh-goes, advance-goes, read-goes, finished-goes, page-goes}
-use Rattle.machine.proofs.Opened.{opens, opened-valid}
-use Rattle.machine.proofs.Follow.{passed, holds}
+use Rattle.machine.proofs.Adopting.{Holds}
+use Rattle.machine.proofs.Opened.{opens, passed, holds}
 
 -- ---- how many vertices are in use goes by which corners are equal, not by their numbers
 pub distinct : List ℕ → ℕ
@@ -255,8 +254,8 @@ module _ (p q : ℕ → ℕ) (xs : List Float) (ks : List ℕ) (ys : List Float)
 -- ---- the store
 module _ (r : Float) (xs : List Float) (ks : List ℕ) (fs : List Float) (ws : List ℕ)
     (h : openRow width xs ks (length fs) (length ws) ≡ 0) where
-  valid : Valid (opened r xs ks .mesh) (opened r xs ks .places)
-  valid = opened-valid width width4 r xs ks (length fs) (length ws) (passed width width4 r xs ks fs ws h)
+  begun : Holds width (opened r xs ks) (leaving (openStep width fs ws r xs ks)) (excessF xs fs) (excessW width ks ws)
+  begun = holds width width4 r xs ks fs ws h
 
   opened-reply : openStep width fs ws r xs ks .reply ≡ counted (length xs / 3 ∷ length ks / 3 ∷ [])
   opened-reply = ap (λ (a : After). a .reply) (opens width width4 r xs ks fs ws (passed width width4 r xs ks fs ws h))
@@ -264,13 +263,13 @@ module _ (r : Float) (xs : List Float) (ks : List ℕ) (fs : List Float) (ws : L
   opened-told : (cs : List Call)
       → heardOf numberless width (leaving (openStep width fs ws r xs ks)) cs ≡ heardBy numberless (opened r xs ks) cs
   opened-told cs =
-      ap (λ (s : Store). heardOf numberless width s cs) (holds width width4 r xs ks fs ws h)
-      ∙ store-heard width layered4 (excessF xs fs) (excessW width ks ws) numberless cs (opened r xs ks) valid
+      ap (λ (s : Store). heardOf numberless width s cs) (begun .runs)
+      ∙ store-heard width layered4 (excessF xs fs) (excessW width ks ws) numberless cs (opened r xs ks) (begun .valid)
 
 pub renumbering : Renumbering
 renumbering p q xs ks ys ls e r fs ws gs us h k =
-    let v = valid r xs ks fs ws h .mesh in
-    let w = valid r ys ls gs us k .mesh in
+    let v = begun r xs ks fs ws h .valid .mesh in
+    let w = begun r ys ls gs us k .valid .mesh in
     let b = corners-below (opened r xs ks .mesh) v in
     let l : length ls ≡ length ks = ap length (e .corners) ∙ length-map ks p in
     let m = opened r xs ks in

@@ -43,7 +43,11 @@ steps-sound n f p hn hp = go (eqb f 0) refl
         rw (le-leb (p / f) n (omega arith), lt-ltb (p % f) f (mod-lt p hf)) refl
 
     go : (b : Bool) → eqb f 0 ≡ b
-        → leb (1 + n) 17 && cond (eqb (1 + n) 0) (eqb (cond b n (p / f)) 0 && eqb (p % f) 0) (leb (cond b n (p / f)) (1 + n - 1) && cond (eqb (cond b n (p / f)) (1 + n - 1)) (eqb (p % f) 0) (ltb (p % f) f)) ≡ true
+        → leb (1 + n) 17
+        && cond (eqb (1 + n) 0) (eqb (cond b n (p / f)) 0 && eqb (p % f) 0)
+        (leb (cond b n (p / f)) (1 + n - 1)
+        && cond (eqb (cond b n (p / f)) (1 + n - 1)) (eqb (p % f) 0) (ltb (p % f) f))
+        ≡ true
     go true e =
         let q : f ≡ 0 = eqb-true f 0 e in
         let z : p ≡ 0 = omega (arith, rw (q, mul-zero) at hp) in
@@ -52,7 +56,9 @@ steps-sound n f p hn hp = go (eqb f 0) refl
         let q : 0 < f = omega (arith, eqb-false f 0 e) in
         rw (e1, e0, le-leb (1 + n) 17 (omega arith)) (some q (eqb (p / f) n) refl)
 
-place-sound : (wd : ℕ) (m : Mesh) (s : Place) → Within m s → placeSound (getD (placeRow wd m s) 0 0) (getD (placeRow wd m s) 1 0) (getD (placeRow wd m s) 2 0) (m .faces) ≡ true
+place-sound : (wd : ℕ) (m : Mesh) (s : Place) → Within m s
+    → placeSound (getD (placeRow wd m s) 0 0) (getD (placeRow wd m s) 1 0) (getD (placeRow wd m s) 2 0) (m .faces)
+    ≡ true
 unfolding placeSound
 place-sound wd m empty h = refl
 place-sound wd m (full k fit o p l) h = steps-sound (fit .count) (m .faces) p (h .few) (h .steps)
@@ -63,7 +69,8 @@ unfolding layerSound
 layer-sound width3 m empty h = refl
 layer-sound width3 m (full k fit o p l) h = rw (ne-eqb (1 + fit .count) 0 (λ e. omega arith)) refl
 layer-sound width4 m empty h = refl
-layer-sound width4 m (full k fit o p l) h = rw (ne-eqb (1 + fit .count) 0 (λ e. omega arith), lt-ltb l 16 (h .layer)) refl
+layer-sound width4 m (full k fit o p l) h =
+    rw (ne-eqb (1 + fit .count) 0 (λ e. omega arith), lt-ltb l 16 (h .layer)) refl
 
 module _ (wd : ℕ) (fm : Width wd) (m : Mesh) (ss : List Place) (v : Valid m ss) (xs : List Float) (ys : List ℕ) where
   places-sound : (n : ℕ) → n ≤ 32 → every (placeSoundAt wd (wordsOf wd m ss ys)) n ≡ true
@@ -85,8 +92,10 @@ module _ (wd : ℕ) (fm : Width wd) (m : Mesh) (ss : List Place) (v : Valid m ss
   unfolding longEnough wordsOf
   long-enough =
       rw (
-        le-leb (cornersFrom wd + 3 * m .faces) (length (wordsOf wd m ss ys)) (words-long wd fm m ss (v .places) ys (v .mesh .corners)),
-        le-leb (coordsFrom + 3 * m .verts) (length (laidOut m ss xs)) (floats-long wd fm m ss (v .places) xs (v .mesh .coords)),
+        le-leb (cornersFrom wd + 3 * m .faces) (length (wordsOf wd m ss ys))
+            (words-long wd fm m ss (v .places) ys (v .mesh .corners)),
+        le-leb (coordsFrom + 3 * m .verts) (length (laidOut m ss xs))
+            (floats-long wd fm m ss (v .places) xs (v .mesh .coords)),
       ) refl
 
   pub is-sound : sound wd (wordsOf wd m ss ys) ≡ true

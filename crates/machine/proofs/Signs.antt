@@ -52,15 +52,16 @@ use Rattle.machine.specs.Holding.{triangles, cells, excessF, excessW}
 use Rattle.machine.specs.Valid.{Valid}
 use Rattle.machine.specs.Fresh.{Worked, fitAfresh, workAll, piecesTo, piecesOf, allPieces, worstFrom, valueOf, massOf, originOf, scaledList, readingOn, workedAfresh, finishedAfresh, freshRow, freshRows, pageAfresh}
 use Rattle.machine.specs.Lines.{vertLines, faceLines, putValues, putsOf, putLines, machineLines}
-use Rattle.machine.specs.Calls.{Call, put, clear, reweigh, advance, squeeze, read, finished, page, lines, needs, machine, Store, after-all, holding, past, Heard}
+use Rattle.machine.specs.Calls.{Call, put, clear, reweigh, advance, squeeze, read, finished, page, lines, needs, machine, Store, holding, past, Heard}
+use Rattle.machine.specs.Events.{after-all}
 use Rattle.machine.specs.Signs.{unsigned, unsignedCall, unsignedRun, unsignedRead, unsignedHeard, said, SameSaid, SignsUnseen}
 use Rattle.machine.proofs.Rows.{width4, layered4, map-set, map-getD}
 use Rattle.machine.proofs.Sixteen.{sixteen, laid-out}
 use Rattle.machine.proofs.Held.{get48}
 use Rattle.machine.proofs.Claim.{one-call, kept}
 use Rattle.machine.proofs.Unaltered.{told}
-use Rattle.machine.proofs.Opened.{opened-valid}
-use Rattle.machine.proofs.Follow.{last, passed, holds}
+use Rattle.machine.proofs.Adopting.{its-runs, after-calls}
+use Rattle.machine.proofs.Opened.{holds}
 
 abs-abs : (x : Float) → abs (abs x) ≡ abs x
 unfolding abs
@@ -206,7 +207,9 @@ unfolding fitOf
 end-even k r = go (stays (k .alpha))
   where
     far : Kernel → Fit
-    far j = cond (ne (k .alpha) (k .alpha)) NoExponent (endedFit (solvedBy (sizeOf (delta (k .alpha)) .terms) (curveOf j r)))
+    far j =
+        cond (ne (k .alpha) (k .alpha)) NoExponent
+        (endedFit (solvedBy (sizeOf (delta (k .alpha)) .terms) (curveOf j r)))
 
     go : (b : Bool) → cond b Kept (far (kernelBy b k)) ≡ cond b Kept (far k)
     go true = refl
@@ -487,7 +490,8 @@ unseen m (put i k l) = by-turn m (put i k l) (λ o. refl) (lift (ltb i placeLimi
 
     made : Machine → Kernel → Bool → Bool → Turn
     made n j a b =
-        cond a (cond b (putTurn n i j (decomposed j r) (fitOf j r) l) (turn n (refused NoLayer))) (turn n (refused NoPlace))
+        cond a (cond b (putTurn n i j (decomposed j r) (fitOf j r) l) (turn n (refused NoLayer)))
+        (turn n (refused NoPlace))
 
     lift : (a b : Bool) → made (unsignedMachine m) (unsigned k) a b ≡ unsignedTurn (made m k a b)
     lift true true =
@@ -510,7 +514,8 @@ unseen m (clear i) =
     lift true (full k fit o p l) = rw (map-set unsignedPlace (m .places) i empty) refl
     lift false s = refl
 unseen m (reweigh i x) =
-    by-turn m (reweigh i x) (λ o. refl) (rw (place-at (m .places) i) (lift (ltb i placeLimit) (getD (m .places) i empty)))
+    by-turn m (reweigh i x) (λ o. refl)
+    (rw (place-at (m .places) i) (lift (ltb i placeLimit) (getD (m .places) i empty)))
   where
     lift : (b : Bool) (s : Place)
         → cond b (reweighTurn (unsignedMachine m) i x (unsignedPlace s)) (turn (unsignedMachine m) (refused NoPlace))
@@ -597,8 +602,9 @@ module _ (exF : List Float) (exW : List ℕ) where
   same-said : (m : Machine) → Valid (m .mesh) (m .places) → (cs ds : List Call)
       → map unsignedCall cs ≡ map unsignedCall ds → SameSaid width (holding width m exF exW) cs ds
   same-said m v cs ds h =
-      let a = last width layered4 exF exW cs m v in
-      let b = last width layered4 exF exW ds m v in
+      let o = its-runs width layered4 exF exW m v in
+      let a = after-calls width layered4 exF exW cs o in
+      let b = after-calls width layered4 exF exW ds o in
       let s : unsignedMachine (after-all m cs) ≡ unsignedMachine (after-all m ds)
       = sym (after-same cs m) ∙ (ap (after-all (unsignedMachine m)) h ∙ after-same ds m) in
       record {
@@ -606,10 +612,10 @@ module _ (exF : List Float) (exW : List ℕ) where
             store-said cs m v
             ∙ (sym (said-same cs m) ∙ (ap (saidBy (unsignedMachine m)) h ∙ (said-same ds m ∙ sym (store-said ds m v))));
         volumes = λ i j hi hj.
-            ap (λ (t : Store). volumeAt t i j) (a .0)
-            ∙ (volume-held (after-all m cs) (a .1) i j hi hj
+            ap (λ (t : Store). volumeAt t i j) (a .runs)
+            ∙ (volume-held (after-all m cs) (a .valid) i j hi hj
             ∙ (ap (λ (t : Machine). placeVolume t i j) s
-            ∙ sym (ap (λ (t : Store). volumeAt t i j) (b .0) ∙ volume-held (after-all m ds) (b .1) i j hi hj)));
+            ∙ sym (ap (λ (t : Store). volumeAt t i j) (b .runs) ∙ volume-held (after-all m ds) (b .valid) i j hi hj)));
       }
 
 -- ---- the theorem
@@ -636,7 +642,7 @@ signs-unseen =
       volume = turned-volume;
       put-turned = turned-put;
       every-list = λ r xs ks fs ws h cs ds e.
-          let v = opened-valid width width4 r xs ks (length fs) (length ws) (passed width width4 r xs ks fs ws h) in
-          subst (λ (s : Store). SameSaid width s cs ds) (sym (holds width width4 r xs ks fs ws h))
-          (same-said (excessF xs fs) (excessW width ks ws) (opened r xs ks) v cs ds e);
+          let o = holds width width4 r xs ks fs ws h in
+          subst (λ (s : Store). SameSaid width s cs ds) (sym (o .runs))
+          (same-said (excessF xs fs) (excessW width ks ws) (opened r xs ks) (o .valid) cs ds e);
     }

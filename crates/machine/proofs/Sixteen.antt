@@ -1,4 +1,5 @@
--- The runs that hold a machine, by sixteen pieces to a filled place: past its last piece they are +0, whatever was done. Assumes nothing.
+-- The runs that hold a machine, by sixteen pieces to a filled place: past its last piece they are +0, whatever was
+-- done. Assumes nothing.
 use mathlib.Core.Path.{_≡_, refl, sym, ap, _∙_}
 use mathlib.Core.List.{List, [], _∷_, _++_, map}
 use Prim.Native.Nat.{ℕ, zero, suc, _+_, _*_, _-_, _≤_, min}
@@ -25,14 +26,22 @@ module _ (m : Mesh) (k : Kernel) (fit : Pieces) where
       let z : min (m .faces) n ≡ 0 = omega arith in
       rw z refl
 
-  cells-zero : Clean fit → (n j t : ℕ) → fit .count ≤ j → j + n ≤ 16 → t ≡ 0 → cells m k fit n j t ≡ replicate (n * 3) +0
+  cells-zero : Clean fit → (n j t : ℕ) → fit .count ≤ j → j + n ≤ 16 → t ≡ 0
+      → cells m k fit n j t ≡ replicate (n * 3) +0
   cells-zero h zero j t l b e = refl
   cells-zero h (suc n) j t l b e =
       let r = cells-zero h n (suc j) (t - m .faces) (omega arith) (omega arith) (omega arith) in
       let q : suc n * 3 ≡ suc (suc (suc (n * 3))) = omega arith in
-      rw (none-done (getD (fit .sigma) j nan) t e, h .no-sigma j l (omega arith), h .no-coefficient j l (omega arith), r, q) refl
+      rw (
+        none-done (getD (fit .sigma) j nan) t e,
+        h .no-sigma j l (omega arith),
+        h .no-coefficient j l (omega arith),
+        r,
+        q,
+      ) refl
 
-  cells-split : (a b j t : ℕ) → cells m k fit (a + b) j t ≡ cells m k fit a j t ++ cells m k fit b (j + a) (t - a * m .faces)
+  cells-split : (a b j t : ℕ)
+      → cells m k fit (a + b) j t ≡ cells m k fit a j t ++ cells m k fit b (j + a) (t - a * m .faces)
   cells-split zero b j t = rw (zero-add b, zero-mul (m .faces), sub-zero t, add-zero j) refl
   cells-split (suc a) b j t =
       let e : t - m .faces - a * m .faces ≡ t - suc a * m .faces = rw (suc-mul a (m .faces)) (omega arith) in
@@ -57,10 +66,13 @@ place-laid m (full k fit o p l) w =
     let z : p - n * m .faces ≡ 0 = omega (arith, w .steps) in
     let q : (16 - n) * 3 ≡ 48 - 3 * n = omega arith in
     ap (λ (l : List Float). cells m k fit n 0 p ++ l)
-    (sym (cells-zero m k fit (w .clean) (16 - n) (0 + n) (p - n * m .faces) (omega arith) (omega arith) z ∙ ap (λ (j : ℕ). replicate j +0) q))
+    (sym
+    (cells-zero m k fit (w .clean) (16 - n) (0 + n) (p - n * m .faces) (omega arith) (omega arith) z
+    ∙ ap (λ (j : ℕ). replicate j +0) q))
     ∙ (sym (cells-split m k fit n (16 - n) 0 p) ∙ ap (λ (j : ℕ). cells m k fit j 0 p) e)
 
-places-laid : (m : Mesh) (ss : List Place) → ((i : ℕ) → Within m (getD ss i empty)) → map (floats48 m) ss ≡ map (sixteen m) ss
+places-laid : (m : Mesh) (ss : List Place) → ((i : ℕ) → Within m (getD ss i empty))
+    → map (floats48 m) ss ≡ map (sixteen m) ss
 places-laid m [] w = refl
 places-laid m (s ∷ ss) w = rw (place-laid m s (w zero), places-laid m ss (λ i. w (suc i))) refl
 

@@ -55,11 +55,14 @@ module _ (ks : List ℕ) where
   points-kept : (xs : List Float) (n : ℕ) → pointsAt xs (usedBelow ks n) ≡ keptTo ks xs n
   unfolding keptTo
   points-kept xs zero = refl
-  points-kept xs (suc n) = joined (usedBelow ks n) (cond (used ks n) (n ∷ []) []) ∙ rw (points-kept xs n) (one (used ks n))
+  points-kept xs (suc n) =
+      joined (usedBelow ks n) (cond (used ks n) (n ∷ []) []) ∙ rw (points-kept xs n) (one (used ks n))
     where
       joined : (vs ws : List ℕ) → pointsAt xs (vs ++ ws) ≡ pointsAt xs vs ++ pointsAt xs ws
       joined [] ws = refl
-      joined (v ∷ vs) ws = ap (λ (l : List Float). pointOf xs v ++ l) (joined vs ws) ∙ sym (append-assoc (pointOf xs v) (pointsAt xs vs) (pointsAt xs ws))
+      joined (v ∷ vs) ws =
+          ap (λ (l : List Float). pointOf xs v ++ l) (joined vs ws)
+          ∙ sym (append-assoc (pointOf xs v) (pointsAt xs vs) (pointsAt xs ws))
 
       one : (b : Bool) → keptTo ks xs n ++ pointsAt xs (cond b (n ∷ []) []) ≡ keptTo ks xs n ++ cond b (pointOf xs n) []
       one true = refl
@@ -68,11 +71,13 @@ module _ (ks : List ℕ) where
   corners-renumbered : (n : ℕ) → Below n ks → map (placeIn (usedBelow ks n)) ks ≡ renumbered ks
   corners-renumbered n b = go ks (λ j h. (corner-used ks j h, b .corner j h))
     where
-      go : (ls : List ℕ) → ((j : ℕ) → j < length ls → (used ks (getD ls j 0) ≡ true) × (getD ls j 0 < n)) → map (placeIn (usedBelow ks n)) ls ≡ map (rank ks) ls
+      go : (ls : List ℕ) → ((j : ℕ) → j < length ls → (used ks (getD ls j 0) ≡ true) × (getD ls j 0 < n))
+          → map (placeIn (usedBelow ks n)) ls ≡ map (rank ks) ls
       go [] h = refl
       go (l ∷ ls) h =
           let u = h zero (omega arith) in
-          let e : placeIn (usedBelow ks n) l ≡ rank ks l = ap (λ (t : List ℕ). placeIn t l) (sym (append-nil (usedBelow ks n))) ∙ place-rank n [] l (u .0) (u .1) in
+          let e : placeIn (usedBelow ks n) l ≡ rank ks l
+          = ap (λ (t : List ℕ). placeIn t l) (sym (append-nil (usedBelow ks n))) ∙ place-rank n [] l (u .0) (u .1) in
           rw (e, go ls (λ j z. h (suc j) (omega arith))) refl
 
 -- the mesh by the store's own definitions
@@ -88,7 +93,12 @@ thinned m =
 
 pub slim-is : (m : Mesh) → Below (m .verts) (m .corners) → slim m ≡ thinned m
 unfolding slim
-slim-is m b = rw (points-kept (m .corners) (m .coords) (m .verts), corners-renumbered (m .corners) (m .verts) b, used-count (m .corners) (m .verts)) refl
+slim-is m b =
+    rw (
+      points-kept (m .corners) (m .coords) (m .verts),
+      corners-renumbered (m .corners) (m .verts) b,
+      used-count (m .corners) (m .verts),
+    ) refl
 
 pub freed-is : (m : Mesh) → freedBy m ≡ freedOf (m .corners) (m .verts)
 unfolding freedBy

@@ -30,7 +30,9 @@ module _ (m : Mesh) (k : Kernel) (fit : Pieces) (hf : 0 < m .faces) where
   cellsFrom n j t = cells m k fit n j t
 
   abbrev sumAt : List Float → ℕ → Float
-  sumAt row t = faceSum (triangles m (t % m .faces)) (centreOf k) (getD row (3 * (t / m .faces)) nan) (getD row (3 * (t / m .faces) + 2) nan)
+  sumAt row t =
+      faceSum (triangles m (t % m .faces)) (centreOf k) (getD row (3 * (t / m .faces)) nan)
+      (getD row (3 * (t / m .faces) + 2) nan)
 
   abbrev Stepped : ℕ → ℕ → ℕ → Type 0
   Stepped n j t = set (cellsFrom n j t) (3 * (t / m .faces) + 2) (sumAt (cellsFrom n j t) t) ≡ cellsFrom n j (t + 1)
@@ -43,10 +45,13 @@ module _ (m : Mesh) (k : Kernel) (fit : Pieces) (hf : 0 < m .faces) where
       let d : t - m .faces ≡ 0 = omega arith in
       let e : t + 1 - m .faces ≡ 0 = omega arith in
       rw (div-eq-of-lt h, mod-eq-of-lt h, a, b, d, e)
-      (ap (λ (v : Float). s ∷ getD (fit .coefficient) j nan ∷ v ∷ cellsFrom n (suc j) 0) (rw add-one (sym (volume-suc (triangles m) (centreOf k) s t))))
+      (ap (λ (v : Float). s ∷ getD (fit .coefficient) j nan ∷ v ∷ cellsFrom n (suc j) 0)
+      (rw add-one (sym (volume-suc (triangles m) (centreOf k) s t))))
 
   beyond : (n j t : ℕ) → m .faces ≤ t
-      → set (cellsFrom n (suc j) (t - m .faces)) (3 * ((t - m .faces) / m .faces) + 2) (sumAt (cellsFrom n (suc j) (t - m .faces)) (t - m .faces)) ≡ cellsFrom n (suc j) (t - m .faces + 1)
+      → set (cellsFrom n (suc j) (t - m .faces)) (3 * ((t - m .faces) / m .faces) + 2)
+      (sumAt (cellsFrom n (suc j) (t - m .faces)) (t - m .faces))
+      ≡ cellsFrom n (suc j) (t - m .faces + 1)
       → Stepped (suc n) j t
   beyond n j t h ih =
       let f = m .faces in
@@ -65,9 +70,16 @@ module _ (m : Mesh) (k : Kernel) (fit : Pieces) (hf : 0 < m .faces) where
 
   pub cells-step : (n j t : ℕ) → t < n * m .faces → Stepped n j t
   cells-step zero j t h = absurd (let z = rw zero-mul at h in omega arith)
-  cells-step (suc n) j t h = go (decLt t (m .faces)) (λ (l : m .faces ≤ t). cells-step n (suc j) (t - m .faces) (let z = rw suc-mul at h in omega arith))
+  cells-step (suc n) j t h =
+      go (decLt t (m .faces))
+      (λ (l : m .faces ≤ t). cells-step n (suc j) (t - m .faces) (let z = rw suc-mul at h in omega arith))
     where
-      go : Dec (t < m .faces) → (m .faces ≤ t → set (cells m k fit n (suc j) (t - m .faces)) (3 * ((t - m .faces) / m .faces) + 2) (sumAt (cells m k fit n (suc j) (t - m .faces)) (t - m .faces)) ≡ cells m k fit n (suc j) (t - m .faces + 1)) → Stepped (suc n) j t
+      go : Dec (t < m .faces)
+          → (m .faces ≤ t
+          → set (cells m k fit n (suc j) (t - m .faces)) (3 * ((t - m .faces) / m .faces) + 2)
+          (sumAt (cells m k fit n (suc j) (t - m .faces)) (t - m .faces))
+          ≡ cells m k fit n (suc j) (t - m .faces + 1))
+          → Stepped (suc n) j t
       go (yes y) ih = here n j t y
       go (no y) ih = beyond n j t (omega arith) (ih (omega arith))
 
@@ -96,7 +108,8 @@ module _ (q f : ℕ) (hf : 0 < f) where
           (sym (n .0), sym (n .1))
 
 module _ (wd : ℕ) (fm : Width wd) where
-  module _ (m : Mesh) (ss : List Place) (hs : length ss ≡ 32) (xs : List Float) (i : ℕ) (h : i < 32) (k : Kernel) (fit : Pieces) (o : Provenance) (ly : ℕ) (fw : fit .count ≤ 16) where
+  module _ (m : Mesh) (ss : List Place) (hs : length ss ≡ 32) (xs : List Float) (i : ℕ) (h : i < 32) (k : Kernel)
+      (fit : Pieces) (o : Provenance) (ly : ℕ) (fw : fit .count ≤ 16) where
     abbrev stepAt : Work → Work
     stepAt = oneFace (triangles m) (centreOf k) (m .faces) (225 + 48 * i) (fit .count)
 
@@ -108,7 +121,9 @@ module _ (wd : ℕ) (fm : Width wd) where
         go (suc f) e = omega arith
 
     pub one-step : (q n : ℕ) → getD ss i empty ≡ full k fit o q ly → q < need m fit → 0 < n
-        → stepAt (work (laidOut m ss xs) (piecesFinished m fit q) (q % m .faces) n) ≡ work (laidOut m (set ss i (full k fit o (q + 1) ly)) xs) (piecesFinished m fit (q + 1)) ((q + 1) % m .faces) (n - 1)
+        → stepAt (work (laidOut m ss xs) (piecesFinished m fit q) (q % m .faces) n)
+        ≡ work (laidOut m (set ss i (full k fit o (q + 1) ly)) xs) (piecesFinished m fit (q + 1)) ((q + 1) % m .faces)
+        (n - 1)
     unfolding oneFace
     one-step q n e l hn =
         let f = m .faces in
@@ -133,18 +148,25 @@ module _ (wd : ℕ) (fm : Width wd) where
           e,
         )
         (ap (λ (t : List Float). work t ((q + 1) / f) ((q + 1) % f) (n - 1))
-        (set-piece wd fm m ss hs xs i h (full k fit o (q + 1) ly) (j + 2) _ (omega arith) (rw e (cells-step m k fit hf 16 0 q low)) (rw e refl)))
+        (set-piece wd fm m ss hs xs i h (full k fit o (q + 1) ly) (j + 2) _ (omega arith)
+        (rw e (cells-step m k fit hf 16 0 q low)) (rw e refl)))
 
     finished-all : piecesFinished m fit (need m fit) ≡ fit .count
     finished-all = go (eqb (m .faces) 0) refl
       where
         go : (b : Bool) → eqb (m .faces) 0 ≡ b → cond b (fit .count) (need m fit / m .faces) ≡ fit .count
         go true e = refl
-        go false e = let z = eqb-false (m .faces) 0 e in next (need m fit) (m .faces) (fit .count) 0 (add-zero (need m fit)) (omega arith) .0
+        go false e =
+            let z = eqb-false (m .faces) 0 e in
+            next (need m fit) (m .faces) (fit .count) 0 (add-zero (need m fit)) (omega arith) .0
 
-  module _ (m : Mesh) (ss : List Place) (hs : length ss ≡ 32) (xs : List Float) (i : ℕ) (h : i < 32) (k : Kernel) (fit : Pieces) (o : Provenance) (p ly : ℕ) (e : getD ss i empty ≡ full k fit o p ly) (fw : fit .count ≤ 16) (hp : p ≤ need m fit) (n : ℕ) where
+  module _ (m : Mesh) (ss : List Place) (hs : length ss ≡ 32) (xs : List Float) (i : ℕ) (h : i < 32) (k : Kernel)
+      (fit : Pieces) (o : Provenance) (p ly : ℕ) (e : getD ss i empty ≡ full k fit o p ly) (fw : fit .count ≤ 16)
+      (hp : p ≤ need m fit) (n : ℕ) where
     abbrev at : ℕ → Work
-    at u = work (laidOut m (set ss i (full k fit o (p + u) ly)) xs) (piecesFinished m fit (p + u)) ((p + u) % m .faces) (n - u)
+    at u =
+        work (laidOut m (set ss i (full k fit o (p + u) ly)) xs) (piecesFinished m fit (p + u)) ((p + u) % m .faces)
+        (n - u)
 
     at-zero : work (laidOut m ss xs) (piecesFinished m fit p) (p % m .faces) n ≡ at 0
     at-zero =
@@ -160,7 +182,8 @@ module _ (wd : ℕ) (fm : Width wd) where
         let ss1 = set ss i (full k fit o (p + u) ly) in
         let a : p + u + 1 ≡ p + suc u = omega arith in
         let b : n - u - 1 ≡ n - suc u = omega arith in
-        one-step m ss1 (length-set ss i (full k fit o (p + u) ly) ∙ hs) xs i h k fit o ly fw (p + u) (n - u) (getD-set-same ss i (full k fit o (p + u) ly) empty (rw hs h)) l (omega arith)
+        one-step m ss1 (length-set ss i (full k fit o (p + u) ly) ∙ hs) xs i h k fit o ly fw (p + u) (n - u)
+        (getD-set-same ss i (full k fit o (p + u) ly) empty (rw hs h)) l (omega arith)
         ∙ rw (set-set, a, b) refl
 
     idle-all : stepK (at (need m fit - p)) ≡ at (need m fit - p)
@@ -169,7 +192,9 @@ module _ (wd : ℕ) (fm : Width wd) where
         let q : p + (need m fit - p) ≡ need m fit = omega arith in
         rw (q, finished-all m ss hs xs i h k fit o ly fw, le-ltb (fit .count) (fit .count) (omega arith)) refl
 
-    pub run-steps : (t : ℕ) → t ≤ n → iterate stepK t (work (laidOut m ss xs) (piecesFinished m fit p) (p % m .faces) n) ≡ at (min t (need m fit - p))
+    pub run-steps : (t : ℕ) → t ≤ n
+        → iterate stepK t (work (laidOut m ss xs) (piecesFinished m fit p) (p % m .faces) n)
+        ≡ at (min t (need m fit - p))
     run-steps zero ht = let z : min 0 (need m fit - p) ≡ 0 = omega arith in rw z at-zero
     run-steps (suc t) ht = ap stepK (run-steps t (omega arith)) ∙ go (decLt t (need m fit - p))
       where

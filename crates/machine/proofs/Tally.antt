@@ -21,7 +21,8 @@ use Rattle.pieces.specs.Pieces.{decomposed}
 use Rattle.pieces.specs.PieceLaws.{same-pieces}
 use Rattle.machine.specs.Machine.{Mesh, Provenance, own, carried, Place, empty, full, among, seenPlace, seenPlaces, leftPlace, adv, bump, stepsOf, Machine, Turn, turn, clearTurn, weighed, reweighTurn, slim}
 use Rattle.machine.specs.Fresh.{kernelOf, fitAfresh, workAll, piecesOf, allPieces}
-use Rattle.machine.specs.Calls.{Call, put, clear, reweigh, advance, squeeze, read, finished, page, lines, machine, after-all, holding, chargedBy, chargedIn}
+use Rattle.machine.specs.Calls.{Call, put, clear, reweigh, advance, squeeze, read, finished, page, lines, machine, holding, chargedBy}
+use Rattle.machine.specs.Events.{after-all, chargedIn}
 use Rattle.machine.specs.Valid.{Valid}
 use Rattle.machine.specs.Bills.{Reordered, none, keep, swap, then, Every, putBy, putIn, placeBy, placesIn, InStore, layerBy, layersIn, InSixteen, Apart}
 use Rattle.machine.proofs.Rows.{Layered}

@@ -63,7 +63,9 @@ module _ (m : Mesh) (xs : List Float) (ks : List ℕ) (w : ℕ) where
 
   module _ (same : (f : ℕ) → f < m .faces → triangleAt xs ks f ≡ triangles m f) where
     part-same : (k : Kernel) (fit : Pieces) (j : ℕ) → freshPart n k fit j ≡ freshPart m k fit j
-    part-same k fit j = ap (λ (x : Float). record { kernel = freshPart m k fit j .kernel; volume = x }) (volume-same m xs ks w same (centreOf k) (getD (fit .sigma) j nan) (m .faces) (omega arith))
+    part-same k fit j =
+        ap (λ (x : Float). record { kernel = freshPart m k fit j .kernel; volume = x })
+        (volume-same m xs ks w same (centreOf k) (getD (fit .sigma) j nan) (m .faces) (omega arith))
 
     parts-same : (k : Kernel) (fit : Pieces) (j : ℕ) → freshAt n k fit j ≡ freshAt m k fit j
     parts-same k fit zero = refl
@@ -79,7 +81,8 @@ module _ (m : Mesh) (xs : List Float) (ks : List ℕ) (w : ℕ) where
 
     seen-same : (ss : List Place) → freshSeen n ss ≡ freshSeen m ss
     unfolding freshSeen
-    seen-same ss = same-seen (all-same ss) (volume-same m xs ks w same originPoint +0 (m .faces) (omega arith)) refl refl
+    seen-same ss =
+        same-seen (all-same ss) (volume-same m xs ks w same originPoint +0 (m .faces) (omega arith)) refl refl
 
     pub afresh-same : Shape n → Shape m → (ss : List Place) (r : Reading) → workedAfresh n ss r ≡ workedAfresh m ss r
     afresh-same g h ss r = sym (joined n g ss r) ∙ (ap (answerOf r) (seen-same ss) ∙ joined m h ss r)
@@ -106,7 +109,14 @@ module _ (m : Mesh) (xs : List Float) (ks : List ℕ) (w : ℕ) where
 
 -- ---- a machine on another mesh
 abbrev pub remade : Machine → List Float → List ℕ → ℕ → ℕ → Machine
-remade m xs ks w g = record { mesh = remesh (m .mesh) xs ks w; places = m .places; charged = m .charged; dropped = m .dropped; freed = g }
+remade m xs ks w g =
+    record {
+      mesh = remesh (m .mesh) xs ks w;
+      places = m .places;
+      charged = m .charged;
+      dropped = m .dropped;
+      freed = g;
+    }
 
 abbrev pub lifted : Turn → List Float → List ℕ → ℕ → ℕ → Turn
 lifted t xs ks w g = record { next = remade (t .next) xs ks w g; reply = t .reply; out = t .out; bytes = t .bytes }
@@ -148,9 +158,15 @@ module _ (m : Machine) (xs : List Float) (ks : List ℕ) (w g : ℕ) where
 
   pub clear-goes : (i : ℕ) → Goes m (clear i) xs ks w g
   unfolding machine
-  clear-goes i = record { lift = lift (ltb i placeLimit) (getD (m .places) i empty); mesh = stays (ltb i placeLimit) (getD (m .places) i empty) }
+  clear-goes i =
+      record {
+        lift = lift (ltb i placeLimit) (getD (m .places) i empty);
+        mesh = stays (ltb i placeLimit) (getD (m .places) i empty);
+      }
     where
-      lift : (b : Bool) (s : Place) → cond b (clearTurn (remade m xs ks w g) i s) (turn (remade m xs ks w g) (refused NoPlace)) ≡ lifted (cond b (clearTurn m i s) (turn m (refused NoPlace))) xs ks w g
+      lift : (b : Bool) (s : Place)
+          → cond b (clearTurn (remade m xs ks w g) i s) (turn (remade m xs ks w g) (refused NoPlace))
+          ≡ lifted (cond b (clearTurn m i s) (turn m (refused NoPlace))) xs ks w g
       lift true empty = refl
       lift true (full k fit o p l) = refl
       lift false s = refl
@@ -162,9 +178,15 @@ module _ (m : Machine) (xs : List Float) (ks : List ℕ) (w g : ℕ) where
 
   pub reweigh-goes : (i : ℕ) (x : Float) → Goes m (reweigh i x) xs ks w g
   unfolding machine
-  reweigh-goes i x = record { lift = lift (ltb i placeLimit) (getD (m .places) i empty); mesh = stays (ltb i placeLimit) (getD (m .places) i empty) }
+  reweigh-goes i x =
+      record {
+        lift = lift (ltb i placeLimit) (getD (m .places) i empty);
+        mesh = stays (ltb i placeLimit) (getD (m .places) i empty);
+      }
     where
-      lift : (b : Bool) (s : Place) → cond b (reweighTurn (remade m xs ks w g) i x s) (turn (remade m xs ks w g) (refused NoPlace)) ≡ lifted (cond b (reweighTurn m i x s) (turn m (refused NoPlace))) xs ks w g
+      lift : (b : Bool) (s : Place)
+          → cond b (reweighTurn (remade m xs ks w g) i x s) (turn (remade m xs ks w g) (refused NoPlace))
+          ≡ lifted (cond b (reweighTurn m i x s) (turn m (refused NoPlace))) xs ks w g
       lift true empty = refl
       lift true (full k fit o p l) = refl
       lift false s = refl
@@ -179,7 +201,12 @@ module _ (m : Machine) (xs : List Float) (ks : List ℕ) (w g : ℕ) where
   advance-goes k =
       let ss = iterate (bump (m .mesh)) (stepsOf m k) (m .places) in
       record {
-        lift = rw (left-sum-same (m .mesh) xs ks w (m .places), bumps-same (m .mesh) xs ks w (stepsOf m k) (m .places), left-sum-same (m .mesh) xs ks w ss) refl;
+        lift =
+            rw (
+              left-sum-same (m .mesh) xs ks w (m .places),
+              bumps-same (m .mesh) xs ks w (stepsOf m k) (m .places),
+              left-sum-same (m .mesh) xs ks w ss,
+            ) refl;
         mesh = refl;
       }
 
@@ -198,7 +225,15 @@ module _ (m : Machine) (xs : List Float) (ks : List ℕ) (w g : ℕ) where
 
   pub page-goes : Alike (m .mesh) xs ks w → (bs : List ℕ) → Goes m (page bs) xs ks w g
   unfolding machine
-  page-goes a bs = record { lift = rw (left-sum-same (m .mesh) xs ks w (m .places), page-same (m .mesh) xs ks w (a .same) (a .shape) (a .was) (m .places) bs) refl; mesh = refl }
+  page-goes a bs =
+      record {
+        lift =
+            rw (
+              left-sum-same (m .mesh) xs ks w (m .places),
+              page-same (m .mesh) xs ks w (a .same) (a .shape) (a .was) (m .places) bs,
+            ) refl;
+        mesh = refl;
+      }
 
 -- ---- a list of calls
 abbrev pub told : Turn → Heard
@@ -214,7 +249,8 @@ pub corners-below : (m : Mesh) → Shape m → Below (m .verts) (m .corners)
 corners-below m g = record { corner = below-each (m .verts) (m .corners) (g .below) }
 
 -- one squeeze more
-pub squeezed-alike : (m : Mesh) (xs : List Float) (ks : List ℕ) (w : ℕ) → Alike m xs ks w → Alike m (keptTo ks xs w) (renumbered ks) (rank ks w)
+pub squeezed-alike : (m : Mesh) (xs : List Float) (ks : List ℕ) (w : ℕ) → Alike m xs ks w
+    → Alike m (keptTo ks xs w) (renumbered ks) (rank ks w)
 squeezed-alike m xs ks w a =
     let g = a .shape in
     let b : Below w ks = record { corner = below-each w ks (g .below) } in
@@ -232,24 +268,38 @@ module _ (m : Machine) (c : Call) (cs : List Call) (xs : List Float) (ks : List 
       (told (machine (remade m xs ks w g) c) ∷ heardBy steady (machine (remade m xs ks w g) c .next) cs)
       (told (machine m c) ∷ heardBy steady (machine m c .next) (without cs))
   one-heard s a ih =
-      rw (s .lift) (ap (λ (os : List Heard). told (machine m c) ∷ os) (ih (subst (λ (t : Mesh). Alike t xs ks w) (sym (s .mesh)) a)))
+      rw (s .lift)
+      (ap (λ (os : List Heard). told (machine m c) ∷ os) (ih (subst (λ (t : Mesh). Alike t xs ks w) (sym (s .mesh)) a)))
 
 same-heard : (cs : List Call) (m : Machine) (xs : List Float) (ks : List ℕ) (w g : ℕ) → Alike (m .mesh) xs ks w
     → heardBy steady (remade m xs ks w g) cs ≡ heardBy steady m (without cs)
 unfolding machine
 same-heard [] m xs ks w g a = refl
-same-heard (put i k l ∷ cs) m xs ks w g a = one-heard m (put i k l) cs xs ks w g (put-goes m xs ks w g i k l) a (same-heard cs (machine m (put i k l) .next) xs ks w g)
-same-heard (clear i ∷ cs) m xs ks w g a = one-heard m (clear i) cs xs ks w g (clear-goes m xs ks w g i) a (same-heard cs (machine m (clear i) .next) xs ks w g)
-same-heard (reweigh i x ∷ cs) m xs ks w g a = one-heard m (reweigh i x) cs xs ks w g (reweigh-goes m xs ks w g i x) a (same-heard cs (machine m (reweigh i x) .next) xs ks w g)
-same-heard (advance k ∷ cs) m xs ks w g a = one-heard m (advance k) cs xs ks w g (advance-goes m xs ks w g k) a (same-heard cs (machine m (advance k) .next) xs ks w g)
+same-heard (put i k l ∷ cs) m xs ks w g a =
+    one-heard m (put i k l) cs xs ks w g (put-goes m xs ks w g i k l) a
+    (same-heard cs (machine m (put i k l) .next) xs ks w g)
+same-heard (clear i ∷ cs) m xs ks w g a =
+    one-heard m (clear i) cs xs ks w g (clear-goes m xs ks w g i) a
+    (same-heard cs (machine m (clear i) .next) xs ks w g)
+same-heard (reweigh i x ∷ cs) m xs ks w g a =
+    one-heard m (reweigh i x) cs xs ks w g (reweigh-goes m xs ks w g i x) a
+    (same-heard cs (machine m (reweigh i x) .next) xs ks w g)
+same-heard (advance k ∷ cs) m xs ks w g a =
+    one-heard m (advance k) cs xs ks w g (advance-goes m xs ks w g k) a
+    (same-heard cs (machine m (advance k) .next) xs ks w g)
 same-heard (squeeze ∷ cs) m xs ks w g a =
     let n = remesh (m .mesh) xs ks w in
-    rw (slim-is n (corners-below n (a .shape))) (same-heard cs m (keptTo ks xs w) (renumbered ks) (rank ks w) (freedBy n + g) (squeezed-alike (m .mesh) xs ks w a))
-same-heard (read ls r ∷ cs) m xs ks w g a = one-heard m (read ls r) cs xs ks w g (read-goes m xs ks w g a ls r) a (same-heard cs (machine m (read ls r) .next) xs ks w g)
+    rw (slim-is n (corners-below n (a .shape)))
+    (same-heard cs m (keptTo ks xs w) (renumbered ks) (rank ks w) (freedBy n + g) (squeezed-alike (m .mesh) xs ks w a))
+same-heard (read ls r ∷ cs) m xs ks w g a =
+    one-heard m (read ls r) cs xs ks w g (read-goes m xs ks w g a ls r) a
+    (same-heard cs (machine m (read ls r) .next) xs ks w g)
 same-heard (finished ls cv ∷ cs) m xs ks w g a =
     one-heard m (finished ls cv) cs xs ks w g (finished-goes m xs ks w g a ls cv) a
     (same-heard cs (machine m (finished ls cv) .next) xs ks w g)
-same-heard (page bs ∷ cs) m xs ks w g a = one-heard m (page bs) cs xs ks w g (page-goes m xs ks w g a bs) a (same-heard cs (machine m (page bs) .next) xs ks w g)
+same-heard (page bs ∷ cs) m xs ks w g a =
+    one-heard m (page bs) cs xs ks w g (page-goes m xs ks w g a bs) a
+    (same-heard cs (machine m (page bs) .next) xs ks w g)
 same-heard (lines bs ∷ cs) m xs ks w g a = same-heard cs m xs ks w g a
 
 -- ---- a reading of the machine's mesh is one of the mesh opened
@@ -268,8 +318,14 @@ from-next o m (clear i) f = subst (From o) (sym (clear-goes m [] [] 0 0 i .mesh)
 from-next o m (reweigh i x) f = subst (From o) (sym (reweigh-goes m [] [] 0 0 i x .mesh)) f
 from-next o m (advance n) f = f
 from-next o m squeeze f =
-    rw (slim-is (m .mesh) (corners-below (remesh o (m .mesh .coords) (m .mesh .corners) (m .mesh .verts)) (f .alike .shape)))
-    (record { radius = f .radius; faces = f .faces; alike = squeezed-alike o (m .mesh .coords) (m .mesh .corners) (m .mesh .verts) (f .alike) })
+    rw
+    (slim-is (m .mesh)
+    (corners-below (remesh o (m .mesh .coords) (m .mesh .corners) (m .mesh .verts)) (f .alike .shape)))
+    (record {
+      radius = f .radius;
+      faces = f .faces;
+      alike = squeezed-alike o (m .mesh .coords) (m .mesh .corners) (m .mesh .verts) (f .alike);
+    })
 from-next o m (read ls r) f = f
 from-next o m (finished ls cv) f = f
 from-next o m (page bs) f = f
@@ -278,8 +334,12 @@ from-next o m (lines bs) f = f
 module _ (o m : Mesh) (f : From o m) where
   mesh-is : m ≡ remesh o (m .coords) (m .corners) (m .verts)
   mesh-is =
-      ap (λ (x : Float). record { radius = x; coords = m .coords; corners = m .corners; verts = m .verts; faces = m .faces }) (f .radius)
-      ∙ ap (λ (n : ℕ). record { radius = o .radius; coords = m .coords; corners = m .corners; verts = m .verts; faces = n }) (f .faces)
+      ap
+      (λ (x : Float).
+      record { radius = x; coords = m .coords; corners = m .corners; verts = m .verts; faces = m .faces }) (f .radius)
+      ∙ ap
+      (λ (n : ℕ). record { radius = o .radius; coords = m .coords; corners = m .corners; verts = m .verts; faces = n })
+      (f .faces)
 
   pub on-opened : (ss : List Place) (r : Reading) → workedAfresh m ss r ≡ workedAfresh o ss r
   on-opened ss r =
@@ -305,7 +365,8 @@ module _ (wd : ℕ) (fm : Layered wd) (exF : List Float) (exW : List ℕ) where
       (ap (λ (os : List Heard). cond (pick c) (told (machine m c) ∷ os) os)
       (store-heard pick cs (machine m c .next) (kept m v c .valid)))
 
-  pub unaltered : (m : Machine) → Valid (m .mesh) (m .places) → (cs : List Call) → heard wd (holding wd m exF exW) cs ≡ heard wd (holding wd m exF exW) (without cs)
+  pub unaltered : (m : Machine) → Valid (m .mesh) (m .places) → (cs : List Call)
+      → heard wd (holding wd m exF exW) cs ≡ heard wd (holding wd m exF exW) (without cs)
   unaltered m v cs =
       let a : Alike (m .mesh) (m .mesh .coords) (m .mesh .corners) (m .mesh .verts)
       = record { shape = v .mesh; was = v .mesh; same = λ f h. refl } in

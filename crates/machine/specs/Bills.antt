@@ -21,8 +21,9 @@ use Rattle.store.specs.Calls.{openStep}
 use Rattle.readings.specs.Readings.{list}
 use Rattle.machine.specs.Machine.{openRow}
 use Rattle.machine.specs.Holding.{flat}
-use Rattle.machine.specs.Calls.{Call, put, clear, reweigh, advance, squeeze, read, finished, page, lines, Store, store, leaves, chargedIn}
-use Rattle.machine.specs.Demands.{leaving}
+use Rattle.machine.specs.Calls.{Call, put, clear, reweigh, advance, squeeze, read, finished, page, lines, Store, store}
+use Rattle.machine.specs.Events.{leaves, chargedIn}
+use Rattle.machine.specs.Beginnings.{leaving}
 
 -- ---- the kernels of a list
 

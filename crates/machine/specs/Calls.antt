@@ -1,8 +1,8 @@
--- Demand 3: the calls of a list, what the machine does at each, the store's calls by their contracts, and the sums
--- over a list. Definitions only.
+-- Demand 3: the calls on a store, what the machine does at each, the store's calls by their contracts, what each of
+-- them charges and does, and what a list of them answers. Definitions only.
 use mathlib.Core.Bool.{Bool, true, false, _&&_, cond}
 use mathlib.Core.List.{List, [], _∷_, _++_}
-use Prim.Native.Nat.{ℕ, _+_, _^_}
+use Prim.Native.Nat.{ℕ, _^_}
 use lib.Dec.{ltb, leb}
 use lib.ListN.{getD, replicate}
 use lib.Ieee.{Float, lt}
@@ -144,15 +144,6 @@ store q s (finished ls v) = seen s (outcome (finishedStep q (s .floats) (s .word
 store q s (page bs) = pinned s (pageStep q (s .floats) (s .words) bs)
 store q s (lines bs) = pinned s (writeStep q (s .floats) (s .words) bs)
 
--- ---- a list of calls: each gets what the call before it left
-abbrev pub leaves : ℕ → Store → List Call → Store
-leaves q s [] = s
-leaves q s (c ∷ cs) = leaves q (store q s c .runs) cs
-
-abbrev pub after-all : Machine → List Call → Machine
-after-all m [] = m
-after-all m (c ∷ cs) = after-all (machine m c .next) cs
-
 -- ---- the runs that hold a machine, with what lies past them: the freed words, which are zero, and the excess
 abbrev pub past : Machine → List Float → List Float
 past m xs = replicate (m .freed) +0 ++ xs
@@ -188,14 +179,6 @@ doneBy (lines bs) r = 0
 -- the left that an advance answers
 abbrev pub leftIn : Answer → ℕ
 leftIn r = getD (r .counts) 1 0
-
-abbrev pub chargedIn : ℕ → Store → List Call → ℕ
-chargedIn q s [] = 0
-chargedIn q s (c ∷ cs) = chargedBy c (store q s c .reply) + chargedIn q (store q s c .runs) cs
-
-abbrev pub doneIn : ℕ → Store → List Call → ℕ
-doneIn q s [] = 0
-doneIn q s (c ∷ cs) = doneBy c (store q s c .reply) + doneIn q (store q s c .runs) cs
 
 -- ---- a list without its squeezes; and what its calls answer and write into what is lent beside the store
 abbrev pub without : List Call → List Call

@@ -1,55 +1,55 @@
 -- Demand 3, one statement: `Demand3`, at the end: of an opening, a carry (02, L6) or lines that are read (02, L10), and
--- every list of calls after it. Each clause stands below the owner's words that it says.
+-- every list of events after it: calls, and adoptions from other stores. Each clause stands below the owner's words
+-- that it says.
 -- r, xs and ks are the radius, coordinates and corners of an opening; fs and ws the runs lent to it, whatever was in
 -- them; q is the count of words to a place, which the contracts have as `width`. Definitions only.
 use mathlib.Core.Path.{_≡_}
-use mathlib.Core.Bool.{Bool, true, cond}
-use lib.Dec.{ltb, leb}
+use mathlib.Core.Bool.{true}
 use mathlib.Core.List.{List, [], _∷_, map}
 use Prim.Native.Nat.{ℕ, _+_, _*_, _/_, _^_, _≤_, _<_}
-use lib.ListN.{length}
+use lib.ListN.{length, getD}
 use lib.Ieee.{Float}
 use Rattle.base.specs.Answers.{Answer, refused, counted, outcome}
 use Rattle.base.specs.declared.refusal.Refusal.the-variants.{Unfinished, NoLayer}
 use Rattle.base.specs.Floats.{+0}
 use Rattle.layout.specs.Runs.{write}
 use Rattle.kernel.specs.declared.kernel.Kernel.{Kernel}
+use Rattle.pieces.specs.declared.pieces.Pieces.{Pieces}
 use Rattle.pieces.specs.Pieces.{decomposed}
 use Rattle.pieces.specs.Lists.{fittedAll, listDecomposition}
-use Rattle.layout.specs.Layout.{width, placeLimit}
+use Rattle.layout.specs.Layout.{width}
 use Rattle.layout.specs.After.{After, after}
 use Rattle.store.specs.Calls.{openStep}
-use Rattle.carry.specs.Carry.{oldWidth, carryStep}
-use Rattle.text.specs.Text.{Text, lost, left}
-use Rattle.text.specs.Form.{Vals}
-use Rattle.script.specs.Lines.{putLine}
-use Rattle.script.specs.ReadOf.{placeIn, kernelIn, layerIn, Script, readOf, loadStep}
+use Rattle.carry.specs.Carry.{oldWidth}
+use Rattle.script.specs.ReadOf.{Script, readOf, loadStep}
 use Rattle.readings.specs.Readings.{Reading, report, sixes}
 use Rattle.readings.specs.Finished.{beside}
 use Rattle.density.specs.declared.convention.Convention.{Convention}
-use Rattle.machine.specs.Machine.{Mesh, carried, Place, empty, full, Machine, seenPlaces, completePlaces, passedPlaces, workLeft, with-places, opened, shortRow, openRow}
+use Rattle.machine.specs.Machine.{Mesh, Provenance, carried, empty, full, Machine, seenPlaces, completePlaces, passedPlaces, workLeft, with-places, opened, openRow}
 use Rattle.machine.specs.Holding.{excessF, excessW}
 use Rattle.machine.specs.Valid.{Valid}
 use Rattle.machine.specs.Fresh.{Worked, kernelsOf, allPieces, worstFrom, workedAfresh, finishedAfresh, pageAfresh}
-use Rattle.machine.specs.Calls.{Call, put, advance, read, finished, page, needs, workSeen, machine, Store, store, leaves, after-all, holding, leftIn, chargedIn, doneIn, without, heard, answers}
-use Rattle.machine.specs.OldStore.{Fitting, Todays, Old, nowadays, OfPuts, oldLeaves, oldAfter}
+use Rattle.machine.specs.Calls.{Call, clear, advance, read, finished, page, needs, workSeen, Store, store, holding, leftIn, without, heard, answers}
+use Rattle.machine.specs.Events.{Event, call, adopt, sameMesh, turnOf, resultOf, leavesAll, machineAfter, leaves, after-all, chargedOver, doneOver}
+use Rattle.machine.specs.OldStore.{Fitting, Todays, Old, nowadays, OfPuts, oldAfter}
+use Rattle.machine.specs.Beginnings.{leaving, carrying, carriedOver, carryRow, putCall, scripted, linesRow, Came}
 
--- ---- one call c: the store s beside the machine m, which "gets that opening and the same calls"; exF and exW are the
+-- ---- one event e: the store s beside the machine m, which "gets that opening and the same calls"; exF and exW are the
 -- excess of the two runs, as the opening found it
-pub record Same (q : ℕ) (exF : List Float) (exW : List ℕ) (m : Machine) (s : Store) (c : Call) : Type 0 where
+pub record Same (q : ℕ) (exF : List Float) (exW : List ℕ) (m : Machine) (s : Store) (e : Event) : Type 0 where
   -- the call is given runs that hold the machine, "whole"
   pub before : s ≡ holding q m exF exW
   -- "Puts, clears, reweighs and advances are refused exactly when it refuses them, with its number; accepted puts
   -- answer its pieces and need, advances its done and left": an answer is the number of a refusal and the values, a
   -- put's with how its fit ended. A squeeze answers how many coordinates it freed, lines how many bytes they are (02,
-  -- L10); of a reading and a page more is said below
-  pub reply : store q s c .reply ≡ machine m c .reply
+  -- L10), an adoption the pieces and the left that come across; of a reading and a page more is said below
+  pub reply : resultOf q s e .reply ≡ turnOf m e .reply
   -- each word of a run that is lent beside the store, and each byte of a page
-  pub lent : store q s c .out ≡ machine m c .out
-  pub shown : store q s c .bytes ≡ machine m c .bytes
+  pub lent : resultOf q s e .out ≡ turnOf m e .out
+  pub shown : resultOf q s e .bytes ≡ turnOf m e .bytes
   -- "After each call the runs hold 01's fields for its mesh, radius, places and steps, volumes so far included": each
   -- word of both; past the fields come the words that squeezes freed, which are zero, and the excess
-  pub fields : store q s c .runs ≡ holding q (machine m c .next) exF exW
+  pub fields : resultOf q s e .runs ≡ holding q (turnOf m e .next) exF exW
 
 -- ---- a reading r of a set of layers, anywhere in a list; mesh is the mesh opened, of which squeezes may have dropped
 -- vertices in m
@@ -120,14 +120,14 @@ pub record Post (q : ℕ) (mesh : Mesh) (m : Machine) (s : Store) (bs : List ℕ
 
 -- ---- "the first gets the runs that an accepted opening left, each later one those that the call before it left,
 -- whole, and nobody else writes there"
-pub data Each (q : ℕ) (exF : List Float) (exW : List ℕ) (mesh : Mesh) : Machine → Store → List Call → Type 0 where
+pub data Each (q : ℕ) (exF : List Float) (exW : List ℕ) (mesh : Mesh) : Machine → Store → List Event → Type 0 where
   end : {m : Machine} {s : Store} → Each q exF exW mesh m s []
-  next : {m : Machine} {s : Store} {c : Call} {cs : List Call}
-      → Same q exF exW m s c
+  next : {m : Machine} {s : Store} {e : Event} {es : List Event}
+      → Same q exF exW m s e
       → ((layers : ℕ) (r : Reading) → Read q mesh m s layers r)
       → ((layers : ℕ) (v : Convention) → Partly q exF exW mesh m s layers v)
       → ((bs : List ℕ) → Post q mesh m s bs)
-      → Each q exF exW mesh (machine m c .next) (store q s c .runs) cs → Each q exF exW mesh m s (c ∷ cs)
+      → Each q exF exW mesh (turnOf m e .next) (resultOf q s e .runs) es → Each q exF exW mesh m s (e ∷ es)
 
 -- ---- the pieces worked afresh are demand 2's too: the call that decomposes a list of kernels ks, six floats each,
 -- writes them into a run that is long enough, and answers the kernels, the pieces and the greatest error
@@ -141,35 +141,78 @@ pub record Decomposed (radius : Float) (ks : List Kernel) : Type 0 where
       (fittedAll (length ks) (length (allPieces (decomposedAll radius ks))) (worstFrom +0 (decomposedAll radius ks)))
       (write run 0 (sixes (allPieces (decomposedAll radius ks))))
 
--- ---- a list of calls, from the store s that an opening, a carry or lines left and its machine m
-pub record Follows (q : ℕ) (exF : List Float) (exW : List ℕ) (m : Machine) (s : Store) (cs : List Call) : Type 0 where
+-- ---- many hands: "work done by any number of such stores, in any split by places and any order of adoptions, ends in
+-- the very runs that one store's own advances would have ended in"
+
+-- the store's own advances, and adoptions each of which brings the place that is there, worked on elsewhere: the same
+-- kernel, pieces and layer, with whatever steps. So a place may come back in any order, twice, out of date or not at
+-- all. Between them may stand what changes nothing: readings, and what is refused
+pub data Handed : Machine → List Event → Type 0 where
+  none : {m : Machine} → Handed m []
+  an-advance : {m : Machine} {n : ℕ} {es : List Event}
+      → Handed (turnOf m (call (advance n)) .next) es → Handed m (call (advance n) ∷ es)
+  an-adoption : {m o : Machine} {t : Store} {i j p u l : ℕ} {k : Kernel} {fit : Pieces} {b c : Provenance}
+      {es : List Event}
+      → getD (m .places) i empty ≡ full k fit b p l → getD (o .places) j empty ≡ full k fit c u l
+      → Handed (turnOf m (adopt i o t j) .next) es → Handed m (adopt i o t j ∷ es)
+  idle : {m : Machine} {e : Event} {es : List Event} → turnOf m e .next ≡ m → Handed m es → Handed m (e ∷ es)
+
+-- a worker that is a copy of the store: some of its places are cleared, and it advances
+pub data Worker : List Call → Type 0 where
+  a-copy : Worker []
+  it-clears : {i : ℕ} {cs : List Call} → Worker cs → Worker (clear i ∷ cs)
+  it-advances : {n : ℕ} {cs : List Call} → Worker cs → Worker (advance n ∷ cs)
+
+-- the store's own advances, and adoptions from such workers: of any place into the same place, also of one that the
+-- worker has cleared, which is refused
+pub data Parts (q : ℕ) (m : Machine) (s : Store) : List Event → Type 0 where
+  no-part : Parts q m s []
+  own-advance : {n : ℕ} {es : List Event} → Parts q m s es → Parts q m s (call (advance n) ∷ es)
+  a-part : {i : ℕ} {cs : List Call} {es : List Event}
+      → Worker cs → Parts q m s es → Parts q m s (adopt i (after-all m cs) (leaves q s cs) i ∷ es)
+
+-- the store s and its machine m: any list of these events that ends, with nothing left, ends in the runs in which the
+-- store's own advances end, ns steps each
+pub record Hands (q : ℕ) (m : Machine) (s : Store) : Type 0 where
+  -- by any stores
+  pub same-runs : (es : List Event) → Came q es → Handed m es → workLeft (machineAfter m es) ≡ 0
+      → (ns : List ℕ) → workLeft (after-all m (map advance ns)) ≡ 0
+      → leavesAll q s es ≡ leaves q s (map advance ns)
+  -- by any workers, with any split of the places among them
+  pub by-workers : (es : List Event) → Parts q m s es → workLeft (machineAfter m es) ≡ 0
+      → (ns : List ℕ) → workLeft (after-all m (map advance ns)) ≡ 0
+      → leavesAll q s es ≡ leaves q s (map advance ns)
+
+-- ---- a list of events, from the store s that an opening, a carry or lines left and its machine m
+pub record Follows (q : ℕ) (exF : List Float) (exW : List ℕ) (m : Machine) (s : Store) (es : List Event) : Type 0 where
   -- "For every list of puts, clears, reweighs, advances and readings, refused ones among them", and of reports of what
-  -- is finished (02, L7), pages (02, L8), a store's lines (02, L10) and squeezes: "Demand 3's list may hold it" (02, L12)
-  pub calls : Each q exF exW (m .mesh) m s cs
+  -- is finished (02, L7), pages (02, L8), a store's lines (02, L10), squeezes: "Demand 3's list may hold it" (02, L12),
+  -- and adoptions
+  pub calls : Each q exF exW (m .mesh) m s es
   -- the machine after the list, and so after each part of it: the pieces in its places, which the runs hold, are those
   -- of its kernels or came by a carry, and no place has more steps than its need
-  pub valid : Valid (after-all m cs .mesh) (after-all m cs .places)
+  pub valid : Valid (machineAfter m es .mesh) (machineAfter m es .places)
   -- of a place that a put filled these are the pieces worked afresh; a place that a carry filled starts from its own
-  pub pieces : Decomposed (m .mesh .radius) (kernelsOf (after-all m cs .places))
+  pub pieces : Decomposed (m .mesh .radius) (kernelsOf (machineAfter m es .places))
   -- "After the list, with charged summed over the puts' answers and done over the advances', done + left + dropped =
   -- charged": left "is what an advance of 0 then answers", dropped is the machine's. What m had charged is 0 after an
-  -- opening, and after a carry "the left that goes across" (02, L6)
-  pub sums : doneIn q s cs + leftIn (store q (leaves q s cs) (advance 0) .reply) + after-all m cs .dropped
-      ≡ m .charged + chargedIn q s cs
+  -- opening, and after a carry "the left that goes across" (02, L6); an adoption charges the left that it answers
+  pub sums : doneOver q s es + leftIn (store q (leavesAll q s es) (advance 0) .reply) + machineAfter m es .dropped
+      ≡ m .charged + chargedOver q s es
   -- and the machine's own charged is that sum
-  pub charged : after-all m cs .charged ≡ m .charged + chargedIn q s cs
+  pub charged : machineAfter m es .charged ≡ m .charged + chargedOver q s es
+  -- and from there on, whoever does the work that is left
+  pub hands : Hands q (machineAfter m es) (leavesAll q s es)
 
--- ---- what an accepted opening answers and leaves, and every list of calls after it
-abbrev pub leaving : After → Store
-leaving a = record { floats = a .floats; words = a .words }
-
+-- ---- what an accepted opening answers and leaves, and every list of events after it
 pub record Accepted (q : ℕ) (r : Float) (xs : List Float) (ks : List ℕ) (fs : List Float) (ws : List ℕ) : Type 0 where
   pub reply : openStep q fs ws r xs ks .reply ≡ counted (length xs / 3 ∷ length ks / 3 ∷ [])
   pub holds : leaving (openStep q fs ws r xs ks) ≡ holding q (opened r xs ks) (excessF xs fs) (excessW q ks ws)
-  pub every-list : (cs : List Call)
-      → Follows q (excessF xs fs) (excessW q ks ws) (opened r xs ks) (leaving (openStep q fs ws r xs ks)) cs
+  pub every-list : (es : List Event) → Came q es
+      → Follows q (excessF xs fs) (excessW q ks ws) (opened r xs ks) (leaving (openStep q fs ws r xs ks)) es
   -- 02, L12: "Later readings and step counts are then the same as without it; left isn't altered by it": so is all that
-  -- the other calls answer and write
+  -- the store's other calls answer and write; a squeezed mesh is no longer that of another store, so no adoption is in
+  -- the list
   pub unaltered : (cs : List Call)
       → heard q (leaving (openStep q fs ws r xs ks)) cs ≡ heard q (leaving (openStep q fs ws r xs ks)) (without cs)
 
@@ -182,29 +225,6 @@ pub record Opens (q : ℕ) (r : Float) (xs : List Float) (ks : List ℕ) (fs : L
       → openStep q fs ws r xs ks ≡ after (refusedBy (openRow q xs ks (length fs) (length ws))) fs ws
   pub accepted : openRow q xs ks (length fs) (length ws) ≡ 0 → Accepted q r xs ks fs ws
 
--- ---- 02, L6: a store of the form before L5 is carried over. r, xs, ks, fs and ws are those of its opening, cs its
--- calls; gs and us are the new runs, whatever was in them
-abbrev pub carrying : Float → List Float → List ℕ → List Float → List ℕ → List Old → List Float → List ℕ → After
-carrying r xs ks fs ws cs gs us =
-    let old = oldLeaves (leaving (openStep oldWidth fs ws r xs ks)) cs in
-    carryStep (old .floats) (old .words) gs us
-
--- "demand 3's list begins at the carry, its machine with the mesh, radius, places and steps carried, and its charged
--- with the left that goes across": the machine m has had the old store's opening and calls
-abbrev pub carriedPlace : Place → Place
-carriedPlace empty = empty
-carriedPlace (full k fit o p l) = full k fit carried p 0
-
-abbrev pub carriedOver : Machine → Machine
-carriedOver m =
-    record {
-      mesh = m .mesh;
-      places = map carriedPlace (m .places);
-      charged = workLeft m;
-      dropped = 0;
-      freed = 0;
-    }
-
 pub record Carried
     (r : Float) (xs : List Float) (ks : List ℕ) (fs : List Float) (ws : List ℕ) (cs : List Old)
     (m : Machine) (gs : List Float) (us : List ℕ) (a : After) : Type 0 where
@@ -213,9 +233,9 @@ pub record Carried
   -- untouched
   pub holds : leaving a
       ≡ holding width (carriedOver m) (excessF (m .mesh .coords) gs) (excessW width (m .mesh .corners) us)
-  pub every-list : (ds : List Call)
+  pub every-list : (es : List Event) → Came width es
       → Follows width (excessF (m .mesh .coords) gs) (excessW width (m .mesh .corners) us) (carriedOver m) (leaving a)
-      ds
+      es
   pub unaltered : (ds : List Call) → heard width (leaving a) ds ≡ heard width (leaving a) (without ds)
   -- "For every list of later calls, the new store answers as one would that had received the old store's calls, its
   -- puts in layer 0, where those puts were made with L2's powers": that one was opened in runs hs and vs, whatever was
@@ -230,35 +250,11 @@ pub record Carried
 pub record Carries
     (r : Float) (xs : List Float) (ks : List ℕ) (fs : List Float) (ws : List ℕ) (cs : List Old)
     (m : Machine) (gs : List Float) (us : List ℕ) : Type 0 where
-  pub refused-as : 0 < shortRow width (m .mesh .verts) (m .mesh .faces) (length gs) (length us)
+  pub refused-as : 0 < carryRow m gs us
       → carrying r xs ks fs ws cs gs us
-      ≡ after (refusedBy (shortRow width (m .mesh .verts) (m .mesh .faces) (length gs) (length us))) gs us
-  pub accepted : shortRow width (m .mesh .verts) (m .mesh .faces) (length gs) (length us) ≡ 0
+      ≡ after (refusedBy (carryRow m gs us)) gs us
+  pub accepted : carryRow m gs us ≡ 0
       → Carried r xs ks fs ws cs m gs us (carrying r xs ks fs ws cs gs us)
-
--- ---- 02, L10: a store that is read from lines, s are their bytes and fs and ws the runs lent, whatever was in them
-
--- a put line as a call
-abbrev pub putCall : Vals putLine → Call
-putCall v = put (placeIn v) (kernelIn v) (layerIn v)
-
--- "leaves what that opening and those puts, line by line, would": the machine gets them as calls
-abbrev pub scripted : Script → Machine
-scripted d = after-all (opened (d .radius) (d .coords) (d .corners)) (map putCall (d .puts))
-
--- "refuses the whole where one line would be refused", by the first of its rows that applies to any line: an opening's,
--- 6, 16
-abbrev pub anyRow : (Vals putLine → Bool) → ℕ → List (Vals putLine) → ℕ → ℕ
-anyRow test n [] other = other
-anyRow test n (v ∷ vs) other = cond (test v) n (anyRow test n vs other)
-
-abbrev pub linesRow : Text → ℕ → Script → ℕ → ℕ → ℕ
--- "13 [..] comes ahead of all others"
-linesRow lost q d a b = 13
-linesRow (left l) q d a b =
-    let n = openRow q (d .coords) (d .corners) a b in
-    cond (ltb 0 n) n
-    (anyRow (λ v. leb placeLimit (placeIn v)) 6 (d .puts) (anyRow (λ v. ltb 15 (layerIn v)) 16 (d .puts) 0))
 
 pub record Loaded (q : ℕ) (fs : List Float) (ws : List ℕ) (s : List ℕ) (d : Script) (a : After) : Type 0 where
   pub reply : a .reply ≡ counted (d .verts ∷ d .faces ∷ length (d .puts) ∷ [])
@@ -266,8 +262,8 @@ pub record Loaded (q : ℕ) (fs : List Float) (ws : List ℕ) (s : List ℕ) (d 
   -- the calls that the lines say, one by one, leave the same
   pub by-calls : leaving a ≡ leaves q (leaving (openStep q fs ws (d .radius) (d .coords) (d .corners)))
       (map putCall (d .puts))
-  pub every-list : (cs : List Call)
-      → Follows q (excessF (d .coords) fs) (excessW q (d .corners) ws) (scripted d) (leaving a) cs
+  pub every-list : (es : List Event) → Came q es
+      → Follows q (excessF (d .coords) fs) (excessW q (d .corners) ws) (scripted d) (leaving a) es
   pub unaltered : (cs : List Call) → heard q (leaving a) cs ≡ heard q (leaving a) (without cs)
 
 pub record Loads (q : ℕ) (fs : List Float) (ws : List ℕ) (s : List ℕ) : Type 0 where
@@ -286,3 +282,5 @@ pub record Demand3 : Type 0 where
       → (cs : List Old) → OfPuts Fitting cs → (gs : List Float) (us : List ℕ)
       → Carries r xs ks fs ws cs (oldAfter carried (opened r xs ks) cs) gs us
   pub reading : (fs : List Float) (ws : List ℕ) (s : List ℕ) → Loads width fs ws s
+  -- "of the same body": an adoption's machine takes two meshes for one exactly when they are
+  pub body : (m o : Mesh) → (sameMesh m o ≡ true → o ≡ m) × (o ≡ m → sameMesh m o ≡ true)

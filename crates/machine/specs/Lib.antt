@@ -4,7 +4,9 @@ pub mod Valid
 pub mod Fresh
 pub mod Lines
 pub mod Calls
+pub mod Events
 pub mod OldStore
+pub mod Beginnings
 pub mod Demands
 pub mod Bills
 pub mod Renumbering

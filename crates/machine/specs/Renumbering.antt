@@ -10,7 +10,7 @@ use Rattle.layout.specs.After.{After}
 use Rattle.store.specs.Calls.{openStep}
 use Rattle.machine.specs.Machine.{openRow}
 use Rattle.machine.specs.Calls.{Call, heardOf, numberless}
-use Rattle.machine.specs.Demands.{leaving}
+use Rattle.machine.specs.Beginnings.{leaving}
 
 -- p numbers v vertices anew, and q takes each new number back
 pub record Permutation (v : ℕ) (p q : ℕ → ℕ) : Type 0 where

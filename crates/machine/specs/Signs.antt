@@ -17,8 +17,9 @@ use Rattle.layout.specs.Layout.{width, placeLimit, pieceLimit, pieceFrom}
 use Rattle.store.specs.Calls.{openStep}
 use Rattle.readings.specs.Readings.{Reading, density, report, list, track, six}
 use Rattle.machine.specs.Machine.{openRow}
-use Rattle.machine.specs.Calls.{Call, put, clear, reweigh, advance, squeeze, read, finished, page, lines, Store, store, leaves, Heard, hearing}
-use Rattle.machine.specs.Demands.{leaving}
+use Rattle.machine.specs.Calls.{Call, put, clear, reweigh, advance, squeeze, read, finished, page, lines, Store, store, Heard, hearing}
+use Rattle.machine.specs.Events.{leaves}
+use Rattle.machine.specs.Beginnings.{leaving}
 
 -- ---- two lists of calls that differ only in signs of sigmas of kernels that stay: they are the same without these
 
