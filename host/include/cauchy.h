@@ -74,7 +74,7 @@ enum {
     CAUCHY_SHORT_STORE = 4,      /* a run of the store is too short for its mesh */
     CAUCHY_UNSOUND = 5,          /* the runs hold no sound store */
     CAUCHY_NO_PLACE = 6,         /* the place is 32 or above */
-    CAUCHY_VACANT = 7,           /* the place to be cleared or reweighed is empty */
+    CAUCHY_VACANT = 7,           /* the place to be cleared, reweighed or adopted is empty */
     CAUCHY_UNFINISHED = 8,       /* work is left that this reading needs: advance first */
     CAUCHY_SHORT_LIST = 9,       /* the run to be written is too short, or a kernel list is not of sixes */
     CAUCHY_BAD_MATRIX = 10,      /* n above 16, or lengths that do not go with n */
@@ -212,6 +212,12 @@ typedef struct CauchySteps {
     uint64_t done, left; /* steps that this call did, and that are left */
 } CauchySteps;
 
+typedef struct CauchyAdopted {
+    uint32_t no, same_body; /* 1 where the other store is of the same body, and its place came across; else 0 */
+    uint32_t pieces;        /* of the place that came across; 0 where none did */
+    uint64_t left;          /* steps that it has left */
+} CauchyAdopted;
+
 typedef struct CauchyValue {
     uint32_t no;
     double value;
@@ -331,6 +337,17 @@ CauchySqueezed cauchy_store_squeeze(double *floats, size_t n_floats, uint32_t *w
  * first, about half a ns a face, so budgets of many faces are cheapest. A budget of 0 tells what is left. 4 5 */
 CAUCHY_MUST_USE
 CauchySteps cauchy_store_advance(double *floats, size_t n_floats, uint32_t *words, size_t n_words, uint64_t budget);
+
+/* Takes what a filled place of another store of the same body holds into a place of this one, whatever that held: the
+ * kernel, its layer, its pieces, their error, the volumes so far and the steps done. So the work on a place may be done
+ * in another store, on another core or machine, and goes on here where it was. The bodies are the same where radius,
+ * counts, coordinates and corners are, bit for bit and every NaN as one; they are compared in full. Where they differ,
+ * `same_body` is 0 and nothing is changed. The other runs are only read. 4 and 5 are of either store, 6 is of either
+ * place, 7 of the other's place.                                                               4 5 6 7 */
+CAUCHY_MUST_USE
+CauchyAdopted cauchy_store_adopt(double *floats, size_t n_floats, uint32_t *words, size_t n_words, uint32_t place,
+                                 const double *other_floats, size_t n_other_floats, const uint32_t *other_words,
+                                 size_t n_other_words, uint32_t other_place);
 
 /* The density at a point, of the places in some layers.
  *                4 5 16 8; 8 while work is left in these places, by mass with a target above 0 only */

@@ -65,4 +65,4 @@ pub use refusal::Refusal;
 pub use report::{Finished, MassReport, StoreReport};
 pub use snapshot::SnapshotError;
 pub use solve::{SolveError, solve};
-pub use store::{Held, MAX_PAGE, MAX_TRACK, OpenError, PLACES, Placed, Steps, Store};
+pub use store::{Adoption, Held, MAX_PAGE, MAX_TRACK, OpenError, PLACES, Placed, Steps, Store};

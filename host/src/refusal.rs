@@ -27,7 +27,7 @@ pub enum Refusal {
     Unsound = 5,
     /// The place is 32 or above.
     NoPlace = 6,
-    /// The place to be cleared or reweighed is empty.
+    /// The place to be cleared, reweighed or adopted is empty.
     Vacant = 7,
     /// Work is left that this reading needs.
     Unfinished = 8,

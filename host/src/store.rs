@@ -55,6 +55,20 @@ pub struct Steps {
     pub left: u64,
 }
 
+/// What an adoption answers.
+#[derive(Clone, Copy, Debug, PartialEq, Eq)]
+pub enum Adoption {
+    /// The place of the other store came across.
+    Taken {
+        /// Its pieces.
+        pieces: u32,
+        /// The steps that it has left.
+        left: u64,
+    },
+    /// The other store is one of another body, and nothing is changed.
+    AnotherBody,
+}
+
 /// What a filled place holds.
 #[derive(Clone, Copy, Debug, PartialEq)]
 pub struct Held {
@@ -309,6 +323,51 @@ impl Store {
         };
         Refusal::check(told.no)?;
         Ok(Steps { done: told.done, left: told.left })
+    }
+
+    /// Takes what a filled place of another store of the same body holds into a place of this one, whatever that held:
+    /// the kernel, its layer, its pieces, their error, the volumes so far and the steps done. So the work on a place
+    /// may be done in another store, in another thread or on another machine, and goes on here where it was. The bodies
+    /// are the same where radius, counts, coordinates and corners are, bit for bit and every NaN as one.
+    ///
+    /// ```
+    /// # use cauchy::{Adoption, Kernel, Mesh, Refusal, Store};
+    /// # let mesh = Mesh { vertices: &[[0.0; 3]; 3], faces: &[[0, 1, 2]; 10] };
+    /// # let kernel = Kernel { c: [0.0; 3], sigma: 0.01, w: 300.0, alpha: 1.0 };
+    /// let mut store = Store::open(500.0, mesh)?;
+    /// store.put(4, kernel)?;
+    /// let mut worker = store.clone();
+    /// worker.advance(7)?;
+    /// assert_eq!(store.adopt(4, &worker, 4)?, Adoption::Taken { pieces: 1, left: 3 });
+    /// assert_eq!(store.left_at(4), 3);
+    /// assert_eq!(store.adopt(4, &worker, 5), Err(Refusal::Vacant));
+    ///
+    /// let mut another = Store::open(501.0, mesh)?;
+    /// another.put(4, kernel)?;
+    /// assert_eq!(store.adopt(4, &another, 4)?, Adoption::AnotherBody);
+    /// # Ok::<(), Box<dyn std::error::Error>>(())
+    /// ```
+    pub fn adopt(&mut self, place: u32, other: &Store, other_place: u32) -> Result<Adoption, Refusal> {
+        let (floats, words) = (&mut self.floats, &mut self.words);
+        let (n_floats, n_words) = (floats.len(), words.len());
+        // SAFETY: two vectors of the store's own, borrowed for the call, and two of another store, only read.
+        let told = unsafe {
+            sys::cauchy_store_adopt(
+                floats.as_mut_ptr(),
+                n_floats,
+                words.as_mut_ptr(),
+                n_words,
+                place,
+                other.floats.as_ptr(),
+                other.floats.len(),
+                other.words.as_ptr(),
+                other.words.len(),
+                other_place,
+            )
+        };
+        Refusal::check(told.no)?;
+        let taken = Adoption::Taken { pieces: told.pieces, left: told.left };
+        Ok(if told.same_body == 0 { Adoption::AnotherBody } else { taken })
     }
 
     /// The steps that are left: what an advance of no steps answers.

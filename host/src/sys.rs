@@ -68,6 +68,14 @@ pub struct Steps {
 }
 
 #[repr(C)]
+pub struct Adopted {
+    pub no: u32,
+    pub same_body: u32,
+    pub pieces: u32,
+    pub left: u64,
+}
+
+#[repr(C)]
 pub struct Value {
     pub no: u32,
     pub value: f64,
@@ -228,6 +236,18 @@ unsafe extern "C" {
         n_words: usize,
         budget: u64,
     ) -> Steps;
+    pub fn cauchy_store_adopt(
+        floats: *mut f64,
+        n_floats: usize,
+        words: *mut u32,
+        n_words: usize,
+        place: u32,
+        other_floats: *const f64,
+        n_other_floats: usize,
+        other_words: *const u32,
+        n_other_words: usize,
+        other_place: u32,
+    ) -> Adopted;
     pub fn cauchy_store_density(
         floats: *const f64,
         n_floats: usize,

@@ -283,6 +283,63 @@ static void carry(void) {
     CHECK(f[225 + 48 * 3 + 2] != old_f[225 + 48 * 3 + 2] && f[225 + 48 * 3 + 5] == old_f[225 + 48 * 3 + 5]);
 }
 
+/* Another store of this mesh, without excess. */
+enum { N_OTHER = 1761 + N_XYZ, N_OTHER_WORDS = 130 + N_FACES };
+static double other[N_OTHER];
+static uint32_t other_words[N_OTHER_WORDS];
+
+static CauchyAdopted take(uint32_t place, uint32_t other_place) {
+    return cauchy_store_adopt(floats, N_FLOATS, words, N_WORDS, place, other, N_OTHER, other_words, N_OTHER_WORDS,
+                              other_place);
+}
+
+/* refused, or of another body where `no` is 0; nothing is changed */
+static int not_taken(CauchyAdopted a, uint32_t no) {
+    return a.no == no && a.same_body == 0 && a.pieces == 0 && a.left == 0 && unchanged();
+}
+
+/* Place 31 of the other store, five steps of whose work are done, comes into place 8 of this one. */
+static void adopt(void) {
+    static double mine[N_FLOATS], other_before[N_OTHER];
+    static uint32_t my_words[N_WORDS], other_words_before[N_OTHER_WORDS];
+    memcpy(mine, floats, sizeof mine), memcpy(my_words, words, sizeof my_words);
+    CHECK(cauchy_store_open(other, N_OTHER, other_words, N_OTHER_WORDS, radius, xyz, N_XYZ, faces, N_FACES).no == 0);
+    CHECK(cauchy_store_put(other, N_OTHER, other_words, N_OTHER_WORDS, 31, steep(), 6).no == 0);
+    CHECK(cauchy_store_advance(other, N_OTHER, other_words, N_OTHER_WORDS, 5).done == 5);
+    memcpy(other_before, other, sizeof other), memcpy(other_words_before, other_words, sizeof other_words);
+
+    remember();
+    CauchyAdopted a = cauchy_store_adopt(floats, 1760, words, N_WORDS, 8, other, N_OTHER, other_words, N_OTHER_WORDS, 31);
+    CHECK(not_taken(a, CAUCHY_SHORT_STORE));
+    a = cauchy_store_adopt(floats, N_FLOATS, words, 129, 8, other, N_OTHER, other_words, N_OTHER_WORDS, 31);
+    CHECK(not_taken(a, CAUCHY_SHORT_STORE));
+    a = cauchy_store_adopt(floats, N_FLOATS, words, N_WORDS, 8, other, N_OTHER - 1, other_words, N_OTHER_WORDS, 31);
+    CHECK(not_taken(a, CAUCHY_SHORT_STORE));
+    a = cauchy_store_adopt(floats, N_FLOATS, words, N_WORDS, 8, other, N_OTHER, other_words, N_OTHER_WORDS - 1, 31);
+    CHECK(not_taken(a, CAUCHY_SHORT_STORE));
+    other_words[2] = 18;
+    CHECK(not_taken(take(32, 31), CAUCHY_UNSOUND));
+    other_words[2] = 0;
+    CHECK(not_taken(take(32, 30), CAUCHY_NO_PLACE) && not_taken(take(8, 32), CAUCHY_NO_PLACE));
+    CHECK(not_taken(take(8, 30), CAUCHY_VACANT));
+    other[1761] = -xyz[0];
+    CHECK(not_taken(take(8, 31), 0));
+    other[1761] = xyz[0], other[0] = radius + 1;
+    CHECK(not_taken(take(8, 31), 0));
+    other[0] = radius;
+
+    a = take(8, 31);
+    CHECK(a.no == 0 && a.same_body == 1 && a.pieces == 13 && a.left == 13 * F - 5);
+    CHECK(!memcmp(other, other_before, sizeof other) && !memcmp(other_words, other_words_before, sizeof other_words));
+    memcpy(floats_before + 1 + 7 * 8, other + 1 + 7 * 31, 7 * sizeof *other);
+    memcpy(floats_before + 225 + 48 * 8, other + 225 + 48 * 31, 48 * sizeof *other);
+    memcpy(words_before + 2 + 4 * 8, other_words + 2 + 4 * 31, 4 * sizeof *other_words);
+    CHECK(unchanged() && holds(8, steep()));
+    CHECK(words[2 + 4 * 8] == 14 && words[3 + 4 * 8] == 1 && words[4 + 4 * 8] == 1 && words[5 + 4 * 8] == 6);
+    CHECK(cauchy_store_advance(floats, N_FLOATS, words, N_WORDS, 0).left == 27 * F - 5);
+    memcpy(floats, mine, sizeof mine), memcpy(words, my_words, sizeof my_words);
+}
+
 static void advance(void) {
     remember();
     CauchySteps s = cauchy_store_advance(floats, N_FLOATS, words, 129, 5);
@@ -1136,6 +1193,7 @@ int main(void) {
     put_clear_reweigh();
     squeeze();
     carry();
+    adopt();
     advance();
     list_store();
     decompose_lists();

@@ -235,6 +235,8 @@ EDITS = [
     ("host/include/cauchy.h", "((size_t)1761", "((size_t)1760", "COORDS"),
     ("host/include/cauchy.h", "((size_t)98", "((size_t)97", "OLD_CORNERS"),
     ("host/src/sys.rs", "old_words: *const u32", "old_words: *mut u32", "cauchy_store_carry, argument 3"),
+    ("host/src/sys.rs", "other_words: *const u32", "other_words: *mut u32", "cauchy_store_adopt, argument 8"),
+    ("host/include/cauchy.h", "uint32_t no, same_body;", "uint32_t same_body, no;", "CauchyAdopted, field 1"),
     ("host/src/store.rs", "KERNEL_FLOATS: usize = 7", "KERNEL_FLOATS: usize = 6", "KERNEL_SIZE"),
     ("crates/cauchy/src/stores.rt", "pub verts: u32,\n    pub faces: u32,",
      "pub faces: u32,\n    pub verts: u32,", "CauchyOpened, field 2"),

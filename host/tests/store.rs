@@ -1,6 +1,6 @@
 //! The crate over the archive, as a user sees it.
 use cauchy::{
-    Bill, Convention, Fit, Kernel, Layers, MAX_PIECES, MAX_TRACK, Mesh, OpenError, Placed, Refusal,
+    Adoption, Bill, Convention, Fit, Kernel, Layers, MAX_PIECES, MAX_TRACK, Mesh, OpenError, Placed, Refusal,
     SnapshotError, SolveError, Steps, Store, bill, density, solve,
 };
 
@@ -35,6 +35,73 @@ fn a_refusal_changes_no_byte() {
     assert_eq!(store.densities(BY_MASS, &[]), Err(Refusal::Unfinished));
     assert_eq!(store.report(Convention::Raw), Err(Refusal::Unfinished));
     assert_eq!(store.to_bytes(), before);
+}
+
+#[test]
+fn work_of_other_stores_ends_in_the_very_store_of_ones_own() {
+    let mut whole = filled();
+    whole.put_in(9, STEEP, 15).unwrap();
+    let mut store = whole.clone();
+    whole.advance(u64::MAX).unwrap();
+    // each place is worked on in a store that has it alone, at a place of another number; the last one comes twice
+    for (place, elsewhere) in [(30, 0), (2, 31), (9, 9), (9, 9)] {
+        let mut worker = opened();
+        let held = store.held(place).unwrap();
+        worker.put_in(elsewhere, held.kernel, held.layer).unwrap();
+        worker.advance(3).unwrap();
+        let (pieces, left) = (held.pieces, worker.left().unwrap());
+        assert_eq!(store.adopt(place, &worker, elsewhere), Ok(Adoption::Taken { pieces, left }));
+        assert_eq!(store.left_at(place), left);
+        worker.advance(u64::MAX).unwrap();
+        assert_eq!(store.adopt(place, &worker, elsewhere), Ok(Adoption::Taken { pieces, left: 0 }));
+    }
+    assert_eq!(store.to_bytes(), whole.to_bytes());
+}
+
+#[test]
+fn another_body_changes_no_byte() {
+    let mut store = filled();
+    let before = store.to_bytes();
+    let mut adopt = |radius, vertices: &[[f64; 3]], faces: &[[u32; 3]]| {
+        let mut other = Store::open(radius, Mesh { vertices, faces }).unwrap();
+        other.put(2, STEEP).unwrap();
+        let told = store.adopt(1, &other, 2).unwrap();
+        assert_eq!(told == Adoption::AnotherBody, store.to_bytes() == before);
+        told == Adoption::AnotherBody
+    };
+    let (mut minus, mut turned, more) = (VERTICES, FACES, [&VERTICES[..], &[[0.0; 3]]].concat());
+    minus[1][2] = -0.0;
+    turned[3] = [2, 3, 1];
+    assert!(adopt(900.5, &VERTICES, &FACES));
+    assert!(adopt(900.0, &minus, &FACES) && adopt(900.0, &more, &FACES));
+    assert!(adopt(900.0, &VERTICES, &turned) && adopt(900.0, &VERTICES, &FACES[..3]));
+    assert!(!adopt(900.0, &VERTICES, &FACES));
+}
+
+#[test]
+fn every_nan_of_a_body_is_one() {
+    let opened = |radius: u64, y: u64| {
+        let (radius, mut vertices) = (f64::from_bits(radius), VERTICES);
+        vertices[0][1] = f64::from_bits(y);
+        let mut store = Store::open(radius, Mesh { vertices: &vertices, faces: &FACES }).unwrap();
+        store.put(7, FLAT).unwrap();
+        store
+    };
+    let mut store = opened(0xFFF0_0000_0000_0001, 0x7FF8_0000_0000_0000);
+    let other = opened(0x7FF8_0000_0000_0000, 0xFFF8_0000_0000_0123);
+    assert_eq!(store.adopt(0, &other, 7), Ok(Adoption::Taken { pieces: 1, left: 4 }));
+    let infinite = opened(0x7FF8_0000_0000_0000, 0x7FF0_0000_0000_0000);
+    assert_eq!(store.adopt(0, &infinite, 7), Ok(Adoption::AnotherBody));
+}
+
+#[test]
+fn a_refused_adoption_changes_no_byte() {
+    let (mut store, other) = (filled(), filled());
+    let before = store.to_bytes();
+    assert_eq!(store.adopt(32, &other, 3), Err(Refusal::NoPlace));
+    assert_eq!(store.adopt(1, &other, 32), Err(Refusal::NoPlace));
+    assert_eq!(store.adopt(1, &other, 3), Err(Refusal::Vacant));
+    assert_eq!((store.to_bytes(), other.to_bytes()), (before.clone(), before));
 }
 
 #[test]
@@ -253,6 +320,8 @@ fn every_call_stays_within_its_stack() {
         let mut store = with_spare_vertices();
         store.advance(9).unwrap();
         store.squeeze().unwrap();
+        let worker = store.clone();
+        store.adopt(0, &worker, 2).unwrap();
         store.mesh().closed().unwrap_err();
         store.advance(u64::MAX).unwrap();
         store.report(BY_MASS).unwrap();

@@ -43,7 +43,7 @@ from .source import (
 )
 from .store import Store
 from .values import (
-    RAW, Bill, Convention, Fit, Held, Kernel, KernelList, Loader, MassReport, Pieces, Placed, Solution, Steps,
+    RAW, Adopted, Bill, Convention, Fit, Held, Kernel, KernelList, Loader, MassReport, Pieces, Placed, Solution, Steps,
     StoreReport, mass, rho0,
 )
 
@@ -51,7 +51,7 @@ __version__ = "0.1.0"
 
 __all__ = [
     "ALL_LAYERS", "LAYERS", "MAX_FACES", "MAX_PIECES", "MAX_TRACK", "MAX_VERTICES", "PLACES", "RAW", "REFUSALS",
-    "BadKernelLine", "BadLine", "BadMatrix", "BadTrack", "Bill", "Convention", "Exponent", "Fit", "FlatPivot",
+    "Adopted", "BadKernelLine", "BadLine", "BadMatrix", "BadTrack", "Bill", "Convention", "Exponent", "Fit", "FlatPivot",
     "FloatStateError", "Floats", "Held", "Items", "Kernel", "KernelList", "Loader", "LoadersDiffer", "LooseCorner",
     "ManyKernels", "MassReport", "NoFigure", "NoLayer", "NoPlace", "NotClosed", "Oversize", "Pieces", "Placed",
     "Ragged", "Refused", "ShortList", "ShortPage", "ShortStore", "ShortText", "SnapshotError", "Solution", "Steps",

@@ -75,6 +75,10 @@ class CauchySteps(Structure):
     _fields_ = [("no", c_uint32), ("done", c_uint64), ("left", c_uint64)]
 
 
+class CauchyAdopted(Structure):
+    _fields_ = [("no", c_uint32), ("same_body", c_uint32), ("pieces", c_uint32), ("left", c_uint64)]
+
+
 class CauchyValue(Structure):
     _fields_ = [("no", c_uint32), ("value", c_double)]
 
@@ -151,6 +155,7 @@ PROTOTYPES: Dict[str, Tuple[Any, ...]] = {
     "store_reweigh": (c_uint32, *_STORE, c_uint32, c_double),
     "store_squeeze": (CauchySqueezed, *_STORE),
     "store_advance": (CauchySteps, *_STORE, c_uint64),
+    "store_adopt": (CauchyAdopted, *_STORE, c_uint32, *_STORE, c_uint32),
     "store_density": (CauchyValue, *_STORE, CauchyConvention, c_uint32, CauchyVector),
     "store_report": (CauchyStoreReport, *_STORE, CauchyConvention, c_uint32),
     "store_finished": (CauchyFinished, *_STORE, CauchyConvention, c_uint32),

@@ -74,7 +74,7 @@ class NoPlace(Refused):
 
 
 class Vacant(Refused):
-    """The place to be cleared or reweighed is empty."""
+    """The place to be cleared, reweighed or adopted is empty."""
 
     number = 7
     meaning = "vacant: the place is empty"

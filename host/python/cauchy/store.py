@@ -9,9 +9,9 @@ from .library import (
 )
 from .memory import Runs
 from .refusals import NoPlace, Refused, Unsound, check_float_state
-from .turns import Turns
+from .turns import Turns, in_both
 from .values import (
-    Convention, Held, Kernel, Placed, Steps, StoreReport, answered_fit, crossing_convention, crossing_kernel, listed,
+    Adopted, Convention, Held, Kernel, Placed, Steps, StoreReport, answered_fit, crossing_convention, crossing_kernel, listed,
     masses, vector,
 )
 
@@ -157,6 +157,39 @@ class Store:
             raise ValueError(f"budget is a number of steps, and not {steps}")
         answer = self._call("store_advance", min(steps, 2**64 - 1))
         return Steps(answer.done, answer.left)
+
+    def adopt(self, place: int, other: "Store", other_place: int) -> Optional[Adopted]:
+        """Takes what a filled place of another store of the same body holds into a place of this one, whatever that
+        held: the kernel, its layer, its pieces, their error, the volumes so far and the steps done. So the work on a
+        place may be done in another store, in another thread or on another machine, and goes on here where it was; its
+        pieces and the steps that it has left. None where the other store is one of another body, and nothing is
+        changed then. The bodies are the same where radius, counts, coordinates and corners are, bit for bit and every
+        NaN as one.
+
+        >>> store = Store(500, [0] * 9, [0, 1, 2])
+        >>> store.put(4, Kernel((0, 0, 0), 0.01, 300, 2)).need
+        13
+        >>> worker = store.copy()
+        >>> worker.advance(5)
+        Steps(done=5, left=8)
+        >>> store.adopt(4, worker, 4), store.left()
+        (Adopted(pieces=13, left=8), 8)
+        >>> another = Store(501, [0] * 9, [0, 1, 2])
+        >>> another.put(0, Kernel((0, 0, 0), 0.01, 300, 1)).need
+        1
+        >>> print(store.adopt(4, another, 0))
+        None
+        >>> store.adopt(4, worker, 5)
+        Traceback (most recent call last):
+        cauchy.Vacant: vacant: the place is empty (no 7)
+        """
+        if not isinstance(other, Store):
+            raise TypeError(f"other is a Store, and not of the type {type(other).__name__}")
+        into, out_of = _place(place), _place(other_place)
+        source = self.copy() if other is self else other  # the library is not lent the same memory twice
+        answer = in_both(self._turns, source._turns, lambda: call(
+            "store_adopt", *self._runs.lent(), into, *source._runs.lent(), out_of))
+        return Adopted(answer.pieces, answer.left) if answer.same_body else None
 
     def left(self) -> int:
         """The steps left."""

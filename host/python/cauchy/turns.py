@@ -20,7 +20,7 @@ class Turns:
     one. So wherever a turn is interrupted, as by Ctrl-C, its lock is free again, and all others still wait for one
     another. Nothing else need be put in order: a turn that is over but still in the list holds no one up.
 
-    A turn is taken around calls of the library alone, and never inside another. A signal handler that uses a store
+    A turn is taken around calls of the library alone, and inside another only by `in_both`. A signal handler that uses a store
     which the main thread is using would wait for ever.
     """
 
@@ -44,3 +44,11 @@ class Turns:
                 return action()
             finally:
                 self._asked.remove(mine)
+
+
+def in_both(own: Turns, other: Turns, action: Callable[[], Any]) -> Any:
+    """What an action gives in two turns, one of `own` that it has alone and one of `other` that it shares. The turn of
+    the lower `id` is taken first, so two stores that adopt from each other do not wait for one another for ever."""
+    if id(own) < id(other):
+        return own.run(True, lambda: other.run(False, action))
+    return other.run(False, lambda: own.run(True, action))

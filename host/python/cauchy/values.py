@@ -229,6 +229,13 @@ class Steps(NamedTuple):
     left: int
 
 
+class Adopted(NamedTuple):
+    """What an adoption answers: the pieces of the place that came across, and the steps that it has left."""
+
+    pieces: int
+    left: int
+
+
 @dataclass(frozen=True, eq=False)
 class Pieces(Value):
     """Pieces of kernels, and the greatest error of a fit as a fraction of its kernel's peak; a pair of both. Beside

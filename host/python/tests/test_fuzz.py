@@ -23,6 +23,11 @@ LINE = f"(kernel (c {ZERO} {ZERO} {ZERO}) (sigma {ZERO}) (w {ZERO}) (alpha none)
 ZERO_LINE = bytearray(LINE.replace(b"none", ZERO.encode()))
 KERNELS = [Kernel((1, 2, 3), 0.01, 700, 1), Kernel((0, 0, 0), 0.001, 20, 2), Kernel((float("nan"),) * 3, 0, -1, 0.5)]
 
+OTHERS = [Store(500, VERTICES, FACES), Store(499, VERTICES, FACES), Store(500, [], [])]
+for _other in OTHERS:
+    _other.put(3, KERNELS[0])
+    _other.put(31, KERNELS[1])
+
 
 class Odd:
     """A sequence that lies about its length."""
@@ -73,6 +78,7 @@ def number(pick):
 RIGHT = {
     "number": number,
     "place": lambda pick: pick.randrange(-1, 34),
+    "store": lambda pick: pick.choice(OTHERS),
     "layer": lambda pick: pick.randrange(-1, 18),
     "layers": lambda pick: pick.choice((None, [], [0], (3, 15), range(16), {2, 16}, [-1])),
     "budget": lambda pick: pick.choice((0, 1, 50, 10**4, 2**70)),
@@ -97,7 +103,7 @@ RIGHT = {
 }
 
 METHODS = {
-    "put": "place kernel layer", "clear": "place", "reweigh": "place number", "squeeze": "", "advance": "budget", "left": "",
+    "put": "place kernel layer", "clear": "place", "reweigh": "place number", "squeeze": "", "advance": "budget", "adopt": "place store place", "left": "",
     "work": "budget", "density": "convention point layers",
     "track": "convention points layers", "report": "convention layers", "finished": "convention layers", "list": "convention layers", "page": "", "held": "place", "mesh": "", "to_bytes": "", "to_lines": "", "copy": "",
 }
@@ -135,7 +141,7 @@ class Fuzz(unittest.TestCase):
         methods = {name for name in vars(Store) if not name.startswith("_") and callable(getattr(Store, name))}
         self.assertEqual(methods, {*METHODS, "from_bytes", "carry_from_old", "from_lines"})
         functions = {name for name in cauchy.__all__ if callable(getattr(cauchy, name))}
-        answers = {"Bill", "Held", "MassReport", "StoreReport", "Placed", "Fit", "Solution", "Steps", "Pieces", "Floats",
+        answers = {"Adopted", "Bill", "Held", "MassReport", "StoreReport", "Placed", "Fit", "Solution", "Steps", "Pieces", "Floats",
                    "Items", "KernelList", "Loader", "UnknownRefusal", "FloatStateError", "SnapshotError", "Refused"}
         refusals = {kind.__name__ for kind in cauchy.REFUSALS.values()}
         self.assertEqual(functions - answers - refusals, set(FUNCTIONS) - set(MAKERS))

@@ -63,6 +63,8 @@ class Declarations(unittest.TestCase):
             ("CauchyVector c, double sigma);\n\n/* The enclosed volume, b", "double sigma, CauchyVector c);\n\n/* b"),
             ("double sigma, w, alpha;\n} CauchyKernel;", "double w, sigma, alpha;\n} CauchyKernel;"),
             ("uint64_t done, left;", "uint32_t done, left;"),
+            ("uint32_t pieces;        /* of the place that came across", "uint64_t pieces; /* of it"),
+            ("size_t n_other_words, uint32_t other_place", "uint32_t other_place, size_t n_other_words"),
             ("double cauchy_ten(double y);", ""),
             ("double cauchy_ten(double y);", "double cauchy_ten(double y); double cauchy_eleven(double y);"),
             ("CauchyListed cauchy_store_list(", "CauchyTrack cauchy_store_list("),

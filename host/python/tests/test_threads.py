@@ -72,6 +72,48 @@ class Threads(unittest.TestCase):
         return figures(store)
 
 
+class Adoptions(unittest.TestCase):
+    def test_work_in_threads_ends_in_the_very_store_of_ones_own(self):
+        store = Store(500, VERTICES, FACES)
+        for place in range(4):
+            store.put(place, kernel(place), layer=place)
+        whole = store.copy()
+        whole.advance(2**64)
+        workers = [store.copy() for _ in range(2)]
+
+        def run(worker, places):
+            for place in set(range(4)) - set(places):
+                worker.clear(place)
+            for _ in worker.work(700):
+                for place in places:
+                    self.assertIsNotNone(store.adopt(place, worker, place))
+
+        threads = [threading.Thread(target=run, args=pair) for pair in zip(workers, ((0, 3), (1, 2)))]
+        for thread in threads:
+            thread.start()
+        for thread in threads:
+            thread.join()
+        self.assertEqual(store.to_bytes(), whole.to_bytes())
+
+    def test_two_stores_that_adopt_from_each_other_do_not_wait_for_ever(self):
+        stores = [Store(500, VERTICES, FACES) for _ in range(2)]
+        for store in stores:
+            store.put(0, kernel(0))
+
+        def run(own, other):
+            for _ in range(RUNS):
+                own.adopt(1, other, 0)
+
+        pairs = [(stores[0], stores[1]), (stores[1], stores[0]), (stores[0], stores[0])]
+        threads = [threading.Thread(target=run, args=pair, daemon=True) for pair in pairs]
+        for thread in threads:
+            thread.start()
+        for thread in threads:
+            thread.join(60)
+            self.assertFalse(thread.is_alive())
+        self.assertEqual(stores[0].to_bytes(), stores[1].to_bytes())
+
+
 class Processes(unittest.TestCase):
     def test_a_fork_has_a_store_of_its_own(self):
         store = Store(500, VERTICES, FACES)
