@@ -4,6 +4,7 @@
 use crate::conventions::{Convention, Reading, Report, write_list, write_track};
 use crate::machine::{ALL_LAYERS, CORNERS, OLD_RECORD, RECORD, corners, in_set, room, set_number, squeezed};
 use crate::page::{self, Row};
+use crate::pattern;
 use crate::pieces::Kernel;
 use crate::recorder::{Fit, watched};
 use crate::text::{ByArchive, Text, volume_on};
@@ -178,6 +179,31 @@ impl Held {
         let c = [0, 1, 2].map(|k| self.floats[1 + 7 * i + k]);
         let (xyz, faces) = self.mesh();
         self.floats[at + 2] = volume_on(xyz, faces, c, self.floats[at], from..from + by, self.floats[at + 2]);
+    }
+
+    /// Many hands: "Refusals 4 and 5 of either store, 6 of either place, 7 where the other's place is empty", the lowest that applies; then
+    /// whether the bodies are the same, "radius, V, F, coordinates and corners equal, NaN as one", and all fields of the place.
+    pub fn adopt(&mut self, place: u32, other: &Held, other_place: u32) -> Result<Option<(u32, u64)>, u32> {
+        let numbers = [store_number(&self.floats, &self.words), store_number(&other.floats, &other.words)];
+        if let Some(no) = numbers.into_iter().filter(|no| *no > 0).min() {
+            return Err(no);
+        }
+        if place >= 32 || other_place >= 32 {
+            return Err(6);
+        }
+        let (i, j) = (place as usize, other_place as usize);
+        if other.words[2 + RECORD * j] == 0 {
+            return Err(7);
+        }
+        let ((xyz, faces), (other_xyz, other_faces)) = (self.mesh(), other.mesh());
+        let patterns = |radius: f64, xyz: &[f64]| -> Vec<u64> { [&[radius], xyz].concat().into_iter().map(pattern).collect() };
+        if faces != other_faces || patterns(self.floats[0], xyz) != patterns(other.floats[0], other_xyz) {
+            return Ok(None);
+        }
+        self.floats[1 + 7 * i..][..7].copy_from_slice(&other.floats[1 + 7 * j..][..7]);
+        self.floats[225 + 48 * i..][..48].copy_from_slice(&other.floats[225 + 48 * j..][..48]);
+        self.words[2 + RECORD * i..][..RECORD].copy_from_slice(&other.words[2 + RECORD * j..][..RECORD]);
+        Ok(Some((other.words[2 + RECORD * j] - 1, other.owed(j))))
     }
 
     /// 02's L12: "It answers how many coordinates were freed, and those words become zero."

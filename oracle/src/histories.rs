@@ -96,7 +96,7 @@ impl Model for Held {
 }
 
 /// A mesh and a radius.
-#[derive(Debug)]
+#[derive(Clone, Debug)]
 pub struct Body {
     pub xyz: Vec<f64>,
     pub faces: Vec<u32>,
@@ -254,7 +254,7 @@ impl Places {
     }
 
     /// Mostly one of them; now and then any place, or one that is none.
-    fn one(&self, r: &mut Rng) -> u32 {
+    pub fn one(&self, r: &mut Rng) -> u32 {
         match r.below(24) {
             0 => one(r, &[32, 32, 33, 63, 64, 1 << 31, u32::MAX - 1, u32::MAX]),
             1 => r.below(32) as u32,

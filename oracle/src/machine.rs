@@ -3,6 +3,7 @@
 use crate::conventions::{Convention, Reading, Report, write_list, write_track};
 use crate::lines::{self, Telling};
 use crate::page::{self, Row};
+use crate::pattern;
 use crate::pieces::Kernel;
 use crate::recorder::{Fit, watched};
 use crate::text::Text;
@@ -222,6 +223,32 @@ impl<T: Text> Machine<T> {
             self.places[lowest].as_mut().unwrap().p += 1;
         }
         (done, self.left())
+    }
+
+    /// Whether two machines are of the same body: "radius, V, F, coordinates and corners equal, NaN as one".
+    fn same_body(&self, other: &Machine<T>) -> bool {
+        let same = |(x, y): (&f64, &f64)| pattern(*x) == pattern(*y);
+        same((&self.radius, &other.radius))
+            && (self.xyz.len(), self.faces.len()) == (other.xyz.len(), other.faces.len())
+            && self.xyz.iter().zip(&other.xyz).all(same)
+            && self.faces == other.faces
+    }
+
+    /// Many hands: "from another store of the same body [..] a filled place, with its kernel, layer, pieces, error, volumes so far and
+    /// steps, comes into a place of this one, whatever that held"; "charged grows by the left that comes across, dropped by the left that
+    /// is lost". Refused as 6 "of either place", as 7 "where the other's place is empty"; else "adopted or another body, pieces, steps left".
+    pub fn adopt(&mut self, place: u32, other: &Machine<T>, other_place: u32) -> Result<Option<(u32, u64)>, u32> {
+        let (i, j) = (self.place(place)?, other.place(other_place)?);
+        let from = other.places[j].as_ref().ok_or(7_u32)?;
+        if !self.same_body(other) {
+            return Ok(None);
+        }
+        let (Known { pieces, error, fit, .. }, left) = (&*other.known_of(from), other.owed(j));
+        self.charged += left;
+        self.dropped += self.owed(i);
+        let known = Known { pieces: pieces.clone(), error: *error, fit: *fit, volumes: RefCell::default() };
+        self.places[i] = Some(Filled { carried: from.carried.as_ref().map(|_| Rc::new(known)), ..from.clone() });
+        Ok(Some((pieces.len() as u32, left)))
     }
 
     /// 02's L12: "its machine then drops the same vertices from its mesh", and "answers how many coordinates were freed"; places and steps

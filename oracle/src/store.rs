@@ -37,6 +37,16 @@ pub struct Squeezed {
     pub freed: u32,
 }
 
+/// What an adoption answers: a number, whether the bodies are the same, the pieces of the place that came across, the steps that it has left.
+#[repr(C)]
+#[derive(Clone, Copy, Debug, PartialEq, Eq)]
+pub struct Adopted {
+    pub no: u32,
+    pub same_body: u32,
+    pub pieces: u32,
+    pub left: u64,
+}
+
 unsafe extern "C" {
     fn cauchy_store_open(
         floats: *mut f64,
@@ -71,6 +81,18 @@ unsafe extern "C" {
     fn cauchy_store_clear(floats: *mut f64, floats_len: usize, words: *mut u32, words_len: usize, place: u32) -> u32;
     fn cauchy_store_reweigh(floats: *mut f64, floats_len: usize, words: *mut u32, words_len: usize, place: u32, w: f64) -> u32;
     fn cauchy_store_advance(floats: *mut f64, floats_len: usize, words: *mut u32, words_len: usize, budget: u64) -> Steps;
+    fn cauchy_store_adopt(
+        floats: *mut f64,
+        floats_len: usize,
+        words: *mut u32,
+        words_len: usize,
+        place: u32,
+        other_floats: *const f64,
+        other_floats_len: usize,
+        other_words: *const u32,
+        other_words_len: usize,
+        other_place: u32,
+    ) -> Adopted;
     fn cauchy_store_squeeze(floats: *mut f64, floats_len: usize, words: *mut u32, words_len: usize) -> Squeezed;
 }
 
@@ -101,6 +123,12 @@ pub fn reweigh(floats: &mut [f64], words: &mut [u32], place: u32, w: f64) -> u32
 
 pub fn advance(floats: &mut [f64], words: &mut [u32], budget: u64) -> Steps {
     unsafe { cauchy_store_advance(floats.as_mut_ptr(), floats.len(), words.as_mut_ptr(), words.len(), budget) }
+}
+
+/// A store is its floats and its words.
+pub fn adopt(floats: &mut [f64], words: &mut [u32], place: u32, other: (&[f64], &[u32]), other_place: u32) -> Adopted {
+    let ((f, w), (g, u)) = ((floats.as_mut_ptr(), words.as_mut_ptr()), (other.0.as_ptr(), other.1.as_ptr()));
+    unsafe { cauchy_store_adopt(f, floats.len(), w, words.len(), place, g, other.0.len(), u, other.1.len(), other_place) }
 }
 
 pub fn squeeze(floats: &mut [f64], words: &mut [u32]) -> Squeezed {

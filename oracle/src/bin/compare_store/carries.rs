@@ -19,7 +19,7 @@ fn garbage(r: &mut Rng, floats: usize, words: usize) -> Runs {
 }
 
 /// A copied NaN is the same NaN, so bits are compared.
-fn same_bits(a: &Runs, b: &Runs) -> bool {
+pub fn same_bits(a: &Runs, b: &Runs) -> bool {
     float_differs(&a.floats, &b.floats, 0).is_none() && a.words == b.words
 }
 

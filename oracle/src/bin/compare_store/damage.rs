@@ -79,7 +79,7 @@ fn word(r: &mut Rng) -> u32 {
 }
 
 /// A store with places in many states, by the archive's own calls.
-fn worked(r: &mut Rng) -> Held {
+pub fn worked(r: &mut Rng) -> Held {
     let body = loop {
         let body = histories::body(r);
         if body.faces.len() > 6 {

@@ -200,7 +200,7 @@ fn told_of(what: &str, at: usize, is: &[f64], want: &[f64]) -> String {
 
 /// The runs as the call must leave them, and how many floats are the model's: its fields, zeros where it had some that a squeeze gave up,
 /// and the excess as it was.
-fn wanted(before: &Runs, had: usize, (mut floats, mut words): (Vec<f64>, Vec<u32>)) -> (Runs, usize) {
+pub fn wanted(before: &Runs, had: usize, (mut floats, mut words): (Vec<f64>, Vec<u32>)) -> (Runs, usize) {
     let own = floats.len();
     floats.resize(own.max(had), 0.0);
     floats.extend_from_slice(&before.floats[own.max(had)..]);

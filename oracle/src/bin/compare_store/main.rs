@@ -7,8 +7,15 @@
 //! Then carries of stores of the form before layers: random histories of one, with the powers of 02's L2 or with 01's alone, carried over
 //! at any moment and gone on with beside the machine; stores that nobody opened; runs too short and every damage of one word. Each kind
 //! of carry must have been met.
+//! Then adoptions: histories of three stores on bodies that are the same or differ in one thing, places taken from one into another at
+//! any moment, each store beside its machine; the work of a store done by many hands, in any split and order; stores that nobody opened,
+//! runs too short, every damage of one word of either store, and the largest body. Each kind of adoption must have been met.
 //! `compare_store` takes a few seconds, `compare_store --long` 10,000 histories; `--seed N` draws others.
 //! The last line counts what differs; the exit status is 1 if anything does.
+#[cfg(original)]
+mod adoption_kinds;
+#[cfg(original)]
+mod adoptions;
 #[cfg(original)]
 mod carries;
 #[cfg(original)]
@@ -50,5 +57,13 @@ fn work() {
     total.add(carries::every_word(plan.count(2, 60), plan.rng(13), &mut kinds));
     total.add(carries::at_the_limits(plan.rng(14)));
     total.add(kinds.all_met("carry", "carries", &carry_kinds::all(), plan.count(1, 20)));
+    let mut kinds = oracle::tally::Kinds::default();
+    total.add(adoptions::histories(plan.count(60, 6_000), plan.rng(15), &mut kinds));
+    total.add(adoptions::many_hands(plan.count(60, 4_000), plan.rng(16), &mut kinds));
+    total.add(adoptions::unopened(plan.count(200, 10_000), plan.rng(17)));
+    total.add(adoptions::damaged(plan.count(600, 30_000), plan.rng(18), &mut kinds));
+    total.add(adoptions::every_word(plan.count(1, 30), plan.rng(19)));
+    total.add(adoptions::largest(plan.rng(20), &mut kinds));
+    total.add(kinds.all_met("adopt", "adoptions", &adoption_kinds::ALL, plan.count(1, 20)));
     total.end();
 }

@@ -3,6 +3,8 @@
 //!   timing             all but the program
 //!   timing PROGRAM     with 01's program `bench` at this path
 #[cfg(original)]
+mod adoptions;
+#[cfg(original)]
 mod clock;
 #[cfg(original)]
 mod closed;
@@ -45,6 +47,7 @@ fn work() {
     volumes::rows(&mut timings);
     largest::rows(&mut timings);
     squeezes::rows(&mut timings);
+    adoptions::rows(&mut timings);
     closed::rows(&mut timings);
     convert::rows(&mut timings);
     lines::rows(&mut timings);
