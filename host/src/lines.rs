@@ -1,6 +1,5 @@
 //! A store as lines of text, and back. The archive writes and reads them; here is how much memory that takes.
-use crate::store::{FLOATS_BEFORE_MESH, PLACES, WORDS_BEFORE_MESH};
-use crate::{FloatState, OpenError, Refusal, Store, sys};
+use crate::{FLOATS_BEFORE_MESH, FloatState, OpenError, PLACES, Refusal, Store, WORDS_BEFORE_MESH, sys};
 
 /// 01's limits, above which no mesh is taken.
 const MAX_VERTICES: u32 = 1_048_576;

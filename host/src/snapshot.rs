@@ -76,9 +76,7 @@ impl Store {
             return Ok(store);
         }
         let (floats, words) = runs(bytes, MAGIC)?;
-        let mut store = Store { floats, words, carried: false };
-        store.check().map_err(SnapshotError::Refused)?;
-        Ok(store)
+        Ok(Store::from_runs(floats, words)?)
     }
 }
 

@@ -1,4 +1,5 @@
 //! The store, over two vectors of its own.
+use crate::runs::{FLOATS_BEFORE_MESH, WORDS_BEFORE_MESH};
 use crate::{Convention, Finished, Fit, FloatState, Kernel, Layers, Mesh, Refusal, StoreReport, sys};
 use std::error::Error;
 use std::fmt;
@@ -12,9 +13,7 @@ pub const MAX_TRACK: usize = 4096;
 /// The bytes of the longest page: 65 for each of the [`PLACES`] and for the total.
 pub const MAX_PAGE: usize = 65 * (PLACES as usize + 1);
 
-// The layout of 01: what stands before the mesh in each run, and the fields of a place.
-pub(crate) const FLOATS_BEFORE_MESH: usize = 1761;
-pub(crate) const WORDS_BEFORE_MESH: usize = 130;
+// The layout of 01: the fields of a place.
 const KERNELS_AT: usize = 1;
 const KERNEL_FLOATS: usize = 7;
 const STATES_AT: usize = 2;

@@ -157,7 +157,7 @@ def same_sizes(text, sizes, rattle, rust):
     in_header.update(COORDS=int(before["STORE_FLOATS"]), CORNERS=int(before["STORE_WORDS"]))
     in_header.update(OLD_CORNERS=int(before["OLD_STORE_WORDS"]))
     in_rust = {name: crate[theirs] for name, theirs in SIZES.items()}
-    for there, found in (("cauchy.h", in_header), ("store.rs", in_rust)):
+    for there, found in (("cauchy.h", in_header), ("the crate", in_rust)):
         for name, number in found.items():
             need(library.get(name) == number, f"{name}: the library has {library.get(name)}, {there} {number}")
 
@@ -169,7 +169,7 @@ def may_refuse(answer, structs):
 def texts(root):
     """All texts that declare something, by their names."""
     host = ["include/cauchy.h", "include/cauchy_host.h", "c/cauchy_host.c"]
-    host += [f"src/{name}.rs" for name in ("sys", "kernel", "report", "refusal", "store")]
+    host += [f"src/{name}.rs" for name in ("sys", "kernel", "report", "refusal", "runs", "store")]
     paths = [root / "host" / name for name in host] + sorted((root / "crates/cauchy/src").glob("*.rt"))
     others = ("kernel/src/kernel.rt", "mesh/src/vectors.rt", "density/src/report.rt")
     others += ("base/src/refusal.rt", "layout/src/offsets.rt", "carry/src/check.rt")
@@ -191,7 +191,7 @@ def compare(has):
     same_numbers(refusals, has["crates/base/src/refusal.rt"])
     (sizes,) = [names for names in enums if "CAUCHY_PLACES" in names]
     offsets = has["crates/layout/src/offsets.rt"] + has["crates/carry/src/check.rt"]
-    same_sizes(has["host/include/cauchy.h"], sizes, offsets, has["host/src/store.rs"])
+    same_sizes(has["host/include/cauchy.h"], sizes, offsets, has["host/src/runs.rs"] + has["host/src/store.rs"])
     for name, (_, answer) in functions.items():
         marked = name in must_use
         need(marked == may_refuse(answer, structs), f"{name}: CAUCHY_MUST_USE goes with an answer that may refuse")

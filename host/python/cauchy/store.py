@@ -1,8 +1,9 @@
 """The store."""
 from array import array
+from functools import partial
 from typing import Any, Collection, Iterator, List, Optional, Tuple, Union, overload
 
-from . import arrays, lines, snapshot
+from . import arrays, hands, lines, snapshot
 from .library import (
     ALL_LAYERS, FLOATS_BEFORE_MESH, LAYERS, MAX_PIECES, MAX_TRACK, OLD_WORDS_BEFORE_MESH, PAGE_LINE, PLACES,
     WORDS_BEFORE_MESH, call,
@@ -157,6 +158,49 @@ class Store:
             raise ValueError(f"budget is a number of steps, and not {steps}")
         answer = self._call("store_advance", min(steps, 2**64 - 1))
         return Steps(answer.done, answer.left)
+
+    def advance_with(self, threads: int) -> Steps:
+        """Does all work that is left, on so many threads; the steps done and left. Each works on a copy of the store
+        that has its share of the places alone, and the places come back by `adopt`: the store is then, bit for bit, the one
+        that `advance` makes. No other thread may change the store meanwhile: what it changes in a place that is worked
+        on would be lost.
+
+        >>> store = Store(500, [0] * 9, [0, 1, 2] * 10)
+        >>> [store.put(place, Kernel((0, 0, 0), 0.01, 300, 1)).need for place in (3, 7)]
+        [10, 10]
+        >>> alone = store.copy()
+        >>> store.advance_with(2), alone.advance(20)
+        (Steps(done=20, left=0), Steps(done=20, left=0))
+        >>> store.to_bytes() == alone.to_bytes()
+        True
+        """
+        count = arrays.whole(threads, "threads")
+        if count < 0:
+            raise ValueError(f"threads is a number of threads, and not {count}")
+        before = self.copy()
+        shares = hands.shares([before._left_at(place) for place in range(PLACES)], count)
+        if len(shares) < 2:
+            return self.advance(2**64 - 1)
+        workers = [before._worker(share) for share in shares]
+        hands.at_once([partial(worker.advance, 2**64 - 1) for worker in workers])
+        for share, worker in zip(shares, workers):
+            for place in share:
+                self.adopt(place, worker, place)
+        return Steps(before.left(), self.left())
+
+    def _left_at(self, place: int) -> int:
+        """The steps left of a place, in a store that no other thread has."""
+        state = _STATES_AT + _STATE_WORDS * place
+        status, pieces, faces = self._runs.words[state:state + 3].tolist()
+        return (max(status - 1, 0) - pieces) * self._runs.words[1] - faces
+
+    def _worker(self, places: List[int]) -> "Store":
+        """A copy in which every place but these is empty."""
+        worker = self.copy()
+        for place in range(PLACES):
+            if place not in places and worker.held(place) is not None:
+                worker.clear(place)
+        return worker
 
     def adopt(self, place: int, other: "Store", other_place: int) -> Optional[Adopted]:
         """Takes what a filled place of another store of the same body holds into a place of this one, whatever that

@@ -103,7 +103,8 @@ RIGHT = {
 }
 
 METHODS = {
-    "put": "place kernel layer", "clear": "place", "reweigh": "place number", "squeeze": "", "advance": "budget", "adopt": "place store place", "left": "",
+    "put": "place kernel layer", "clear": "place", "reweigh": "place number", "squeeze": "", "advance": "budget",
+    "advance_with": "budget", "adopt": "place store place", "left": "",
     "work": "budget", "density": "convention point layers",
     "track": "convention points layers", "report": "convention layers", "finished": "convention layers", "list": "convention layers", "page": "", "held": "place", "mesh": "", "to_bytes": "", "to_lines": "", "copy": "",
 }

@@ -95,6 +95,21 @@ class Adoptions(unittest.TestCase):
             thread.join()
         self.assertEqual(store.to_bytes(), whole.to_bytes())
 
+    def test_an_advance_with_threads_leaves_the_very_store_of_a_plain_one(self):
+        for count, done in ((0, 0), (1, 0), (5, 0), (5, 40), (5, 2**64)):
+            store = Store(500, VERTICES, FACES)
+            for place in range(count):
+                store.put(5 * place, kernel(place), layer=place)
+            store.advance(done)
+            alone = store.copy()
+            wanted = alone.advance(2**64)
+            for threads in range(6):
+                many = store.copy()
+                self.assertEqual(many.advance_with(threads), wanted)
+                self.assertEqual(many.to_bytes(), alone.to_bytes())
+        self.assertRaises(ValueError, store.advance_with, -1)
+        self.assertRaises(TypeError, store.advance_with, 1.5)
+
     def test_two_stores_that_adopt_from_each_other_do_not_wait_for_ever(self):
         stores = [Store(500, VERTICES, FACES) for _ in range(2)]
         for store in stores:

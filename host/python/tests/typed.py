@@ -19,6 +19,7 @@ again: cauchy.Store = cauchy.Store.from_bytes(store.to_bytes())
 carried: bool = cauchy.Store.carry_from_old(array("d", [0.0] * 1761), array("I", [0] * 98)).carried
 pieces: Tuple[cauchy.Kernel, ...] = cauchy.decompose(kernel, 500).pieces
 number: int = cauchy.NoPlace.number
+steps_of_threads: cauchy.Steps = store.advance_with(2)
 adopted: Optional[cauchy.Adopted] = store.adopt(0, again, 0)
 steps: int = cauchy.bill([kernel], 3, 1).steps
 page: str = store.page()
@@ -33,6 +34,7 @@ store.put("0", kernel)  # type: ignore[arg-type]
 store.put(0, (0.0, 0.0, 0.0, 1.0, 2.0, 1.0))  # type: ignore[arg-type]
 store.floats = array("d")  # type: ignore[misc, assignment]
 store.carried = True  # type: ignore[misc]
+store.advance_with("2")  # type: ignore[arg-type]
 store.adopt(0, store.to_bytes(), 0)  # type: ignore[arg-type]
 store.report(0)  # type: ignore[arg-type]
 store.advance(0.5)  # type: ignore[arg-type]
