@@ -1,4 +1,5 @@
 //! What the program says when it does not go on.
+use crate::excerpt;
 use std::fmt::Display;
 use std::io;
 use std::path::Path;
@@ -27,12 +28,24 @@ impl Failure {
 
     /// A fault of a whole file.
     pub fn of_file(path: &Path, what: impl Display) -> Failure {
-        Failure::Work(format!("{}: {what}", path.display()))
+        Failure::Work(format!("{}: {what}", name(path)))
     }
 
     /// A fault in a line of a file, counted from 1.
     pub fn of_line(path: &Path, line: usize, what: impl Display) -> Failure {
-        Failure::Work(format!("{}, line {line}: {what}", path.display()))
+        Failure::Work(format!("{}, line {line}: {what}", name(path)))
+    }
+
+    /// A fault at a byte of a line, which is shown with a mark below it.
+    pub fn of_text(path: &Path, line: usize, text: &[u8], at: usize, what: impl Display) -> Failure {
+        let column = excerpt::column(text, at);
+        let rows = excerpt::rows(text, at);
+        Failure::Work(format!("{}, line {line}, column {column}: {what}\n{rows}", name(path)))
+    }
+
+    /// A fault at a byte of a file that is no text, counted from 0.
+    pub fn of_byte(path: &Path, byte: u64, what: impl Display) -> Failure {
+        Failure::Work(format!("{}, byte {byte}: {what}", name(path)))
     }
 
     /// A fault that the system told.
@@ -45,4 +58,14 @@ impl Failure {
         };
         Failure::of_file(path, what)
     }
+}
+
+/// Whether a path stands for standard input.
+pub fn is_standard(path: &Path) -> bool {
+    path.as_os_str() == "-"
+}
+
+/// What an input is called in messages.
+pub fn name(path: &Path) -> String {
+    if is_standard(path) { "standard input".to_string() } else { path.display().to_string() }
 }

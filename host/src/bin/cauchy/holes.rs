@@ -1,5 +1,6 @@
 //! Where a mesh is not closed. Whether it is closed the archive tells, by its proved check; what is here only
 //! shows people where to look, and is not proved.
+use crate::edges::{self, sides};
 use crate::figures::{count, counted, short};
 use cauchy::Mesh;
 use std::collections::HashMap;
@@ -29,22 +30,30 @@ struct Edge {
 impl Holes {
     /// All of them, and the first in the order of the faces.
     pub fn find(mesh: Mesh<'_>) -> Holes {
-        let mut uneven = times(mesh.faces);
-        uneven.retain(|(low, high), [up, down]| low != high && (*up, *down) != (1, 1));
+        let mut uneven: HashMap<_, _> = edges::uneven(mesh)
+            .into_iter()
+            .map(|edge| ((edge.low, edge.high), [edge.up, edge.down]))
+            .collect();
         let edges = uneven.len();
         let edge = |[from, to]: [u32; 2]| {
             let [up, down] = uneven.remove(&(from.min(to), from.max(to)))?;
             let (there, back) = if from < to { (up, down) } else { (down, up) };
             Some(Edge { ends: [from, to], there, back })
         };
-        let first_edges = mesh.faces.iter().flat_map(sides).filter_map(edge).take(SHOWN).collect();
-        let twice = mesh.faces.iter().filter(|[a, b, c]| a == b || b == c || c == a);
+        let shown = SHOWN.min(edges);
+        let first_edges = mesh.faces.iter().flat_map(sides).filter_map(edge).take(shown).collect();
+        let twice = edges::doubled(mesh);
         Holes {
             edges,
             first_edges,
             faces: twice.clone().count(),
             first_faces: twice.take(SHOWN).copied().collect(),
         }
+    }
+
+    /// Whether there are none: the mesh is closed.
+    pub fn are_none(&self) -> bool {
+        self.edges == 0 && self.faces == 0
     }
 
     /// In words, vertices counted from 1 as in an OBJ file.
@@ -79,19 +88,6 @@ impl Holes {
 fn head(what: &str, found: usize) -> String {
     let shown = if found > SHOWN { format!(", the first {SHOWN} here") } else { String::new() };
     format!("{what}: {}{shown} (vertices counted from 1)", count(found as u64))
-}
-
-/// How often each pair of vertices is an edge, from the lower number to the higher and back.
-fn times(faces: &[[u32; 3]]) -> HashMap<(u32, u32), [u64; 2]> {
-    let mut times: HashMap<_, [u64; 2]> = HashMap::new();
-    for [from, to] in faces.iter().flat_map(sides) {
-        times.entry((from.min(to), from.max(to))).or_default()[usize::from(from > to)] += 1;
-    }
-    times
-}
-
-fn sides([a, b, c]: &[u32; 3]) -> [[u32; 2]; 3] {
-    [[*a, *b], [*b, *c], [*c, *a]]
 }
 
 #[cfg(test)]

@@ -23,6 +23,11 @@ pub fn watch() {
     unsafe { signal(SIGINT, note as extern "C" fn(i32) as usize) };
 }
 
+/// As an interrupt: what is under way ends. The next one from the terminal has the meaning that it would have.
+pub fn ask() {
+    ASKED.store(true, Ordering::Relaxed);
+}
+
 /// Whether there was one.
 pub fn asked() -> bool {
     ASKED.load(Ordering::Relaxed)

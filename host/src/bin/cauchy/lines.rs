@@ -1,8 +1,9 @@
-//! A store as lines of text, for other tools: written from a snapshot, and read in place of a mesh and a kernel list. The
-//! archive writes and reads them by its proved calls. On which line a file is refused is found here, one line at a time,
-//! and is not proved.
-use crate::failure::{Failure, Result};
+//! A store as lines of text, for other tools: written from a folder or a snapshot, and read in place of a mesh and a
+//! kernel list. The archive writes and reads them by its proved calls. On which line a file is refused is found here,
+//! one line at a time, and is not proved.
+use crate::failure::{Failure, Result, name};
 use crate::figures::counted;
+use crate::form::misfit;
 use crate::opening::{self, Opening};
 use crate::options::Origin;
 use crate::output::{self, Output, give, say};
@@ -10,16 +11,15 @@ use crate::{input, page};
 use cauchy::{OpenError, PLACES, Refusal, Store};
 use std::path::Path;
 
-/// Writes the lines of a snapshot's store to a file, or to standard output.
-pub fn export(snapshot: &Path, to: Option<&Path>, overwrite: bool) -> Result<()> {
-    let output = to.map(|path| prepared(path, snapshot, overwrite)).transpose()?;
-    let mut store = opening::snapshot(snapshot)?;
-    let refused = |refusal| Failure::of_file(snapshot, refusal);
-    let bytes = store.to_lines().map_err(refused)?;
-    let done = all_steps(&store) - store.left().map_err(refused)?;
+/// Writes the lines of the store of a folder or a snapshot to a file, or to standard output.
+pub fn export(from: &Path, to: Option<&Path>, overwrite: bool) -> Result<()> {
+    let output = to.map(|path| prepared(path, from, overwrite)).transpose()?;
+    let store = opening::kept(from)?;
+    let bytes = store.to_lines().map_err(|refusal| Failure::of_file(from, refusal))?;
+    let done = all_steps(&store) - (0..PLACES).map(|place| store.left_at(place)).sum::<u64>();
     if done > 0 {
         let steps = counted(done, "step");
-        eprintln!("cauchy: {}: note: {steps} done, which lines do not tell", snapshot.display());
+        eprintln!("cauchy: {}: note: {steps} done, which lines do not tell", name(from));
     }
     match output {
         None => give(&bytes),
@@ -27,7 +27,7 @@ pub fn export(snapshot: &Path, to: Option<&Path>, overwrite: bool) -> Result<()>
             output.write(&bytes)?;
             let count = bytes.iter().filter(|byte| **byte == b'\n').count() as u64;
             let size = format!("{}, {}", counted(count, "line"), counted(bytes.len() as u64, "byte"));
-            say(&page::entry("written", &[output.path().display().to_string(), size]))
+            say(&page::entry("written", &[output.name(), size]))
         }
     }
 }
@@ -38,7 +38,7 @@ pub fn import(lines: &Path, snapshot: &Path, overwrite: bool) -> Result<()> {
     let Opening { store, head, .. } = opening::open(&Origin::Lines(lines.to_path_buf()), false)?;
     say(&head)?;
     output.write(&store.to_bytes())?;
-    say(&page::entry("written", &[output.path().display().to_string()]))?;
+    say(&page::entry("written", &[output.name()]))?;
     say(&format!("The work: cauchy resume {} ..\n", output.path().display()))
 }
 
@@ -58,7 +58,8 @@ pub fn read(path: &Path) -> Result<Store> {
     store_of(path, &input::bytes(path)?)
 }
 
-fn store_of(path: &Path, bytes: &[u8]) -> Result<Store> {
+/// The store of the bytes of a file of lines.
+pub fn store_of(path: &Path, bytes: &[u8]) -> Result<Store> {
     Store::from_lines(bytes).map_err(|fault| match fault {
         OpenError::Refused(refusal) => refused(path, bytes, refusal),
         OpenError::FloatState(_) => Failure::of_file(path, fault),
@@ -88,7 +89,19 @@ impl Due {
         match self {
             Due::Vertex(n) => format!("vertex {n}, (vert H H H), is due"),
             Due::Face(n) => format!("face {n}, (face N N N), is due"),
-            Due::Put => "not (put N (c H H H) (sigma H) (w H) (alpha H) (layer N))".to_string(),
+            Due::Put => format!("not {PUT}"),
+        }
+    }
+
+    /// The byte of a line for which it is refused.
+    fn fault_at(self, line: &[u8], refusal: Refusal, vertices: u32) -> usize {
+        match (refusal, self) {
+            (Refusal::LooseCorner, _) => loose(line, vertices).unwrap_or(0),
+            (Refusal::NoPlace, _) => misfit(BEFORE_PLACE, line),
+            (Refusal::NoLayer, _) => misfit(BEFORE_LAYER, line),
+            (_, Due::Vertex(_)) => misfit("(vert H H H)", line),
+            (_, Due::Face(_)) => misfit("(face N N N)", line),
+            (_, Due::Put) => misfit(PUT, line).max(misfit(PUT_WITHOUT_LAYER, line)),
         }
     }
 
@@ -107,15 +120,22 @@ impl Due {
     }
 }
 
+const OPENING: &str = "(open (radius H) (verts N) (faces N))";
+const PUT: &str = "(put N (c H H H) (sigma H) (w H) (alpha H) (layer N))";
+const PUT_WITHOUT_LAYER: &str = "(put N (c H H H) (sigma H) (w H) (alpha H))";
+const BEFORE_PLACE: &str = "(put ";
+const BEFORE_LAYER: &str = "(put N (c H H H) (sigma H) (w H) (alpha H) (layer ";
+
 /// Why a file was refused, with the first line for which it was.
 fn refused(path: &Path, bytes: &[u8], refusal: Refusal) -> Failure {
     let mut lines = bytes.split_inclusive(|byte| *byte == b'\n');
-    let counts = lines.next().and_then(counts);
-    let Some((vertices, faces)) = counts else {
-        return Failure::of_line(path, 1, format!("not (open (radius H) (verts N) (faces N)): {refusal}"));
+    let opening = lines.next().unwrap_or_default();
+    let Some((vertices, faces)) = counts(opening) else {
+        let what = format!("not {OPENING}: {refusal}");
+        return Failure::of_text(path, 1, bare(opening), misfit(OPENING, opening), what);
     };
     if refusal == Refusal::Oversize {
-        return Failure::of_line(path, 1, refusal);
+        return Failure::of_text(path, 1, bare(opening), 0, refusal);
     }
     let mut last = 1;
     for line in lines {
@@ -123,7 +143,7 @@ fn refused(path: &Path, bytes: &[u8], refusal: Refusal) -> Failure {
         last += 1;
         let trial = due.trial(line);
         let is_first = match refusal {
-            Refusal::LooseCorner => matches!(due, Due::Face(_)) && is_loose(line, vertices),
+            Refusal::LooseCorner => matches!(due, Due::Face(_)) && loose(line, vertices).is_some(),
             _ => trial == Some(refusal),
         };
         if is_first {
@@ -131,7 +151,8 @@ fn refused(path: &Path, bytes: &[u8], refusal: Refusal) -> Failure {
                 Refusal::BadLine => format!("{}{}: {refusal}", due.said(), unseen(due, line)),
                 _ => refusal.to_string(),
             };
-            return Failure::of_line(path, last as usize, what);
+            let at = due.fault_at(line, refusal, vertices);
+            return Failure::of_text(path, last as usize, bare(line), at, what);
         }
     }
     match Due::at(last, vertices, faces) {
@@ -140,6 +161,11 @@ fn refused(path: &Path, bytes: &[u8], refusal: Refusal) -> Failure {
             Failure::of_line(path, last as usize + 1, format!("the file ends, and {}: {refusal}", due.said()))
         }
     }
+}
+
+/// A line without its newline.
+fn bare(line: &[u8]) -> &[u8] {
+    line.strip_suffix(b"\n").unwrap_or(line)
 }
 
 /// The counts in a line that is an opening.
@@ -154,10 +180,15 @@ fn counts(line: &[u8]) -> Option<(u32, u32)> {
     Some((number(vertices)?, number(faces)?))
 }
 
-/// Whether a face names a vertex that is not there.
-fn is_loose(line: &[u8], vertices: u32) -> bool {
-    let numbers = line.split(|byte| !byte.is_ascii_digit()).filter_map(|word| std::str::from_utf8(word).ok());
-    numbers.filter_map(|word| word.parse::<u32>().ok()).any(|corner| corner >= vertices)
+/// Where a face names a vertex that is not there.
+fn loose(line: &[u8], vertices: u32) -> Option<usize> {
+    let is_digit = |at: usize| line[at].is_ascii_digit();
+    let corner = |at: usize| {
+        let digits = line[at..].split(|byte| !byte.is_ascii_digit()).next()?;
+        std::str::from_utf8(digits).ok()?.parse::<u32>().ok()
+    };
+    let mut starts = (0..line.len()).filter(|at| is_digit(*at) && (*at == 0 || !is_digit(at - 1)));
+    starts.find(|at| corner(*at).is_some_and(|corner| corner >= vertices))
 }
 
 /// What is wrong with a line that looks right in an editor.
@@ -190,67 +221,62 @@ mod tests {
         format!("(put {place} (c {ONE} {ONE} {ONE}) (sigma {ONE}) (w {ONE}) (alpha {ONE}){layer})\n")
     }
 
+    /// The first row of what is said; the others show the line.
     fn said(text: impl AsRef<[u8]>) -> String {
-        match store_of(Path::new("s.lines"), text.as_ref()) {
-            Err(Failure::Work(what)) => what,
-            other => panic!("{other:?}"),
-        }
+        let said = input::tests::said(store_of(Path::new("s.lines"), text.as_ref()));
+        said.lines().next().unwrap().to_string()
     }
 
     #[test]
     fn the_first_line_that_is_not_due_is_named() {
         let bad = "bad line: the bytes are not one whole opening and then puts (no 13)";
-        let open = format!("s.lines, line 1: not (open (radius H) (verts N) (faces N)): {bad}");
-        for text in
-            ["", "\n", "hello\n", &vert(), &text("01", "0"), &text("4294967296", "0"), &text("-1", "0")]
-        {
-            assert_eq!(said(text), open, "{text:?}");
-        }
-        assert_eq!(said(text("0", "0").replace(ONE, "3ff0000000000000")), open);
-        assert_eq!(said(text("0", "0").trim_end()), open);
+        let no_opening = |text: &str, column: usize| {
+            let form = "not (open (radius H) (verts N) (faces N))";
+            assert_eq!(said(text), format!("s.lines, line 1, column {column}: {form}: {bad}"), "{text:?}");
+        };
+        ["", "\n", "hello\n"].iter().for_each(|text| no_opening(text, 1));
+        no_opening(&vert(), 2);
+        no_opening(&text("01", "0"), 41);
+        ["4294967296", "-1"].iter().for_each(|count| no_opening(&text(count, "0"), 40));
+        no_opening(&text("0", "0").replace(ONE, "3ff0000000000000"), 16);
+        no_opening(text("0", "0").trim_end(), 53);
         let mesh = text("2", "1") + &vert() + &vert() + "(face 0 1 1)\n";
         assert!(store_of(Path::new("s"), mesh.as_bytes()).is_ok());
-        for (text, line, what) in [
-            (text("2", "1") + &vert() + "(face 0 1 1)\n", 3, "vertex 2, (vert H H H), is due"),
-            (text("2", "1") + &vert() + &vert() + &vert(), 4, "face 1, (face N N N), is due"),
-            (mesh.clone() + &vert(), 5, "not (put N (c H H H) (sigma H) (w H) (alpha H) (layer N))"),
-            (
-                mesh.clone() + &put("3", "") + "\n",
-                6,
-                "not (put N (c H H H) (sigma H) (w H) (alpha H) (layer N))",
-            ),
-            (text("2", "1") + &vert(), 3, "the file ends, and vertex 2, (vert H H H), is due"),
-            (text("2", "1") + &vert() + &vert(), 4, "the file ends, and face 1, (face N N N), is due"),
-            (mesh.replace("0 1 1)", "0 1 01)"), 4, "face 1, (face N N N), is due"),
+        let no_put = "not (put N (c H H H) (sigma H) (w H) (alpha H) (layer N))";
+        for (text, place, what) in [
+            (text("2", "1") + &vert() + "(face 0 1 1)\n", "3, column 2", "vertex 2, (vert H H H), is due"),
+            (text("2", "1") + &vert() + &vert() + &vert(), "4, column 2", "face 1, (face N N N), is due"),
+            (mesh.clone() + &vert(), "5, column 2", no_put),
+            (mesh.clone() + &put("3", "") + "\n", "6, column 1", no_put),
+            (mesh.clone() + &put("3", " (layer 01)"), "5, column 142", no_put),
+            (text("2", "1") + &vert(), "3", "the file ends, and vertex 2, (vert H H H), is due"),
+            (text("2", "1") + &vert() + &vert(), "4", "the file ends, and face 1, (face N N N), is due"),
+            (mesh.replace("0 1 1)", "0 1 01)"), "4, column 12", "face 1, (face N N N), is due"),
         ] {
-            assert_eq!(said(text), format!("s.lines, line {line}: {what}: {bad}"));
+            assert_eq!(said(text), format!("s.lines, line {place}: {what}: {bad}"));
         }
         let returned = said(mesh.replace("1 1)\n", "1 1)\r\n"));
-        assert!(
-            returned.contains("line 4: face 1, (face N N N), is due, and a carriage return"),
-            "{returned}"
-        );
+        let wanted =
+            "s.lines, line 4, column 13: face 1, (face N N N), is due, and a carriage return stands ";
+        assert!(returned.starts_with(wanted), "{returned}");
         let cut = said((mesh.clone() + &put("3", " (layer 2)")).trim_end());
-        assert!(
-            cut.contains("line 5: not (put ") && cut.contains("and the newline at its end is missing"),
-            "{cut}"
-        );
+        assert!(cut.starts_with("s.lines, line 5, column 144: not (put "), "{cut}");
+        assert!(cut.contains("and the newline at its end is missing"), "{cut}");
     }
 
     #[test]
     fn the_first_line_that_is_refused_is_named() {
         let mesh = text("2", "1") + &vert() + &vert();
         let loose = "loose corner: a face names a vertex that is not there (no 3)";
-        assert_eq!(
-            said(mesh.clone() + "(face 0 1 2)\n" + &put("32", "")),
-            format!("s.lines, line 4: {loose}")
-        );
+        let whole = mesh.clone() + "(face 0 1 2)\n" + &put("32", "");
+        let shown = input::tests::said(store_of(Path::new("s.lines"), whole.as_bytes()));
+        assert_eq!(shown, format!("s.lines, line 4, column 11: {loose}\n  (face 0 1 2)\n            ^"));
         let good = mesh + "(face 0 1 1)\n" + &put("31", "") + &put("0", " (layer 16)");
-        assert_eq!(said(&good), "s.lines, line 6: no layer: the layers are 0 to 15 (no 16)");
+        assert_eq!(said(&good), "s.lines, line 6, column 141: no layer: the layers are 0 to 15 (no 16)");
         let place = said(good + &put("31", " (layer 15)") + &put("32", " (layer 16)"));
-        assert_eq!(place, "s.lines, line 8: no place: the places are 0 to 31 (no 6)");
+        assert_eq!(place, "s.lines, line 8, column 6: no place: the places are 0 to 31 (no 6)");
         let many = text("0", "2097153") + &"(face 0 0 0)\n".repeat(2_097_153);
-        assert!(said(many).starts_with("s.lines, line 1: oversize: more than 1,048,576 vertices"));
+        assert!(said(many).starts_with("s.lines, line 1, column 1: oversize: more than 1,048,576 vertices"));
     }
 
     #[test]

@@ -43,9 +43,17 @@ impl Outputs {
         })
     }
 
-    /// Their paths.
-    pub fn paths(&self) -> Vec<String> {
-        let all = [&self.csv, &self.svg, &self.list, &self.page, &self.snapshot];
-        all.into_iter().flatten().map(|output| output.path().display().to_string()).collect()
+    /// What they are called.
+    pub fn names(&self) -> Vec<String> {
+        shown(&[&self.csv, &self.svg, &self.list, &self.page, &self.snapshot])
     }
+
+    /// What those of a track are called.
+    pub fn names_of_track(&self) -> Vec<String> {
+        shown(&[&self.csv, &self.svg])
+    }
+}
+
+fn shown(outputs: &[&Option<Output>]) -> Vec<String> {
+    outputs.iter().filter_map(|output| output.as_ref()).map(Output::name).collect()
 }

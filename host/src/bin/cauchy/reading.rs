@@ -1,85 +1,66 @@
-//! The readings of a store: report, wall page, list, track.
+//! The readings of a run: report, wall page, list, track.
 use crate::failure::{Failure, Result};
-use crate::figures::counted;
 use crate::options::Options;
 use crate::output::say;
 use crate::outputs::Outputs;
-use crate::track::Track;
+use crate::readings::{self, Told};
 use crate::{page, plot};
-use cauchy::{Convention, LAYERS, Layers, PLACES, Refusal, Store};
-use std::path::Path;
+use cauchy::{Convention, Refusal, Store};
 
-/// The readings of a store whose work is done; its mesh is closed or not.
-pub fn read(
-    store: &Store,
-    closed: bool,
-    options: &Options,
-    outputs: &Outputs,
-    points: Option<Vec<[f64; 3]>>,
-) -> Result<()> {
-    let by = options.convention;
-    let seen = store.layers(options.layers);
-    let refused = |what: &'static str| move |refusal| Failure::Work(format!("{what}: {refusal}"));
-    let report = seen.report(by).map_err(refused("report"))?;
-    let origin = seen.density(Convention::Raw, [0.0; 3]).map_err(refused("density"))?;
-    say(&page::report(by, options.layers, &report, origin, closed))?;
-    if options.by_layer {
-        let own = layers_of(store, options.layers).into_iter();
-        let own = own.map(|layer| Ok((layer, store.layers(Layers::of(&[layer])?).report(Convention::Raw)?)));
-        let own = own.collect::<std::result::Result<Vec<_>, Refusal>>().map_err(refused("report"))?;
-        say(&page::by_layer(by, &own, &report))?;
-    }
-    let wall = store.page();
-    say(&page::wall(&wall))?;
-    let pieces = seen.list(by).map_err(refused("list"))?;
-    let places = page::places_of(store, options.layers);
-    say(&page::list(by, &places, &pieces))?;
+/// The readings of a store whose work is done.
+pub fn read(store: &Store, options: &Options, outputs: &Outputs) -> Result<()> {
+    let (by, layers) = (options.convention, options.layers);
+    let report = readings::report(store, &[by], layers, options.by_layer).map_err(refused("report"))?;
+    say(&report.text())?;
+    let wall = readings::page(store);
+    say(&match &wall {
+        Ok(wall) => wall.shown(),
+        Err(refusal) => format!("\nWall page: {refusal}\n"),
+    })?;
+    let list = readings::list(store, by, layers).map_err(refused("list"))?;
+    say(&list.first_rows())?;
     if let Some(output) = &outputs.list {
-        output.write(page::list_csv(&places, &pieces).as_bytes())?;
-    }
-    if let (Some(points), Some(path)) = (points, &options.track) {
-        let track = Track::read(seen, store.mesh(), by, points)?;
-        say(&page::track(by, path, &track))?;
-        if let Some(output) = &outputs.csv {
-            output.write(track.csv().as_bytes())?;
-        }
-        if let Some(output) = &outputs.svg {
-            output.write(picture(by, store, options.layers, path, &track).as_bytes())?;
-        }
+        output.write(list.csv().as_bytes())?;
     }
     // last, since a page may be refused where the others are not
     if let Some(output) = &outputs.page {
-        output.write(wall.map_err(refused("page"))?.as_bytes())?;
+        output.write(wall.map_err(refused("page"))?.text().as_bytes())?;
     }
-    let paths = outputs.paths();
-    if paths.is_empty() { Ok(()) } else { say(&format!("\n{}", page::entry("written", &paths))) }
+    Ok(())
+}
+
+/// Whether a track is read before the work, since it needs none.
+pub fn needs_no_work(options: &Options) -> bool {
+    options.track.is_some() && !matches!(options.convention, Convention::Mass { .. })
+}
+
+/// The density along the points of a track.
+pub fn track(store: &Store, options: &Options, outputs: &Outputs, points: Vec<[f64; 3]>) -> Result<()> {
+    let Some(file) = &options.track else { return Ok(()) };
+    let track = readings::track(store, options.convention, options.layers, file, points);
+    let track = track.map_err(refused("track"))?;
+    say(&track.text())?;
+    if let Some(output) = &outputs.csv {
+        output.write(track.csv().as_bytes())?;
+    }
+    match &outputs.svg {
+        Some(output) => output.write(plot::picture(&track).as_bytes()),
+        None => Ok(()),
+    }
 }
 
 /// The report of what is finished, and what it passed over, place by place.
-pub fn so_far(store: &Store, closed: bool, options: &Options) -> Result<()> {
-    let seen = store.layers(options.layers);
-    let refused = |refusal| Failure::Work(format!("finished: {refusal}"));
-    let told = seen.finished(options.convention).map_err(refused)?;
-    say(&page::so_far(options.convention, options.layers, &told, closed))?;
-    let passed = |place: &u32| {
-        store.left_at(*place) > 0 && store.held(*place).is_some_and(|held| options.layers.has(held.layer))
-    };
-    let lines = (0..PLACES).filter(passed).map(|place| page::passed_over(store, place)).collect::<String>();
-    say(&lines)
+pub fn so_far(store: &Store, options: &Options) -> Result<()> {
+    let told =
+        readings::finished(store, &[options.convention], options.layers).map_err(refused("finished"))?;
+    say(&told.text())
 }
 
-/// The layers of the places that are read, by rising number.
-fn layers_of(store: &Store, layers: Layers) -> Vec<u32> {
-    let held =
-        |layer: &u32| (0..PLACES).any(|place| store.held(place).is_some_and(|held| held.layer == *layer));
-    (0..LAYERS).filter(|layer| layers.has(*layer)).filter(held).collect()
+/// Tells the files that were written.
+pub fn written(names: &[String]) -> Result<()> {
+    if names.is_empty() { Ok(()) } else { say(&format!("\n{}", page::entry("written", names))) }
 }
 
-fn picture(by: Convention, store: &Store, layers: Layers, path: &Path, track: &Track) -> String {
-    let name: String = path.file_name().unwrap_or_default().to_string_lossy().chars().take(32).collect();
-    let is_read = |place: &u32| store.held(*place).is_some_and(|held| layers.has(held.layer));
-    let kernels = (0..PLACES).filter(is_read).count();
-    let kernels = counted(kernels as u64, "kernel");
-    let subtitle = format!("{} (convention {}) · {kernels} · {name}", page::convention(by), by.name());
-    plot::svg("Density along the track", &subtitle, track)
+fn refused(what: &'static str) -> impl Fn(Refusal) -> Failure {
+    move |refusal| Failure::Work(format!("{what}: {refusal}"))
 }

@@ -2,7 +2,7 @@
 use crate::failure::{Failure, Result};
 use crate::interrupt;
 use crate::output::Output;
-use cauchy::{Steps, Store};
+use cauchy::{Refusal, Steps, Store};
 use std::io::{IsTerminal, Write, stderr};
 use std::time::{Duration, Instant};
 
@@ -12,30 +12,50 @@ const SNAPSHOT_TIME: Duration = Duration::from_secs(30);
 /// Does the steps that are left, or the first `limit` of them, and keeps a snapshot. An interrupt ends it after the portion
 /// under way.
 pub fn work(store: &mut Store, limit: Option<u64>, snapshot: Option<&Output>) -> Result<Steps> {
-    let refused = |refusal| Failure::Work(format!("work: {refusal}"));
     let left = store.left().map_err(refused)?;
     let asked = limit.map_or(left, |limit| limit.min(left));
-    let mut steps = Steps { done: 0, left };
-    let mut portion = Portion::of(store);
     let mut bar = Bar::new();
     save(store, snapshot)?;
     let mut saved = Instant::now();
-    while steps.done < asked && !interrupt::asked() {
-        let begun = Instant::now();
-        let told = store.advance(portion.steps.min(asked - steps.done)).map_err(refused)?;
-        steps = Steps { done: steps.done + told.done, left: told.left };
-        portion.adapt(begun.elapsed());
+    let done = portions(store, asked, |store, steps| {
         bar.show(steps.done, asked);
         if saved.elapsed() > SNAPSHOT_TIME {
             save(store, snapshot)?;
             saved = Instant::now();
         }
-    }
+        Ok(())
+    })?;
     bar.end();
-    if steps.done > 0 {
+    if done > 0 {
         save(store, snapshot)?;
     }
-    Ok(steps)
+    Ok(Steps { done, left: left - done })
+}
+
+/// Does so many steps of those that are left, in portions; after each the store and all steps done so far are told. An
+/// interrupt ends it after the portion under way. Answers the steps done.
+pub fn portions(
+    store: &mut Store,
+    asked: u64,
+    mut after: impl FnMut(&Store, Steps) -> Result<()>,
+) -> Result<u64> {
+    let mut portion = Portion::of(store);
+    let mut done = 0;
+    while done < asked && !interrupt::asked() {
+        let begun = Instant::now();
+        let told = store.advance(portion.steps.min(asked - done)).map_err(refused)?;
+        done += told.done;
+        portion.adapt(begun.elapsed());
+        after(store, Steps { done, left: told.left })?;
+        if told.left == 0 {
+            break;
+        }
+    }
+    Ok(done)
+}
+
+pub fn refused(refusal: Refusal) -> Failure {
+    Failure::Work(format!("work: {refusal}"))
 }
 
 fn save(store: &Store, snapshot: Option<&Output>) -> Result<()> {
@@ -64,18 +84,18 @@ impl Portion {
 }
 
 /// A bar on standard error, where that is a terminal.
-struct Bar {
+pub struct Bar {
     begun: Instant,
     on_terminal: bool,
     shown: bool,
 }
 
 impl Bar {
-    fn new() -> Bar {
+    pub fn new() -> Bar {
         Bar { begun: Instant::now(), on_terminal: stderr().is_terminal(), shown: false }
     }
 
-    fn show(&mut self, done: u64, asked: u64) {
+    pub fn show(&mut self, done: u64, asked: u64) {
         if self.on_terminal {
             eprint!("\r{}\x1b[K", bar_line(done, asked, self.begun.elapsed()));
             let _ = stderr().flush();
@@ -83,7 +103,7 @@ impl Bar {
         }
     }
 
-    fn end(&self) {
+    pub fn end(&self) {
         if self.shown {
             eprint!("\r\x1b[K");
         }

@@ -1,11 +1,12 @@
 //! The bill before the work, and an estimate of the time that the work takes on this machine.
-use crate::failure::{Failure, Result};
-use crate::figures::rounded;
+use super::Told;
+use crate::failure::{Failure, Result, name};
+use crate::figures::{counted, rounded};
+use crate::json::Value;
+use crate::notes::{self, Note};
 use crate::options::Files;
-use crate::output::say;
-use crate::{input, kernels, lines, opening, page, work};
-use cauchy::{Bill, Kernel, Mesh, OpenError, PLACES, Refusal, Store};
-use std::path::Path;
+use crate::{input, kernels, opening, page, work};
+use cauchy::{Kernel, Mesh, OpenError, PLACES, Refusal, Store};
 use std::time::{Duration, Instant};
 
 /// How long steps are tried for an estimate.
@@ -13,7 +14,7 @@ const TRIAL_TIME: Duration = Duration::from_millis(200);
 
 /// The bill of a kernel list on a mesh.
 pub struct Due {
-    bill: Bill,
+    bill: cauchy::Bill,
     kernels: usize,
     /// The kernels to be fitted, whose pieces are not known before.
     fitted: usize,
@@ -47,39 +48,96 @@ fn kernels_of(store: &Store) -> Vec<Kernel> {
     (0..PLACES).filter_map(|place| store.held(place)).map(|held| held.kernel).collect()
 }
 
-/// Prints the bill of a store's lines, and an estimate of the time. Nothing is kept.
-pub fn print_lines(path: &Path) -> Result<()> {
-    let store = lines::read(path)?;
-    let due = Due::of_store(&store).map_err(|refusal| Failure::of_file(path, refusal))?;
-    let size = page::size(store.vertices().into(), store.faces().into());
-    let head = page::entry("mesh", &[format!("of the lines {}", path.display()), size]);
-    say(&(head + &page::entry("bill", &due.lines())))?;
-    match kernels_of(&store).first() {
-        Some(kernel) if due.bill.steps > 0 => print_time(path, store.mesh(), *kernel, due.bill.steps),
-        _ => Ok(()),
-    }
+/// The bill of a mesh and kernels, with an estimate of the time. Nothing is kept.
+pub struct Bill {
+    /// Where the mesh and the kernels come from, in words.
+    mesh: Vec<String>,
+    kernels: Vec<String>,
+    vertices: u64,
+    faces: u64,
+    due: Due,
+    /// The steps that are left, in a store that keeps its work.
+    steps_left: Option<u64>,
+    /// The seconds that a step takes here; nothing where there is no step.
+    step_time: Option<f64>,
+    notes: Vec<Note>,
 }
 
-/// Prints the bill of a mesh and a kernel list, and an estimate of the time. Nothing is kept.
-pub fn print(files: &Files) -> Result<()> {
+/// The bill of a store's kernels, all their work to do. Its mesh is told of in these words; where the store keeps its
+/// work, the steps left are told too.
+pub fn bill(store: &Store, mesh: String, keeps_work: bool) -> std::result::Result<Bill, OpenError> {
+    let kernels = kernels_of(store);
+    let due = Due::of(&kernels, store.mesh())?;
+    let left = || (0..PLACES).map(|place| store.left_at(place)).sum();
+    let trial = kernels.first().filter(|_| due.bill.steps > 0);
+    Ok(Bill {
+        mesh: vec![mesh],
+        kernels: Vec::new(),
+        vertices: store.vertices().into(),
+        faces: store.faces().into(),
+        due,
+        steps_left: keeps_work.then(left),
+        step_time: trial.map(|kernel| step_time(store.mesh(), *kernel)).transpose()?,
+        notes: notes::of_store(store),
+    })
+}
+
+/// The bill of a mesh and a kernel list.
+pub fn bill_of_files(files: &Files) -> Result<Bill> {
     let mesh = input::mesh(&files.mesh, files.unit)?;
     let list = kernels::read(&files.kernels, files.loading)?;
     let mesh = Mesh { vertices: &mesh.vertices, faces: &mesh.faces };
     let due = Due::of(&list.kernels, mesh).map_err(|refusal| Failure::of_file(&files.mesh, refusal))?;
-    let size = page::size(mesh.vertices.len() as u64, mesh.faces.len() as u64);
-    let entries = [
-        ("mesh", vec![files.mesh.display().to_string(), size]),
-        ("kernels", list.said),
-        ("bill", due.lines()),
-    ];
-    say(&entries.map(|(label, lines)| page::entry(label, &lines)).concat())?;
-    print_time(&files.mesh, mesh, list.kernels[0], due.bill.steps)
+    let time = list.kernels.first().map(|kernel| step_time(mesh, *kernel)).transpose();
+    Ok(Bill {
+        mesh: vec![name(&files.mesh)],
+        kernels: list.said,
+        vertices: mesh.vertices.len() as u64,
+        faces: mesh.faces.len() as u64,
+        due,
+        steps_left: None,
+        step_time: time.map_err(|fault| Failure::of_file(&files.mesh, fault))?,
+        notes: notes::of_mesh(mesh),
+    })
 }
 
-/// Prints the time of so many steps, as steps of one kernel take it.
-fn print_time(path: &Path, mesh: Mesh<'_>, kernel: Kernel, steps: u64) -> Result<()> {
-    let step = step_time(mesh, kernel).map_err(|fault| Failure::of_file(path, fault))?;
-    say(&page::entry("time", &[estimate(step, steps)]))
+impl Told for Bill {
+    fn text(&self) -> String {
+        let mut mesh = self.mesh.clone();
+        mesh.push(page::size(self.vertices, self.faces));
+        let left = self.steps_left.map(|left| counted(left, "step"));
+        let time = self.step_time.map(|step| estimate(step, self.due.bill.steps));
+        let entries = [
+            ("mesh", mesh),
+            ("kernels", self.kernels.clone()),
+            ("bill", self.due.lines()),
+            ("left", left.into_iter().collect()),
+            ("time", time.into_iter().collect()),
+        ];
+        entries.map(|(label, lines)| page::entry(label, &lines)).concat()
+    }
+
+    fn members(&self) -> Vec<(&'static str, Value)> {
+        let Due { bill, kernels, fitted } = &self.due;
+        vec![
+            ("reading", "bill".into()),
+            ("vertices", self.vertices.into()),
+            ("faces", self.faces.into()),
+            ("kernels", (*kernels as u64).into()),
+            ("kernels_to_be_fitted", (*fitted as u64).into()),
+            ("exact", (*fitted == 0).into()),
+            ("steps_at_most", bill.steps.into()),
+            ("floats_at_most", bill.floats.into()),
+            ("bytes_at_most", (8 * bill.floats).into()),
+            ("steps_left", self.steps_left.into()),
+            ("step_time_s", self.step_time.into()),
+            ("time_s", self.step_time.map(|step| step * bill.steps as f64).into()),
+        ]
+    }
+
+    fn notes(&self) -> &[Note] {
+        &self.notes
+    }
 }
 
 /// The seconds that a step takes: the work on a kernel is done over and over for a fifth of a second, and once at
