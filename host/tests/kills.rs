@@ -528,41 +528,52 @@ fn traced(line: &str) -> Option<String> {
 
 // ---- Readers and other writers meanwhile ----
 
-#[test]
-fn readers_see_committed_states_in_order() {
-    let body = Body::globe(8);
-    let folder = Folder::new("readers", &body);
-    let mut machine = body.store();
-    let mut rng = Rng(99);
-    let calls: Vec<Call> = (0..120).map(|_| rng.call(2000)).collect();
-    let mut states = vec![bits(&machine)];
-    for call in &calls {
-        call.apply(&mut machine);
-        states.push(bits(&machine));
+/// Has a writer make some calls and reads the store meanwhile. Answers how often it was read.
+fn read_meanwhile(folder: &Folder, machine: &mut Store, calls: &[Call]) -> u64 {
+    let mut states = vec![bits(machine)];
+    for call in calls {
+        call.apply(machine);
+        states.push(bits(machine));
     }
-    let mut writer = folder.writer(&calls);
+    let mut writer = folder.writer(calls);
     let (mut last, mut reads) = (0, 0);
     while writer.child.try_wait().unwrap().is_none() {
         let seen = read(&folder.store());
         let state = states[last..].iter().position(|state| *state == seen);
         last += state.expect("a reader sees a committed state, and none that is older than the one before");
         // the program's own readers
-        match reads % 20 {
+        match reads % 8 {
             0 => drop(folder.goes(&["status", "store"])),
-            10 => drop(folder.goes(&["verify", "store"])),
+            4 => drop(folder.goes(&["verify", "store"])),
             _ => {}
         }
         reads += 1;
     }
-    assert!(reads > 20, "{reads} readings while the writer wrote");
     let (answers, ..) = writer.end();
     assert_eq!(answers.len(), calls.len());
     assert!(read(&folder.store()) == states[calls.len()]);
+    reads
+}
+
+/// As many writers one after the other as it takes until the store was read often while they wrote.
+#[test]
+fn readers_see_committed_states_in_order() {
+    let body = Body::globe(8);
+    let folder = Folder::new("readers", &body);
+    let mut machine = body.store();
+    let mut rng = Rng(99);
+    let (mut reads, mut rounds) = (0, 0);
+    while reads < 40 {
+        let calls: Vec<Call> = (0..120).map(|_| rng.call(2000)).collect();
+        reads += read_meanwhile(&folder, &mut machine, &calls);
+        rounds += 1;
+        assert!(rounds < 100, "{reads} readings while {rounds} writers wrote");
+    }
 }
 
 #[test]
 fn another_writer_is_refused() {
-    let body = Body::globe(90);
+    let body = Body::globe(180);
     let folder = Folder::new("writers", &body);
     let kernel = Kernel { c: [0.1, 0.0, 0.1], sigma: 3.0, w: 1e3, alpha: 2.5 };
     let mut calls: Vec<Call> = (0..32).map(|place| Call::Put(place, kernel, 0)).collect();

@@ -99,7 +99,7 @@ pub fn advance(dir: &Path, steps: Option<u64>, jobs: Option<usize>) -> Result<()
     if steps.left > 0 {
         say(&format!("The rest: cauchy advance {}\n", dir.display()))?;
     }
-    if interrupt::asked() { Err(Failure::Interrupted) } else { Ok(()) }
+    if interrupt::asked() && steps.left > 0 { Err(Failure::Interrupted) } else { Ok(()) }
 }
 
 /// Plays a file of bracket lines, each line an edit of its own, and prints each answer when its edit is on the disk.
