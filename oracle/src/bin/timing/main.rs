@@ -5,6 +5,8 @@
 #[cfg(original)]
 mod adoptions;
 #[cfg(original)]
+mod bills;
+#[cfg(original)]
 mod clock;
 #[cfg(original)]
 mod closed;
@@ -44,6 +46,7 @@ fn work() {
     let mut timings = table::Timings::default();
     powers::rows(&mut timings);
     fits::rows(&mut timings);
+    bills::rows(&mut timings);
     volumes::rows(&mut timings);
     largest::rows(&mut timings);
     squeezes::rows(&mut timings);

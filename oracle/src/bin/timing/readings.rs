@@ -1,4 +1,5 @@
-//! Densities, report, list and wall page of 32 places of 16 pieces each, all work done. The platform's side has the same pieces and
+//! Densities, report, list and wall page of 32 places of 16 pieces each, all work done, and the report of what is finished with one place
+//! still to do. The platform's side has the same pieces and
 //! volumes, and does the lines of `from_toml_impl` after the decomposition, or prints by `format!`; its results are the same bits, which
 //! is asked first.
 use crate::lent::{Body, Shared};
@@ -104,6 +105,7 @@ pub fn rows(timings: &mut Timings) {
     list(timings, &store, check);
     page(timings, &store);
     report(timings, "report by mass, 512 pieces, 1,000 faces", &small, store);
+    finished(timings, &small);
     let large = Body::twenty_thousand();
     let store = full(&large);
     report(timings, "report by mass, 512 pieces, 20,000 faces", &large, store);
@@ -165,4 +167,23 @@ fn report(timings: &mut Timings, name: &str, body: &Rc<Body>, store: Shared) {
     assert_eq!(ours().map(pattern), steps().map(pattern), "report");
     let [ours, platform, steps] = [Way::new(1, ours), Way::new(1, platform), Way::new(1, steps)].map(|way| timings.way(way));
     timings.row(Row::new(name, ours).platform(platform).steps(steps));
+}
+
+fn finished(timings: &mut Timings, body: &Rc<Body>) {
+    let store = full(body);
+    store.borrow_mut().put(31, Kernel { c: [31.0, 20.0, 30.0], sigma: 0.004, w: 1190.0, alpha: 2.5 });
+    let mut pieces = Pieces::of(&store);
+    pieces.list.truncate(PIECES - 16);
+    pieces.volumes.truncate(PIECES - 16);
+    let ours = move || {
+        let lent = store.borrow();
+        let (no, report, passed) = store::finished(&lent.floats, &lent.words, Convention::mass_of(TARGET, BULK), ALL_LAYERS);
+        assert_eq!((no, passed), (0, 1));
+        report.mass
+    };
+    let body = body.clone();
+    let platform = move || pieces.report(body_volume(&body.plain));
+    assert_eq!(ours()[..6], platform()[..6], "the report of what is finished, but for the volume");
+    let [ours, platform] = [Way::new(1, ours), Way::new(1, platform)].map(|way| timings.way(way));
+    timings.row(Row::new("finished by mass, 496 of 512 pieces, 1,000 faces", ours).platform(platform));
 }
