@@ -221,9 +221,10 @@ fn several_conventions_stand_side_by_side() {
         let density = density.lines().nth(1).unwrap().split_whitespace().next().unwrap();
         assert_eq!(figures(&all, "density at the origin [kg/m³]")[column], density, "{by}");
     }
-    let heads = "mass by raw [kg]             mass by rho0 [kg]             mass by mass [kg]";
-    assert!(all.contains(heads) && figures(&all, "all").len() == 7, "{all}");
-    assert_eq!(figures(&all, "all")[3..6], figures(&all, "field mass [kg]")[..3]);
+    // raw has no column among the layers: its masses are those as entered
+    let heads = "mass as entered [kg]             mass by rho0 [kg]             mass by mass [kg]";
+    assert!(all.contains(heads) && figures(&all, "all").len() == 6, "{all}");
+    assert_eq!(figures(&all, "all")[2..5], figures(&all, "field mass [kg]")[..3]);
     let finished = folder.goes("finished store --raw --rho0 --bulk 1500");
     assert_eq!(figures(&finished, "field mass [kg]"), figures(&all, "field mass [kg]")[..2]);
     let json = folder.goes("report store --raw --mass 1e11 --json");
