@@ -171,6 +171,7 @@ fn tracks_that_need_no_work_do_not_wait_for_it() {
     folder.fails("track store t.txt --mass 1e11 --csv mass.csv", unfinished);
     folder.fails("density store 0 0 0 --mass 1e11", unfinished);
     folder.fails("report store --raw", "cauchy finished store tells what is done");
+    folder.fails("at store 2 report --raw", "cauchy at store 2 finished tells what was done by then");
     assert!(!folder.0.join("mass.csv").exists());
     assert_eq!(lines_with(&folder.read("raw.csv"), ",true").len(), 2);
 
