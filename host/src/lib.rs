@@ -35,6 +35,11 @@
 //! argument. This crate is not proved; it lends the archive private vectors, and turns its numbers into types.
 #![warn(missing_docs)]
 
+/// The program in Rust of the README, as a test.
+#[cfg(doctest)]
+#[doc = include_str!("../README.md")]
+struct Readme;
+
 mod bill;
 mod convention;
 mod convert;

@@ -631,7 +631,7 @@ fn a_store_goes_out_as_lines_and_comes_back() {
     folder.goes("resume s.snap --raw --steps 9 --snapshot half.snap");
     let output = folder.run("export half.snap");
     assert_eq!(output.stdout, lines.as_bytes());
-    let note = "cauchy: half.snap: note: 9 steps done, which lines do not tell\n";
+    let note = "cauchy: half.snap: note: the work that is done, 9 steps, is not in the lines\n";
     assert_eq!(String::from_utf8(output.stderr).unwrap(), note);
 }
 

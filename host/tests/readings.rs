@@ -171,6 +171,7 @@ fn tracks_that_need_no_work_do_not_wait_for_it() {
     folder.fails("track store t.txt --mass 1e11 --csv mass.csv", unfinished);
     folder.fails("density store 0 0 0 --mass 1e11", unfinished);
     folder.fails("report store --raw", "cauchy finished store tells what is done");
+    folder.fails("at store 2 report --raw", "cauchy at store 2 finished tells what was done by then");
     assert!(!folder.0.join("mass.csv").exists());
     assert_eq!(lines_with(&folder.read("raw.csv"), ",true").len(), 2);
 
@@ -221,9 +222,10 @@ fn several_conventions_stand_side_by_side() {
         let density = density.lines().nth(1).unwrap().split_whitespace().next().unwrap();
         assert_eq!(figures(&all, "density at the origin [kg/m³]")[column], density, "{by}");
     }
-    let heads = "mass by raw [kg]             mass by rho0 [kg]             mass by mass [kg]";
-    assert!(all.contains(heads) && figures(&all, "all").len() == 7, "{all}");
-    assert_eq!(figures(&all, "all")[3..6], figures(&all, "field mass [kg]")[..3]);
+    // raw has no column among the layers: its masses are those as entered
+    let heads = "mass as entered [kg]             mass by rho0 [kg]             mass by mass [kg]";
+    assert!(all.contains(heads) && figures(&all, "all").len() == 6, "{all}");
+    assert_eq!(figures(&all, "all")[2..5], figures(&all, "field mass [kg]")[..3]);
     let finished = folder.goes("finished store --raw --rho0 --bulk 1500");
     assert_eq!(figures(&finished, "field mass [kg]"), figures(&all, "field mass [kg]")[..2]);
     let json = folder.goes("report store --raw --mass 1e11 --json");

@@ -106,6 +106,28 @@ fn more_is_told_of_what_was_asked() {
     folder.fails("", 2, "nothing asked\n`cauchy help` tells more\n");
 }
 
+/// Each line of the help's examples, in their order and in a shell, from a folder that has the repository's example.
+#[test]
+fn the_examples_of_the_help_go_through() {
+    let folder = Folder::new("examples");
+    fs::create_dir(folder.0.join("example")).unwrap();
+    for name in ["body.obj", "kernels.txt", "kernels.lines", "track.txt"] {
+        let from = PathBuf::from(env!("CARGO_MANIFEST_DIR")).join("../example").join(name);
+        fs::copy(from, folder.0.join("example").join(name)).unwrap();
+    }
+    let program = PathBuf::from(env!("CARGO_BIN_EXE_cauchy"));
+    let tools = std::env::var("PATH").unwrap();
+    let path = format!("{}:{tools}", program.parent().unwrap().display());
+    let examples = folder.prints("help examples");
+    let lines: Vec<&str> = examples.lines().filter_map(|line| line.strip_prefix("  ")).collect();
+    assert!(lines.len() > 10 && lines.iter().all(|line| line.starts_with("cauchy ")), "{examples}");
+    for line in lines {
+        let mut shell = Command::new("sh");
+        let output = shell.current_dir(&folder.0).env("PATH", &path).args(["-c", line]).output().unwrap();
+        assert!(output.status.success(), "{line}: {output:?}");
+    }
+}
+
 #[test]
 fn a_value_stands_behind_its_option_or_an_equals_sign() {
     let folder = Folder::new("equals");

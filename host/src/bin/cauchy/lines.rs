@@ -19,7 +19,7 @@ pub fn export(from: &Path, to: Option<&Path>, overwrite: bool) -> Result<()> {
     let done = all_steps(&store) - (0..PLACES).map(|place| store.left_at(place)).sum::<u64>();
     if done > 0 {
         let steps = counted(done, "step");
-        eprintln!("cauchy: {}: note: {steps} done, which lines do not tell", name(from));
+        eprintln!("cauchy: {}: note: the work that is done, {steps}, is not in the lines", name(from));
     }
     match output {
         None => give(&bytes),

@@ -29,7 +29,7 @@ pub fn read(dir: &Path, at: Option<u64>, reading: &Reading, json: bool) -> Resul
     };
     match reading {
         Reading::Status => status(dir, &folder, json),
-        _ => readings::print(folder.store(), dir, reading, json),
+        _ => readings::print(folder.store(), dir, at, reading, json),
     }
 }
 

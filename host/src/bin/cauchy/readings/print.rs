@@ -10,9 +10,9 @@ use crate::{input, lines, opening, plot};
 use cauchy::{Convention, Layers, Refusal, Store};
 use std::path::Path;
 
-/// Prints a reading of a store that came from a folder or a file.
-pub fn print(store: &Store, from: &Path, reading: &Reading, json: bool) -> Result<()> {
-    let asked = Asked { store, from, json };
+/// Prints a reading of a store that came from a folder, as it is or as it was after a line of its log, or from a file.
+pub fn print(store: &Store, from: &Path, at: Option<u64>, reading: &Reading, json: bool) -> Result<()> {
+    let asked = Asked { store, from, at, json };
     let refused = |refusal| asked.refused(refusal);
     match reading {
         Reading::Density { point, convention, layers } => {
@@ -48,10 +48,12 @@ pub fn print_file(from: &Path, reading: &Reading, json: bool) -> Result<()> {
     match reading {
         Reading::Bill if !is_snapshot => {
             let store = &lines::store_of(from, &bytes)?;
-            Asked { store, from, json }.bill(format!("of the lines {}", name(from)), false)
+            Asked { store, from, at: None, json }.bill(format!("of the lines {}", name(from)), false)
         }
-        _ if bytes.starts_with(b"(open ") => print(&lines::store_of(from, &bytes)?, from, reading, json),
-        _ => print(&opening::snapshot_of(from, &bytes)?, from, reading, json),
+        _ if bytes.starts_with(b"(open ") => {
+            print(&lines::store_of(from, &bytes)?, from, None, reading, json)
+        }
+        _ => print(&opening::snapshot_of(from, &bytes)?, from, None, reading, json),
     }
 }
 
@@ -64,6 +66,8 @@ pub fn print_bill(files: &Files, json: bool) -> Result<()> {
 struct Asked<'a> {
     store: &'a Store,
     from: &'a Path,
+    /// The line of the log after which the store stood so, where that is asked.
+    at: Option<u64>,
     json: bool,
 }
 
@@ -71,11 +75,14 @@ impl Asked<'_> {
     /// Why a reading was refused, and where work is left what does it.
     fn refused(&self, refusal: Refusal) -> Failure {
         let path = self.from.display();
-        let how = match refusal {
-            Refusal::Unfinished if self.from.is_dir() => {
+        let how = match (refusal, self.at) {
+            (Refusal::Unfinished, Some(line)) => {
+                format!("; cauchy at {path} {line} finished tells what was done by then")
+            }
+            (Refusal::Unfinished, None) if self.from.is_dir() => {
                 format!("; cauchy advance {path} does it, cauchy finished {path} tells what is done")
             }
-            Refusal::Unfinished => "; cauchy resume does it".to_string(),
+            (Refusal::Unfinished, None) => "; cauchy resume does it".to_string(),
             _ => String::new(),
         };
         Failure::of_file(self.from, format!("{refusal}{how}"))

@@ -128,10 +128,11 @@ impl Report {
     }
 
     /// Each layer's own mass, with weights as entered, beside that of all that are read. A convention is the whole's:
-    /// a layer alone is not brought to a target.
+    /// a layer alone is not brought to a target. Raw has no column of its own: its masses are those as entered.
     fn each_layer(&self) -> String {
+        let rescaled = || self.by.iter().filter(|by| !matches!(by.convention, Convention::Raw));
         let of = |name: String, report: &StoreReport| {
-            let by = self.by.iter().map(|by| whole(by.mass_of(report))).collect();
+            let by = rescaled().map(|by| whole(by.mass_of(report))).collect();
             let [kernels, pieces] = [report.kernels, report.pieces].map(|n| n.to_string());
             layer_row(
                 [name, kernels, pieces, whole(report.mass.raw_mass)],
@@ -149,7 +150,7 @@ impl Report {
         let rows: String =
             self.by_layer.iter().map(|(layer, report)| of(layer.to_string(), report)).collect();
         let all = self.by.first().map(|by| of("all".to_string(), &by.report)).unwrap_or_default();
-        layer_row(heads, self.by.iter().map(by).collect(), error, "") + &rows + &all
+        layer_row(heads, rescaled().map(by).collect(), error, "") + &rows + &all
     }
 
     /// The title of the layers' table.
