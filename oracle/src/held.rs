@@ -2,6 +2,7 @@
 //! the store holds ("Readings use pieces and volumes as the store holds them"). Written from 01's text, sharing nothing with the proved
 //! code but the powers.
 use crate::conventions::{Convention, Reading, Report, write_list, write_track};
+use crate::lines;
 use crate::machine::{ALL_LAYERS, CORNERS, OLD_RECORD, RECORD, corners, in_set, room, set_number, squeezed};
 use crate::page::{self, Row};
 use crate::pattern;
@@ -309,6 +310,11 @@ impl Held {
     pub fn page(&self, out: &mut [u8]) -> Result<u64, u32> {
         self.sound()?;
         if self.left() > 0 { Err(8) } else { page::write(&self.page_rows(), out) }
+    }
+
+    /// 02's L10: the lines of the fields held; "19 when the writer's lent bytes are too few, after 5".
+    pub fn write(&self, out: &mut [u8]) -> Result<u64, u32> {
+        lines::write(&lines::of_runs(self)?, out)
     }
 
     pub fn filled_count(&self) -> usize {

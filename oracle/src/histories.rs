@@ -10,7 +10,8 @@ use crate::recorder::Fit;
 use crate::text::Text;
 use std::sync::LazyLock;
 
-/// A call on an opened store. A put has a layer, and each reading but the page a set of layers; a list has a run of so many floats, a track its coordinates and such a run, a page so many bytes.
+/// A call on an opened store. A put has a layer, and each reading but the page a set of layers; a list has a run of so many floats, a track
+/// its coordinates and such a run, a page and a write so many bytes.
 #[derive(Clone, Copy, Debug)]
 pub enum Call {
     Put(u32, Kernel, u32),
@@ -24,6 +25,7 @@ pub enum Call {
     List(Convention, u32, usize),
     Track(Convention, u32, &'static [f64], usize),
     Page(usize),
+    Write(usize),
 }
 
 /// What a call answers, its refusal's number or its values.
@@ -40,9 +42,10 @@ pub enum Answer {
     Listed(u32),
     Tracked(u32),
     Paged(u64),
+    Written(u64),
 }
 
-/// What is held to the store: it takes the calls that the store takes. A page is written into the bytes of its floats.
+/// What is held to the store: it takes the calls that the store takes. A page and lines are written into the bytes of its floats.
 pub trait Model {
     fn answer(&mut self, call: Call, out: &mut [f64]) -> Answer;
     fn left(&self) -> u64;
@@ -70,6 +73,7 @@ macro_rules! model {
                 Call::List(by, layers, _) => of(self.list(by, layers, out), Answer::Listed),
                 Call::Track(by, layers, points, _) => of(self.track(by, layers, points, out), Answer::Tracked),
                 Call::Page(room) => of(self.page(&mut page::bytes(out)[..room]), Answer::Paged),
+                Call::Write(room) => of(self.write(&mut page::bytes(out)[..room]), Answer::Written),
             }
         }
         fn left(&self) -> u64 {
@@ -263,7 +267,7 @@ impl Places {
     }
 }
 
-/// The next call, by where the model stands.
+/// The next call, by where the model stands; it is no write.
 pub fn call(r: &mut Rng, model: &impl Model, places: &Places) -> Call {
     match r.below(32) {
         0..=5 => Call::Put(places.one(r), kernel(r), layer(r)),
@@ -328,9 +332,13 @@ fn list_room(r: &mut Rng, model: &impl Model) -> usize {
     }
 }
 
-/// Room for all lines, for a byte less, for any count, for more.
+/// Room for all lines of a page.
 pub fn page_room(r: &mut Rng, model: &impl Model) -> usize {
-    let full = 65 * (model.filled_count() + 1);
+    byte_room(r, 65 * (model.filled_count() + 1))
+}
+
+/// Room for so many bytes, for a byte less, for any count, for more.
+pub fn byte_room(r: &mut Rng, full: usize) -> usize {
     match r.below(8) {
         0 => full - 1,
         1 => r.below(full as u64) as usize,

@@ -355,6 +355,11 @@ impl<T: Text> Machine<T> {
         lines::text(&Telling { radius: self.radius, xyz: &self.xyz, faces: &self.faces, puts })
     }
 
+    /// "It answers its byte count"; 19.
+    pub fn write(&self, out: &mut [u8]) -> Result<u64, u32> {
+        lines::write(&self.lines(), out)
+    }
+
     /// How many places are filled.
     pub fn filled_count(&self) -> usize {
         self.places.iter().flatten().count()

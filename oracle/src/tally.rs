@@ -2,24 +2,32 @@
 use crate::inputs::Rng;
 use std::collections::BTreeMap;
 
-/// What the command line asks for.
+/// What the command line asks for. `alone` is whether it asks for one part of a comparison, in its long form.
 pub struct Plan {
     long: bool,
     seed: u64,
+    pub alone: bool,
 }
 
 impl Plan {
     /// `[--long] [--seed N]`, or the program ends with its usage.
     pub fn read(name: &str) -> Plan {
-        let mut plan = Plan { long: false, seed: 1 };
+        Plan::read_with(name, None)
+    }
+
+    /// The same; in place of `--long` there may be the word for a part alone.
+    pub fn read_with(name: &str, part: Option<&str>) -> Plan {
+        let mut plan = Plan { long: false, seed: 1, alone: false };
         let mut words = std::env::args().skip(1);
         while let Some(word) = words.next() {
             let seed = if word == "--seed" { words.next().and_then(|n| n.parse().ok()) } else { None };
             match (word.as_str(), seed) {
                 ("--long", _) => plan.long = true,
+                (word, _) if Some(word) == part => (plan.long, plan.alone) = (true, true),
                 (_, Some(n)) => plan.seed = n,
                 _ => {
-                    eprintln!("usage: {name} [--long] [--seed N]");
+                    let part = part.map_or(String::new(), |part| format!(" | {part}"));
+                    eprintln!("usage: {name} [--long{part}] [--seed N]");
                     std::process::exit(2);
                 }
             }

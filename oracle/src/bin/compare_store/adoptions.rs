@@ -3,7 +3,7 @@
 use crate::adoption_kinds::{self, Past, Taken, Told};
 use crate::carries::same_bits;
 use crate::damage::worked;
-use crate::judge::{Runs, differs, fields, float_differs, lent, opened, wanted};
+use crate::judge::{Runs, differs, fields, float_differs, lent, opened, runs_differ, wanted};
 use crate::squeezes::touch_freed;
 use oracle::cases::{self, one};
 use oracle::held::{Held, store_number};
@@ -14,7 +14,7 @@ use oracle::pieces::Kernel;
 use oracle::step;
 use oracle::store;
 use oracle::tally::{Kinds, Tally};
-use oracle::text::ByArchive;
+use oracle::text::{ByArchive, Text};
 
 /// One store of several: its runs, its machine, and what was done with them.
 struct One {
@@ -73,7 +73,7 @@ fn any_nan(r: &mut Rng) -> f64 {
 }
 
 /// A body, at times with a NaN or a zero among its coordinates, or a NaN as its radius.
-fn body(r: &mut Rng) -> Body {
+pub fn body(r: &mut Rng) -> Body {
     let mut body = histories::body(r);
     for x in [any_nan(r), either_zero(r)] {
         if r.below(4) == 0 && !body.xyz.is_empty() {
@@ -98,7 +98,7 @@ fn coordinate(r: &mut Rng, xyz: &[f64]) -> usize {
 }
 
 /// A body that is this one, or differs from it in one thing that is hard to see, or has NaNs of other bits.
-fn relative(r: &mut Rng, body: &Body) -> Body {
+pub fn relative(r: &mut Rng, body: &Body) -> Body {
     let mut other = body.clone();
     let (verts, faces) = (body.xyz.len() / 3, body.faces.len() / 3);
     match r.below(20) {
@@ -125,25 +125,34 @@ fn relative(r: &mut Rng, body: &Body) -> Body {
     other
 }
 
+/// A place of a store, and one of another to be taken into it: mostly one that is filled.
+pub fn between(r: &mut Rng, other: &Runs, places: &Places) -> (u32, u32) {
+    let choice = filled(&other.words);
+    let j = if choice.is_empty() || r.below(8) == 0 { places.one(r) } else { one(r, &choice) };
+    let i = if r.below(3) == 0 { j } else { places.one(r) };
+    (i, j)
+}
+
+/// One adoption beside the machines': what is wrong with it, and what they ask for.
+pub fn taken<T: Text>(own: (&mut Runs, &mut Machine<T>), other: (&Runs, &Machine<T>), (i, j): (u32, u32)) -> (Option<String>, Told) {
+    let before = own.0.clone();
+    let (fault, by_fields) = adopted(own.0, other.0, (i, j));
+    let want = own.1.adopt(i, other.1, j);
+    let (want_runs, alike) = wanted(&before, 0, own.1.fields());
+    let answers = || (by_fields != want).then(|| format!("{by_fields:?}, by the machine {want:?}"));
+    (fault.or_else(answers).or_else(|| runs_differ(own.0, &want_runs, alike)), want)
+}
+
 /// An adoption between two of the stores, beside the machines'.
 fn adoption(r: &mut Rng, stores: &mut [One], places: &Places, kinds: &mut Kinds) -> (Option<String>, String) {
     let at = r.below(3) as usize;
     let from = (at + 1 + r.below(2) as usize) % 3;
     let [own, other] = stores.get_disjoint_mut([at, from]).unwrap();
-    let choice = filled(&other.runs.words);
-    let j = if choice.is_empty() || r.below(8) == 0 { places.one(r) } else { one(r, &choice) };
-    let i = if r.below(3) == 0 { j } else { places.one(r) };
+    let (i, j) = between(r, &other.runs, places);
     let past = Past { squeezed: [own.squeezed, other.squeezed], taken: other.taken.0.get(j as usize) == Some(&true) };
     let before = own.runs.clone();
-    let (fault, by_fields) = adopted(&mut own.runs, &other.runs, (i, j));
-    let want = own.machine.adopt(i, &other.machine, j);
+    let (fault, want) = taken((&mut own.runs, &mut own.machine), (&other.runs, &other.machine), (i, j));
     adoption_kinds::add(kinds, &before, &other.runs, (i, j), want, past);
-    let (want_runs, alike) = wanted(&before, 0, own.machine.fields());
-    let float = float_differs(&own.runs.floats, &want_runs.floats, alike);
-    let fault = fault.or_else(|| {
-        let differs = by_fields != want || float.is_some() || own.runs.words != want_runs.words;
-        differs.then(|| format!("{by_fields:?}, by the machine {want:?}; float {float:?} or a word"))
-    });
     if let Ok(Some(_)) = want {
         own.taken.0[i as usize] = true;
     }
@@ -214,7 +223,7 @@ pub fn histories(count: u64, mut r: Rng, kinds: &mut Kinds) -> Tally {
 /// A store with kernels in some places, some of the work done.
 fn begun(r: &mut Rng) -> Runs {
     let body = body(r);
-    let (mut runs, mut machine, fault) = opened(r, &body);
+    let (mut runs, mut machine, fault) = opened::<ByArchive>(r, &body);
     assert!(fault.is_none());
     for place in 0..PLACES as u32 {
         if r.below(4) == 0 {
@@ -239,7 +248,8 @@ fn worker(store: &Runs, own: &[u32]) -> Runs {
     copy
 }
 
-fn left(runs: &mut Runs) -> u64 {
+/// What an advance of 0 says is left.
+pub fn left(runs: &mut Runs) -> u64 {
     store::advance(&mut runs.floats, &mut runs.words, 0).left
 }
 

@@ -1,7 +1,7 @@
 //! Carries: 02's L6. A store of the form before layers, as its calls left it at any moment, is carried over and goes on. Its kernels were
 //! put with the powers of 02's L2, or with 01's steps alone, as stores were before it.
 use crate::carry_kinds::{self, Before, Since};
-use crate::judge::{Runs, differs, fields, float_differs, lent, reads};
+use crate::judge::{Runs, differs, fields, float_differs, lent, reads, runs_differ};
 use crate::squeezes::altered;
 use oracle::cases::{self, one};
 use oracle::held::{Held, carry_number};
@@ -14,17 +14,17 @@ use oracle::tally::{Kinds, Tally};
 use oracle::text::{BeforeTens, ByArchive, Text};
 
 /// Runs of any contents.
-fn garbage(r: &mut Rng, floats: usize, words: usize) -> Runs {
+pub fn garbage(r: &mut Rng, floats: usize, words: usize) -> Runs {
     Runs { floats: cases::garbage(r, floats), words: (0..words).map(|_| r.word() as u32).collect() }
 }
 
 /// A copied NaN is the same NaN, so bits are compared.
 pub fn same_bits(a: &Runs, b: &Runs) -> bool {
-    float_differs(&a.floats, &b.floats, 0).is_none() && a.words == b.words
+    runs_differ(a, b, 0).is_none()
 }
 
 /// One carry into runs of these lengths, whatever they hold: what is wrong with it, the number that 02 asks, and what it leaves.
-fn carried(r: &mut Rng, old: &Runs, floats: usize, words: usize) -> (Option<String>, u32, Runs) {
+pub fn carried(r: &mut Rng, old: &Runs, floats: usize, words: usize) -> (Option<String>, u32, Runs) {
     let mut new = garbage(r, floats, words);
     let (mut want, mut counts) = (new.clone(), (0, 0));
     let no = carry_number(&old.floats, &old.words, floats, words);
@@ -49,14 +49,14 @@ fn carried(r: &mut Rng, old: &Runs, floats: usize, words: usize) -> (Option<Stri
 }
 
 /// A store's two runs with some excess.
-fn with_excess(r: &mut Rng, (floats, words): (Vec<f64>, Vec<u32>)) -> Runs {
+pub fn with_excess(r: &mut Rng, (floats, words): (Vec<f64>, Vec<u32>)) -> Runs {
     let more = (r.below(7) as usize, r.below(7) as usize);
     let more = garbage(r, more.0, more.1);
     Runs { floats: [floats, more.floats].concat(), words: [words, more.words].concat() }
 }
 
 /// The lengths that a carry of this store needs.
-fn needed(old: &Runs) -> (usize, usize) {
+pub fn needed(old: &Runs) -> (usize, usize) {
     machine::room(old.words[0] as usize, old.words[1] as usize)
 }
 

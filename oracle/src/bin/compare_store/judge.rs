@@ -6,6 +6,7 @@ use oracle::conventions::Report;
 use oracle::held::Held;
 use oracle::histories::{self, Answer, Body, Call, Model, Places};
 use oracle::inputs::Rng;
+use oracle::lines::{Bytes, store_write};
 use oracle::machine::{self, ALL_LAYERS, Machine};
 use oracle::page;
 use oracle::pattern;
@@ -13,7 +14,7 @@ use oracle::pieces;
 use oracle::recorder::Fit;
 use oracle::store;
 use oracle::tally::Tally;
-use oracle::text::ByArchive;
+use oracle::text::{ByArchive, Text};
 
 /// The two runs that the archive's store lives in.
 #[derive(Clone)]
@@ -82,6 +83,10 @@ impl Runs {
             Call::Page(room) => {
                 let (no, bytes) = store::page(&self.floats, &self.words, &mut page::bytes(out)[..room]);
                 told(no, &[bytes as f64], Answer::Paged(bytes))
+            }
+            Call::Write(room) => {
+                let Bytes { no, bytes } = store_write(&self.floats, &self.words, &mut page::bytes(out)[..room]);
+                told(no, &[bytes as f64], Answer::Written(bytes))
             }
             _ => unreachable!("no reading"),
         }
@@ -180,7 +185,7 @@ pub fn same(a: Answer, b: Answer) -> bool {
         (Answer::Freed(x), Answer::Freed(y)) => x == y,
         (Answer::Value(x), Answer::Value(y)) => floats(&[x], &[y]),
         (Answer::Listed(x), Answer::Listed(y)) | (Answer::Tracked(x), Answer::Tracked(y)) => x == y,
-        (Answer::Paged(x), Answer::Paged(y)) => x == y,
+        (Answer::Paged(x), Answer::Paged(y)) | (Answer::Written(x), Answer::Written(y)) => x == y,
         (Answer::Report(x), Answer::Report(y)) => reports(&x, &y),
         (Answer::Finished(x, m), Answer::Finished(y, n)) => m == n && reports(&x, &y),
         _ => false,
@@ -198,6 +203,15 @@ fn told_of(what: &str, at: usize, is: &[f64], want: &[f64]) -> String {
     format!("{what} {at}: {:016x}, not {:016x}", bits(is), bits(want))
 }
 
+/// The first float or word of a store's runs that differs: floats as numbers up to `alike`, bit for bit past it.
+pub fn runs_differ(is: &Runs, want: &Runs, alike: usize) -> Option<String> {
+    if let Some(at) = float_differs(&is.floats, &want.floats, alike) {
+        return Some(told_of("float", at, &is.floats, &want.floats));
+    }
+    let at = (0..is.words.len().max(want.words.len())).find(|i| is.words.get(*i) != want.words.get(*i))?;
+    Some(format!("word {at}: {:?}, not {:?}", is.words.get(at), want.words.get(at)))
+}
+
 /// The runs as the call must leave them, and how many floats are the model's: its fields, zeros where it had some that a squeeze gave up,
 /// and the excess as it was.
 pub fn wanted(before: &Runs, had: usize, (mut floats, mut words): (Vec<f64>, Vec<u32>)) -> (Runs, usize) {
@@ -208,7 +222,7 @@ pub fn wanted(before: &Runs, had: usize, (mut floats, mut words): (Vec<f64>, Vec
     (Runs { floats, words }, own)
 }
 
-/// How many floats of a lent run an answer says are written; the bytes of a page are no floats, and are compared as they are.
+/// How many floats of a lent run an answer says are written; the bytes of a page or of lines are no floats, and are compared as they are.
 fn written(answer: Answer) -> usize {
     match answer {
         Answer::Listed(n) => 6 * n as usize,
@@ -231,7 +245,7 @@ pub fn set_of(call: Call) -> Option<u32> {
 
 /// Whether the call only reads the store.
 pub fn reads(call: Call) -> bool {
-    matches!(call, Call::Density(..) | Call::Report(..) | Call::Finished(..) | Call::List(..) | Call::Track(..) | Call::Page(_))
+    set_of(call).is_some() || matches!(call, Call::Page(_) | Call::Write(_))
 }
 
 /// One call on both: the answer, the lent run, and the runs, which `fields` then says of the model. A refused call and a reading leave
@@ -253,12 +267,9 @@ pub fn differs<M: Model>(
         Some(format!("{told:?}, not {want:?}"))
     } else if let Some(at) = float_differs(&out, &want_out, written(want)) {
         Some(told_of("lent float", at, &out, &want_out))
-    } else if let Some(at) = float_differs(&runs.floats, &want_runs.floats, own_floats) {
-        Some(told_of("float", at, &runs.floats, &want_runs.floats))
-    } else if runs.words != want_runs.words {
-        let at = (0..runs.words.len()).find(|i| runs.words[*i] != want_runs.words[*i]).unwrap();
-        Some(format!("word {at}: {}, not {}", runs.words[at], want_runs.words[at]))
-    } else if stays && (float_differs(&runs.floats, &before.floats, 0).is_some() || runs.words != before.words) {
+    } else if let Some(what) = runs_differ(runs, &want_runs, own_floats) {
+        Some(what)
+    } else if stays && runs_differ(runs, &before, 0).is_some() {
         Some("a refusal or a reading wrote into the store".into())
     } else {
         None
@@ -266,11 +277,11 @@ pub fn differs<M: Model>(
     (difference, told, want)
 }
 
-/// A run for a list or a track, and one whose bytes are more than a page has; no other call is lent one.
+/// A run for a list or a track, and one whose bytes are more than a page or lines have; no other call is lent one.
 pub fn lent(r: &mut Rng, call: Call) -> Vec<f64> {
     match call {
         Call::List(_, _, room) | Call::Track(_, _, _, room) => cases::garbage(r, room),
-        Call::Page(room) => cases::garbage(r, room / 8 + 2),
+        Call::Page(room) | Call::Write(room) => cases::garbage(r, room / 8 + 2),
         _ => Vec::new(),
     }
 }
@@ -296,18 +307,17 @@ fn of_machine(name: &str, count: u64, calls: usize, mut r: Rng) -> Tally {
 }
 
 /// A store on the body, its runs somewhat longer than it needs, the machine beside it, and what the opening did wrong.
-pub fn opened(r: &mut Rng, body: &Body) -> (Runs, Machine<ByArchive>, Option<store::Opened>) {
+pub fn opened<T: Text>(r: &mut Rng, body: &Body) -> (Runs, Machine<T>, Option<store::Opened>) {
     let (floats, words) = machine::room(body.xyz.len() / 3, body.faces.len() / 3);
     let (more_floats, more_words) = (r.below(9) as usize, r.below(9) as usize);
     let mut runs =
         Runs { floats: cases::garbage(r, floats + more_floats), words: (0..words + more_words).map(|_| r.word() as u32).collect() };
     let before = runs.clone();
     let told = store::open(&mut runs.floats, &mut runs.words, body.radius, &body.xyz, &body.faces);
-    let machine = Machine::<ByArchive>::open(&body.xyz, &body.faces, body.radius);
+    let machine = Machine::open(&body.xyz, &body.faces, body.radius);
     let (want, own) = wanted(&before, 0, machine.fields());
     let as_asked = (told.no, told.verts as usize, told.faces as usize) == (0, body.xyz.len() / 3, body.faces.len() / 3)
-        && float_differs(&runs.floats, &want.floats, own).is_none()
-        && runs.words == want.words;
+        && runs_differ(&runs, &want, own).is_none();
     (runs, machine, if as_asked { None } else { Some(told) })
 }
 

@@ -10,7 +10,10 @@
 //! Then adoptions: histories of three stores on bodies that are the same or differ in one thing, places taken from one into another at
 //! any moment, each store beside its machine; the work of a store done by many hands, in any split and order; stores that nobody opened,
 //! runs too short, every damage of one word of either store, and the largest body. Each kind of adoption must have been met.
-//! `compare_store` takes a few seconds, `compare_store --long` 10,000 histories; `--seed N` draws others.
+//! Last, whole histories of 50 calls: all of that in one list, with lines written and read back at any moment. Each call must have been
+//! met with each answer that it can have in a history.
+//! `compare_store` takes some seconds, `compare_store --long` 10,000 histories, of whole ones too; `compare_store --whole` is the latter
+//! alone. `--seed N` draws others.
 //! The last line counts what differs; the exit status is 1 if anything does.
 #[cfg(original)]
 mod adoption_kinds;
@@ -30,6 +33,13 @@ mod openings;
 mod squeezes;
 #[cfg(original)]
 mod tracks;
+#[cfg(original)]
+mod whole;
+#[cfg(original)]
+mod whole_kinds;
+
+#[cfg(original)]
+use oracle::tally::{Kinds, Plan, Tally};
 
 fn main() {
     oracle::by_original!(work());
@@ -37,8 +47,24 @@ fn main() {
 
 #[cfg(original)]
 fn work() {
-    let plan = oracle::tally::Plan::read("compare_store");
-    let mut total = oracle::tally::Tally::new();
+    let plan = Plan::read_with("compare_store", Some("--whole"));
+    let mut total = Tally::new();
+    if !plan.alone {
+        parts(&plan, &mut total);
+    }
+    let mut kinds = Kinds::default();
+    total.add(whole::histories(plan.count(200, 10_000), plan.rng(21), &mut kinds));
+    total.add(kinds.all_met("whole", "calls", &whole_kinds::in_any(), plan.count(1, 20)));
+    if plan.count(0, 1) > 0 {
+        whole_kinds::print(&kinds);
+        total.add(kinds.all_met("whole", "calls and beginnings", &whole_kinds::in_many(), 20));
+    }
+    total.end();
+}
+
+/// Calls, carries and adoptions, each for itself.
+#[cfg(original)]
+fn parts(plan: &Plan, total: &mut Tally) {
     total.add(judge::histories(plan.count(60, 10_000), plan.rng(0)));
     total.add(judge::long_histories(plan.count(1, 20), plan.rng(1)));
     total.add(judge::unopened(plan.count(40, 2_000), plan.rng(2)));
@@ -48,7 +74,7 @@ fn work() {
     total.add(damage::wild(plan.count(2_000, 100_000), plan.rng(4)));
     total.add(damage::short(plan.count(40, 1_000), plan.rng(5)));
     total.add(damage::every_word(plan.count(2, 60), plan.rng(6)));
-    let mut kinds = oracle::tally::Kinds::default();
+    let mut kinds = Kinds::default();
     total.add(carries::received(plan.count(60, 4_000), plan.rng(8), &mut kinds));
     total.add(carries::begun(plan.count(30, 2_000), plan.rng(9), &mut kinds));
     total.add(carries::fitted_before(plan.count(100, 6_000), plan.rng(10), &mut kinds));
@@ -57,7 +83,7 @@ fn work() {
     total.add(carries::every_word(plan.count(2, 60), plan.rng(13), &mut kinds));
     total.add(carries::at_the_limits(plan.rng(14)));
     total.add(kinds.all_met("carry", "carries", &carry_kinds::all(), plan.count(1, 20)));
-    let mut kinds = oracle::tally::Kinds::default();
+    let mut kinds = Kinds::default();
     total.add(adoptions::histories(plan.count(60, 6_000), plan.rng(15), &mut kinds));
     total.add(adoptions::many_hands(plan.count(60, 4_000), plan.rng(16), &mut kinds));
     total.add(adoptions::unopened(plan.count(200, 10_000), plan.rng(17)));
@@ -65,5 +91,4 @@ fn work() {
     total.add(adoptions::every_word(plan.count(1, 30), plan.rng(19)));
     total.add(adoptions::largest(plan.rng(20), &mut kinds));
     total.add(kinds.all_met("adopt", "adoptions", &adoption_kinds::ALL, plan.count(1, 20)));
-    total.end();
 }

@@ -6,6 +6,7 @@ use oracle::inputs::Rng;
 use oracle::machine::{CORNERS, FACES, Machine, VERTS};
 use oracle::pieces::Kernel;
 use oracle::tally::Tally;
+use oracle::text::ByArchive;
 
 /// The same call on another store, which gets every call but the squeezes: "Later readings and step counts are then the same as without
 /// it". The places' fields are the same too.
@@ -53,7 +54,7 @@ pub fn largest(count: u64, mut r: Rng) -> Tally {
         let faces = (0..3 * FACES).map(|at| corner(&mut r, at) as u32).collect();
         let xyz = (0..3 * VERTS).map(|_| r.within(-400.0, 400.0)).collect();
         let body = Body { xyz, faces, radius: 500.0 };
-        let (mut runs, mut machine, fault) = opened(&mut r, &body);
+        let (mut runs, mut machine, fault) = opened::<ByArchive>(&mut r, &body);
         assert!(fault.is_none());
         let kernel = Kernel { c: [1.0, 2.0, 3.0], sigma: 0.004, w: 1190.0, alpha: 1.0 };
         for call in [Call::Put(3, kernel, 0), Call::Advance(1_000), Call::Squeeze, Call::Advance(1_000), Call::Squeeze] {

@@ -213,7 +213,7 @@ fn call_line(r: &mut Rng, call: Call) -> Option<String> {
         Call::Advance(n) => format!("(advance {n})"),
         Call::Density(by, _, at) => format!("(density {} {})", convention(r, by), hs(r, &at)),
         Call::Report(by, _) => format!("(report {})", convention(r, by)),
-        Call::Finished(..) | Call::List(..) | Call::Track(..) | Call::Page(_) | Call::Squeeze => return None,
+        Call::Finished(..) | Call::List(..) | Call::Track(..) | Call::Page(_) | Call::Write(_) | Call::Squeeze => return None,
     })
 }
 

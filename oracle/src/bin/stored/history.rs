@@ -157,6 +157,7 @@ fn named(call: Call) -> String {
         Call::List(by, _, room) => format!("list {room}{}", convention(by)),
         Call::Track(by, _, points, room) => format!("track {} {room}{}", points.len(), convention(by)),
         Call::Page(room) => format!("page {room}"),
+        Call::Write(room) => format!("write {room}"),
     }
 }
 
@@ -180,7 +181,7 @@ fn answer(told: Answer) -> String {
         Answer::Finished(report, passed) => format!("{} passed {passed}", masses(report)),
         Answer::Listed(pieces) => format!(" pieces {pieces}"),
         Answer::Tracked(points) => format!(" points {points}"),
-        Answer::Paged(bytes) => format!(" bytes {bytes}"),
+        Answer::Paged(bytes) | Answer::Written(bytes) => format!(" bytes {bytes}"),
     }
 }
 
