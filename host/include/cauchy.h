@@ -78,8 +78,8 @@ enum {
     CAUCHY_UNFINISHED = 8,       /* work is left that this reading needs: advance first */
     CAUCHY_SHORT_LIST = 9,       /* the run to be written is too short, or a kernel list is not of sixes */
     CAUCHY_BAD_MATRIX = 10,      /* n above 16, or lengths that do not go with n */
-    CAUCHY_FLAT_PIVOT = 11,      /* the equations have no usable pivot in some column */
-    CAUCHY_EXPONENT = 12,        /* an exponent is not 1, where only 1 can be integrated */
+    CAUCHY_FLAT_PIVOT = 11,      /* the pivot chosen in some column is at most 1e-18 in absolute value */
+    CAUCHY_EXPONENT = 12,        /* an exponent more than 1e-9 from 1, where only 1 can be integrated; a NaN passes */
     CAUCHY_BAD_LINE = 13,        /* the bytes are not one whole opening and then puts */
     CAUCHY_BAD_TRACK = 14,       /* a track of more than 4,096 points or not of threes, or its run is too short */
     CAUCHY_MANY_KERNELS = 15,    /* more kernels to be billed than a store has places */
