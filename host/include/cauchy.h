@@ -375,8 +375,9 @@ CauchyListed cauchy_store_list(const double *floats, size_t n_floats, const uint
                                CauchyConvention convention, uint32_t layers, double *out, size_t n_out);
 
 /* Writes the density at each point of a track, in order; doubles past them stay. Each is what
- * cauchy_store_density answers at that point, but the store is looked over and the scale is worked once
- * for the whole track. `n_points` counts doubles, three a point. No points: nothing is written.
+ * cauchy_store_density answers at that point, but the store is looked over, and the scale and the rescaled
+ * weights are worked, once for the whole track. `n_points` counts doubles, three a point. No points: nothing is
+ * written.
  *                                                                      4 5 16 8 14; 8 as for a density */
 CAUCHY_MUST_USE
 CauchyTrack cauchy_store_track(const double *floats, size_t n_floats, const uint32_t *words, size_t n_words,
