@@ -78,8 +78,8 @@ enum {
     CAUCHY_UNFINISHED = 8,       /* work is left that this reading needs: advance first */
     CAUCHY_SHORT_LIST = 9,       /* the run to be written is too short, or a kernel list is not of sixes */
     CAUCHY_BAD_MATRIX = 10,      /* n above 16, or lengths that do not go with n */
-    CAUCHY_FLAT_PIVOT = 11,      /* the equations have no usable pivot in some column */
-    CAUCHY_EXPONENT = 12,        /* an exponent is not 1, where only 1 can be integrated */
+    CAUCHY_FLAT_PIVOT = 11,      /* the pivot chosen in some column is at most 1e-18 in absolute value */
+    CAUCHY_EXPONENT = 12,        /* an exponent more than 1e-9 from 1, where only 1 can be integrated; a NaN passes */
     CAUCHY_BAD_LINE = 13,        /* the bytes are not one whole opening and then puts */
     CAUCHY_BAD_TRACK = 14,       /* a track of more than 4,096 points or not of threes, or its run is too short */
     CAUCHY_MANY_KERNELS = 15,    /* more kernels to be billed than a store has places */
@@ -375,8 +375,9 @@ CauchyListed cauchy_store_list(const double *floats, size_t n_floats, const uint
                                CauchyConvention convention, uint32_t layers, double *out, size_t n_out);
 
 /* Writes the density at each point of a track, in order; doubles past them stay. Each is what
- * cauchy_store_density answers at that point, but the store is looked over and the scale is worked once
- * for the whole track. `n_points` counts doubles, three a point. No points: nothing is written.
+ * cauchy_store_density answers at that point, but the store is looked over, and the scale and the rescaled
+ * weights are worked, once for the whole track. `n_points` counts doubles, three a point. No points: nothing is
+ * written.
  *                                                                      4 5 16 8 14; 8 as for a density */
 CAUCHY_MUST_USE
 CauchyTrack cauchy_store_track(const double *floats, size_t n_floats, const uint32_t *words, size_t n_words,

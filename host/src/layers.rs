@@ -147,7 +147,7 @@ impl Seen<'_> {
         Ok(Finished { report, passed_over: told.passed_over })
     }
 
-    /// As [`Store::list`], of these places.
+    /// As [`Store::list`], of these places. By mass with a target above 0 it needs their work done.
     pub fn list(&self, convention: Convention) -> Result<Vec<Kernel>, Refusal> {
         let mut out = vec![0.0; PLACES as usize * MAX_PIECES * 6];
         let (floats, words) = (&self.store.floats, &self.store.words);
@@ -167,7 +167,7 @@ impl Seen<'_> {
         Refusal::check(told.no).map(|()| Kernel::listed(&out, told.pieces as usize))
     }
 
-    /// As [`Store::track`], of these places.
+    /// As [`Store::track`], of these places. By mass with a target above 0 it needs their work done.
     pub fn track(
         &self,
         convention: Convention,
@@ -194,7 +194,7 @@ impl Seen<'_> {
         Refusal::check(told.no).map(|()| told.points as usize)
     }
 
-    /// As [`Store::densities`], of these places.
+    /// As [`Store::densities`], of these places. By mass with a target above 0 it needs their work done.
     pub fn densities(&self, convention: Convention, points: &[[f64; 3]]) -> Result<Vec<f64>, Refusal> {
         let mut out = vec![0.0; points.len()];
         let mut done = 0;

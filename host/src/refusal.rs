@@ -35,9 +35,9 @@ pub enum Refusal {
     ShortList = 9,
     /// More than 16 equations, or lengths that do not go with their count.
     BadMatrix = 10,
-    /// The equations have no usable pivot in some column.
+    /// The pivot chosen in some column of the equations is at most 1e-18 in absolute value.
     FlatPivot = 11,
-    /// An exponent is not 1, where only 1 can be integrated.
+    /// An exponent is farther than 1e-9 from 1, where only 1 can be integrated. A NaN passes.
     Exponent = 12,
     /// The bytes are not one whole opening and then puts.
     BadLine = 13,

@@ -8,7 +8,7 @@ use std::fmt;
 pub enum SolveError {
     /// More than 16 equations, or lengths that do not fit.
     BadMatrix,
-    /// No pivot of this column, from 0, is above 1e-18 in absolute value.
+    /// The pivot chosen in this column, from 0, is at most 1e-18 in absolute value.
     FlatPivot {
         /// The column.
         column: u32,

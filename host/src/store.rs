@@ -480,8 +480,9 @@ impl Store {
     }
 
     /// Writes the density at each point of a track of up to [`MAX_TRACK`] points, kg/m³, in order, and answers how
-    /// many that are; floats past them stay. Each is what [`Store::density`] gives, but the store is looked over
-    /// and the scale is worked once for the whole track. By mass with a target above 0 it needs all work done.
+    /// many that are; floats past them stay. Each is what [`Store::density`] gives, but the store is looked over,
+    /// and the scale and the rescaled weights are worked, once for the whole track. By mass with a target above 0 it
+    /// needs all work done.
     ///
     /// ```
     /// # use cauchy::{Convention, Kernel, Mesh, Refusal, Store};

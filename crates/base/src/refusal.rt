@@ -1,8 +1,8 @@
-// The refusals of document 01's table, whose numbers every call answers.
+// The refusals of document 01's table and of 02, whose numbers every call answers.
 ghost use mathlib.Core.Path.{_≡_};
 ghost use Rattle.base.specs.Refusals.{number};
 
-// A refusal, by 01's trade word.
+// A refusal: up to 13 by 01's trade word, then 02's.
 pub enum Refusal {
     // 1: a coordinate or index count is not a multiple of 3
     Ragged,
@@ -16,7 +16,7 @@ pub enum Refusal {
     Unsound,
     // 6: the place is 32 or more
     NoPlace,
-    // 7: the place to clear or reweigh is empty
+    // 7: the place to clear, reweigh or adopt is empty
     Vacant,
     // 8: work is left that this reading needs
     Unfinished,
@@ -68,7 +68,7 @@ pub enum Printed {
     Refused(Refusal),
 }
 
-// 01's number of a refusal.
+// 01's or 02's number of a refusal.
 pub fn refusal_number(refusal: Refusal) -> u32
     ensures { λ r. ⌜ r ≡ number refusal ⌝ }
 {

@@ -1,4 +1,5 @@
--- 01, "The store": when a store is sound, and the refusals 4 to 7 of a call on one. Definitions only.
+-- 01, "The store": when a store is sound, and the refusals 4 to 7 of a call on one; 02, L5: 16 of a layer. Definitions
+-- only.
 use mathlib.Core.Bool.{Bool, _&&_, cond}
 use mathlib.Core.List.{List}
 use Prim.Native.Nat.{ℕ, _+_, _*_, _-_}
@@ -13,7 +14,8 @@ use Rattle.base.specs.declared.refusal.Checked.the-variants.{Passed, Failed}
 use Rattle.mesh.specs.Checks.{vertexLimit, faceLimit, allBelow}
 use Rattle.layout.specs.Layout.{placeLimit, pieceLimit, coordsFrom, cornersFrom, cornersOf, vertsOf, facesOf, statusOf, finishedOf, doneOf, layerLimit, layerOf}
 
--- "both lengths suffice"; a run of under 130 words is too short for any F, so also for the 0 that is read past its end
+-- "both lengths suffice"; a run that ends before its corners begin, at word 130 or in the old form 98, is too short for
+-- any F, so also for the 0 that is read past its end
 unfoldable pub longEnough : ℕ → List Float → List ℕ → Bool
 longEnough q fs ws = leb (cornersFrom q + 3 * facesOf ws) (length ws) && leb (coordsFrom + 3 * vertsOf ws) (length fs)
 

@@ -1,5 +1,5 @@
 -- 01, "The store": "Readings (density, report, list) take filled places in order", which pieces, which scale, and what
--- is made of them; 02, L1, the track. Definitions only.
+-- is made of them; 02, L1, the track, and L5, a set of layers. Definitions only.
 use mathlib.Core.Bool.{Bool, true, false, _&&_, cond}
 use mathlib.Core.List.{List, [], _∷_, _++_, map}
 use Prim.Native.Nat.{ℕ, zero, suc, _+_, _*_, _-_, _/_, _%_}
@@ -200,13 +200,13 @@ seenBy q fs ws body =
 unfoldable pub heldSeen : ℕ → List Float → List ℕ → Seen
 heldSeen q fs ws = seenBy q fs ws (bodyVolume (held q fs ws (vertsOf ws) (facesOf ws)) (facesOf ws))
 
--- the contract of the four readings; none changes the store
+-- where a check of the store or of its layers refuses
 abbrev pub guardedRead : Checked → Reading → Outcome → Outcome
 guardedRead Passed r good = good
 guardedRead (Failed e) r good = refusing r e
 
--- 02, L5: a reading of a set of layers is that of the store whose other places are empty; "16 when a layer is above 15"
--- comes after 5 and before 8
+-- the contract of the four readings, none of which changes the store. 02, L5: a reading of a set of layers is that of
+-- the store whose other places are empty; "16 when a layer is above 15" comes after 5 and before 8
 unfoldable pub readStep : ℕ → List Float → List ℕ → ℕ → Reading → Outcome
 readStep q fs ws layers r =
     let seen = inLayers q layers ws in

@@ -94,8 +94,8 @@ fn one_by_one(
     }
 }
 
-// Writes the densities at the first `count` points, by a scale. For a few of them it does not pay to lay the pieces
-// down.
+// Writes the densities at the first `count` points, by a scale. The rescaled weights are worked once for the track (02,
+// L1): of one point each where it is added, of more the rescaled pieces are laid down first.
 fn trace(
     floats: &[f64],
     words: &[u32],
@@ -111,7 +111,7 @@ fn trace(
         (densitiesAlong s (map bare (heldAll width (now (floats .entry)) (now (words .entry)) placeLimit))
         (now (points .entry)) count) ⌝ }
 {
-    if count < 8 {
+    if count < 2 {
         one_by_one(floats, words, faces, s, points, count, out);
     } else {
         side_by_side(floats, words, faces, s, points, count, out);

@@ -102,7 +102,8 @@ class BadMatrix(Refused):
 
 
 class FlatPivot(Refused):
-    """The equations have no usable pivot in some column; `column` is that one, from 0."""
+    """The pivot chosen in some column of the equations is at most 1e-18 in absolute value; `column` is that column,
+    from 0."""
 
     number = 11
     meaning = "flat pivot: the equations have no usable pivot in some column"
@@ -113,7 +114,7 @@ class FlatPivot(Refused):
 
 
 class Exponent(Refused):
-    """An exponent is not 1, where only 1 can be integrated."""
+    """An exponent is farther than 1e-9 from 1, where only 1 can be integrated. A NaN passes."""
 
     number = 12
     meaning = "exponent: some exponent is not 1"

@@ -278,7 +278,8 @@ class Store:
 
     def density(self, convention: Convention, point: arrays.Items, layers: Layers = None) -> Any:
         """The density at a point, as a float; or at each of any number of points, given as rows of three, as an
-        array: numpy's where numpy is there, otherwise `array`. By mass with a target above 0 it needs all work done.
+        array: numpy's where numpy is there, otherwise `array`. By mass with a target above 0 it needs all work of these
+        layers done.
 
         >>> store = Store(500, [0] * 9, [0, 1, 2])
         >>> store.put(0, Kernel((0, 0, 0), 1, 2, 1))
@@ -309,7 +310,8 @@ class Store:
 
     def track(self, convention: Convention, points: arrays.Items, layers: Layers = None) -> Any:
         """The density at each of up to 4,096 points, in order, as an array: what `density` gives, with the store
-        looked over once. The points are an array, flat or in rows of three.
+        looked over once. The points are an array, flat or in rows of three. By mass with a target above 0 it needs all
+        work of these layers done.
 
         >>> store = Store(500, [0] * 9, [0, 1, 2])
         >>> store.put(0, Kernel((0, 0, 0), 1, 2, 1))
@@ -367,7 +369,7 @@ class Store:
 
     def list(self, convention: Convention, layers: Layers = None) -> List[Kernel]:
         """The pieces of the places, in order, as kernels with weights rescaled. By mass with a target above 0 it
-        needs all work done.
+        needs all work of these layers done.
 
         >>> store = Store(500, [0] * 9, [0, 1, 2])
         >>> store.put(7, Kernel((0, 0, 0), 0.01, 300, 1))
