@@ -3,7 +3,7 @@
  * A list of density kernels w * (1 + sigma^2 * |x - c|^2)^-alpha inside a triangle mesh, its density, its
  * mass, and its weights rescaled by a convention. Lengths are metres, densities kg/m^3, masses kg, unless
  * a line says kilometres. Every function is proved to end and to meet its contract for all arguments, NaN
- * and runs of any length and contents among them; "01" is the specification.
+ * and runs of any length and contents among them; documents 01 and 02 are the specification.
  *
  * Runs. An array is lent as a pointer and a count of elements (size_t), two arguments side by side:
  *   mesh         xyz: 3 doubles a vertex; faces: 3 vertex numbers a face, from 0

@@ -519,10 +519,11 @@ impl Store {
         self.layers(Layers::ALL).densities(convention, points)
     }
 
-    /// The wall page: a line of 64 characters and a newline for each filled place, in order, with its number in columns
-    /// 1-2, its pieces in 4-5 and its own field mass in 45-64, by the weight as entered and in whole kilograms, to the
-    /// nearest and ties to even; then a line with TOTAL in columns 1-5 and the sum of the printed masses in 45-64. All
-    /// numbers are right-aligned. It needs all work done, and no mass that is NaN or exceeds 10^15 kg.
+    /// The wall page, of every layer: a line of 64 characters and a newline for each filled place, in order, with its
+    /// number in columns 1-2, its pieces in 4-5 and its own field mass in 45-64, by the weight as entered and in whole
+    /// kilograms, to the nearest and ties to even; then a line with TOTAL in columns 1-5 and the sum of the printed
+    /// masses in 45-64. All numbers are right-aligned; a mass below 0 has a minus sign, and zero is 0. It needs all
+    /// work done, and no mass that is NaN or exceeds 10^15 kg.
     ///
     /// ```
     /// # use cauchy::{Kernel, Mesh, Refusal, Store};

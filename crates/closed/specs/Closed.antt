@@ -1,4 +1,4 @@
--- L13, "Is the delivered mesh closed?". Definitions only.
+-- 02, L13, "Is the delivered mesh closed?". Definitions only.
 use Prim.Native.Nat.{ℕ, _+_}
 use mathlib.Core.Bool.{Bool, true, not, _&&_, cond}
 use mathlib.Core.List.{List, [], _∷_}
@@ -23,7 +23,7 @@ reversed e = edge (e .head) (e .tail)
 abbrev pub same : Edge → Edge → Bool
 same d e = eqb (d .tail) (e .tail) && eqb (d .head) (e .head)
 
--- the directed edges of all faces, in order; three corners are a face
+-- the directed edges of all faces, in order; three corners are a face, and fewer at the end are refused with 1
 unfoldable pub edges : List ℕ → List Edge
 edges [] = []
 edges (a ∷ []) = []

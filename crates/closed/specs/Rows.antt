@@ -1,4 +1,4 @@
--- L13's definition at small meshes, by computation. Assumes nothing.
+-- The definition of 02's L13 at small meshes, by computation. Assumes nothing.
 use mathlib.Core.Path.{_≡_, refl}
 use mathlib.Core.Bool.{true, false}
 use mathlib.Core.List.{[], _∷_}

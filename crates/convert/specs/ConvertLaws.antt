@@ -174,7 +174,7 @@ pub record StrictHolds (s : List ℕ) (d : Float) (xs : List Float) : Type 0 whe
       → conversion s d Strict xs ≡ outcome (refused LoadersDiffer) xs
   -- what is accepted is equal, and all three give the same run
   pub only-equal : conversion s d Strict xs .reply .refusal ≡ 0 → Equal s d × AsBoth s d xs
-  -- a list with every exponent given and above 0 is accepted, whatever the default
+  -- where every exponent is above 0 or missing the loaders agree, whatever the default
   pub above : AllAbove (filed s) → AsBoth s d xs
 
 module _ (s : List ℕ) (d : Float) (xs : List Float) where

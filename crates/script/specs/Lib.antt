@@ -11,3 +11,4 @@ pub mod Leaves
 pub mod LineByLine
 pub mod Again
 pub mod BenchTakesNone
+pub mod Rows

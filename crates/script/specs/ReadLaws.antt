@@ -1,13 +1,12 @@
 -- Lines read one after the other. Assumes nothing.
 use mathlib.Core.Path.{_≡_, refl, sym, ap, _∙_}
-use mathlib.Core.List.{List, [], _∷_, _++_, append-assoc}
+use mathlib.Core.List.{List, [], _∷_}
 use mathlib.Core.Bool.{Bool, true, false, _&&_, cond}
 use Prim.Native.Nat.{ℕ, zero, suc, _+_, _-_, _*_, _<_, _≤_}
-use native.Mathlib.Numerals.{add-one}
 use native.Mathlib.Omega.{arith}
 use native.Mathlib.Decide.{decLt}
 use Rattle.text.specs.Tokens.{not-lost}
-use lib.Dec.{T, eqb, ltb}
+use lib.Dec.{eqb, ltb}
 use lib.Ieee.{Float}
 use lib.ListN.{length}
 use Rattle.text.specs.Text.{Text, lost, left, rest, Got}
@@ -17,10 +16,9 @@ use Rattle.layout.specs.After.{After, after}
 use Rattle.store.specs.Puts.{putStep}
 use borrow.Author.Tests.{eqb-true, eqb-false, ltb-true}
 use Rattle.layout.specs.SoundLaws.{both}
-use Rattle.text.specs.Form.{Form, Vals, read, print, Fit, clear}
-use Rattle.text.specs.FormLaws.{read-lost, back}
+use Rattle.text.specs.Form.{Form, Vals, read}
+use Rattle.text.specs.FormLaws.{read-lost}
 use Rattle.script.specs.Lines.{vertLine, faceLine, putLine}
-use Rattle.script.specs.Written.{rows}
 use Rattle.script.specs.ReadOf.{more, linesFrom, linesTo, coordsIn, cornersIn, placeIn, kernelIn, layerIn, placesIn, layersIn, putsOn}
 
 -- ---- n lines

@@ -17,6 +17,7 @@ use Rattle.base.specs.declared.refusal.Checked.the-variants.{Passed}
 use Rattle.mesh.specs.Checks.{ragged}
 use Rattle.script.specs.Lines.{openLine, vertLine, faceLine, putLine}
 use Rattle.script.specs.ReadOf.{more, linesFrom, toNext, linesTo, coordsIn, cornersIn, Script, readOf, formCheck}
+use Rattle.script.specs.ReadLaws.{coords-count, corners-count}
 
 -- ---- the texts
 
@@ -240,14 +241,6 @@ well-formed s = (go (readOf s .text) refl, (λ d x. (λ i. formCheck (taken s d 
     go (left r) e h = (readOf s .val, spelt s r e .1)
 
 -- ---- coordinates and corners come by threes, three of each line, so that 1 is never
-coords-three : (vs : List (Vals vertLine)) → length (coordsIn vs) ≡ 3 * length vs
-coords-three [] = refl
-coords-three (v ∷ vs) = omega (arith, coords-three vs)
-
-corners-three : (vs : List (Vals faceLine)) → length (cornersIn vs) ≡ 3 * length vs
-corners-three [] = refl
-corners-three (v ∷ vs) = omega (arith, corners-three vs)
-
 pub by-threes : (s : List ℕ)
     → (length (readOf s .val .coords) ≡ 3 * readOf s .val .verts)
     × (length (readOf s .val .corners) ≡ 3 * readOf s .val .faces)
@@ -255,10 +248,7 @@ unfolding readOf
 by-threes s =
     let o = read openLine (left s) in
     let v = linesFrom vertLine (o .val .1 .0) (o .text) in
-    let f = linesFrom faceLine (o .val .1 .1 .0) (v .text) in (
-      coords-three (v .val) ∙ ap (3 *_) (all-read vertLine tt (o .val .1 .0) (o .text)),
-      corners-three (f .val) ∙ ap (3 *_) (all-read faceLine tt (o .val .1 .1 .0) (v .text)),
-    )
+    (coords-count (o .val .1 .0) (o .text), corners-count (o .val .1 .1 .0) (v .text))
 
 pub never-ragged : (s : List ℕ) → ragged (length (readOf s .val .coords)) (readOf s .val .corners) ≡ false
 never-ragged s =

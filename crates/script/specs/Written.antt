@@ -7,7 +7,7 @@ use mathlib.Core.Logic.{inr}
 use lib.Dec.{eqb, leb}
 use lib.ListN.{length, getD}
 use lib.Ieee.{Float, nan}
-use Rattle.base.specs.Answers.{counted, andThen, Printout, printout, guardedBytes}
+use Rattle.base.specs.Answers.{counted, Printout, printout, guardedBytes}
 use Rattle.base.specs.declared.refusal.Refusal.the-variants.{ShortText}
 use Rattle.base.specs.declared.refusal.Checked.{Checked}
 use Rattle.base.specs.declared.refusal.Checked.the-variants.{Passed, Failed}

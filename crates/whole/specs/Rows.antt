@@ -7,6 +7,7 @@ use Rattle.base.specs.Floats.{bits, abs}
 use Rattle.whole.specs.Whole.{nearest, magnitude, rounded, massLimit, printable}
 use Rattle.whole.specs.Nearest.{off}
 
+-- of no use but to name once the definitions that the rows below open
 unfoldable pub rows : ℤ
 unfolding le lt eq neg ofBits abs nearest magnitude rounded printable
 rows = pos 0
