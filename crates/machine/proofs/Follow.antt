@@ -4,12 +4,12 @@ use mathlib.Core.Path.{_≡_, refl, sym, ap, subst, _∙_}
 use mathlib.Core.Bool.{Bool, true, false, _&&_, cond, and-eq-true-iff, true≢false}
 use mathlib.Core.Logic.{_⊎_, inl, inr}
 use mathlib.Core.List.{List, [], _∷_, map}
-use Prim.Native.Nat.{ℕ, _+_, _*_, _/_, _%_, _^_, min}
+use Prim.Native.Nat.{ℕ, _+_, _*_, _/_, _%_, _^_, _≤_, min}
 use native.Mathlib.Omega.{arith}
 use lib.Dec.{ltb, leb, eqb}
 use lib.ListN.{length}
 use lib.Ieee.{Float}
-use borrow.Author.Tests.{lt-ltb, ltb-true, le-leb, lt-leb, leb-true, leb-false}
+use borrow.Author.Tests.{eq-eqb, lt-ltb, ltb-true, le-leb, lt-leb, leb-true, leb-false}
 use Rattle.base.specs.Answers.{Answer, refused, counted, Outcome, outcome, guardedRun, Printout, printout, guardedBytes, andThen}
 use Rattle.base.specs.declared.refusal.Refusal.{Refusal}
 use Rattle.base.specs.declared.refusal.Refusal.the-variants.{Unfinished, NoLayer, ShortList, BadTrack, NoFigure, ShortPage}
@@ -23,13 +23,13 @@ use Rattle.readings.specs.Finished.{beside}
 use Rattle.page.specs.Page.{Row, allPrintable, pageOf, pageAnswer}
 use Rattle.machine.specs.Machine.{Mesh, Place, leftSum, seenPlaces, completePlaces, passedPlaces, Machine, opened, openRow}
 use Rattle.machine.specs.Holding.{excessF, excessW}
-use Rattle.machine.specs.Fresh.{kernelsOf, freshRows, workedAfresh, finishedAfresh, pageAfresh}
+use Rattle.machine.specs.Fresh.{kernelsOf, workAll, allPieces, freshRows, workedAfresh, finishedAfresh, pageAfresh}
 use Rattle.machine.specs.Calls.{advance, read, finished, page, needs, machine, Store, Result, store, holding, leftIn, without, heard}
 use Rattle.machine.specs.Events.{Event, call, adopt, turnOf, leavesAll, machineAfter}
 use Rattle.machine.specs.Bills.{Every}
-use Rattle.machine.specs.Demands.{Same, Read, onlyComplete, Partly, Post, Each, end, next, Follows, Accepted, Opens}
+use Rattle.machine.specs.Demands.{Same, LongEnough, Read, onlyComplete, Partly, Post, Each, end, next, Follows, Accepted, Opens}
 use Rattle.machine.specs.Beginnings.{Came}
-use Rattle.machine.specs.Valid.{Valid}
+use Rattle.machine.specs.Valid.{Shape, Valid}
 use Rattle.machine.proofs.Rows.{Layered, formed}
 use Rattle.machine.proofs.Parts.{freshSeen}
 use Rattle.machine.proofs.Afresh.{joined}
@@ -73,6 +73,21 @@ answered (track v points out) s =
     let n = length points / 3 in
     let js = map (rescaled (applied v (s .parts))) (map bare (s .parts)) in
     tracked-as (length points) (length out) n (write out 0 (along (densityAt js) points n)) out
+
+-- with a run that is long enough it is accepted
+accepted-long : (m : Mesh) → Shape m → (ss : List Place) (r : Reading)
+    → LongEnough (length (allPieces (workAll (m .radius) ss))) r → workedAfresh m ss r .reply .refusal ≡ 0
+unfolding workedAfresh trackCheck
+accepted-long m g ss (density v x) h = ap (λ (o : Outcome). o .reply .refusal) (sym (joined m g ss (density v x)))
+accepted-long m g ss (report v) h = refl
+accepted-long m g ss (list v out) h =
+    rw (le-leb (6 * length (allPieces (workAll (m .radius) ss))) (length out) h) refl
+accepted-long m g ss (track v points out) h =
+    rw (
+      eq-eqb (length points % 3) 0 (h .0),
+      le-leb (length points / 3) 4096 (h .1 .0),
+      le-leb (length points / 3) (length out) (h .1 .1),
+    ) refl
 
 refuses-as : (r : Reading) (e : Refusal) → refusing r e .reply ≡ refused e
 refuses-as (density v x) e = refl
@@ -137,6 +152,16 @@ paged-not rs bs e = go (allPrintable rs) (leb (length (pageOf rs)) (length bs)) 
     go true false z = omega arith
     go false b z = omega arith
 
+page-good : (rs : List Row) (bs : List ℕ) → allPrintable rs ≡ true → length (pageOf rs) ≤ length bs
+    → pageAnswer rs bs .reply .refusal ≡ 0
+unfolding pageAnswer
+page-good rs bs p l = rw (p, le-leb (length (pageOf rs)) (length bs) l) refl
+
+page-given : (m : Mesh) (ss : List Place) (bs : List ℕ) → allPrintable (freshRows m 0 ss) ≡ true
+    → length (pageOf (freshRows m 0 ss)) ≤ length bs → pageAfresh m ss bs .reply .refusal ≡ 0
+unfolding pageAfresh
+page-given m ss bs = page-good (freshRows m 0 ss) bs
+
 page-not : (m : Mesh) (ss : List Place) (bs : List ℕ) → pageAfresh m ss bs .reply ≡ refused Unfinished → ⊥
 unfolding pageAfresh
 page-not m ss bs = paged-not (freshRows m 0 ss) bs
@@ -195,6 +220,11 @@ module _ (wd : ℕ) (fm : Layered wd) (exF : List Float) (exW : List ℕ) where
         afresh = λ h z.
             let t = when-not r f a b (lt-leb (2 ^ 16) layers h) (λ y. z (er ∙ y)) ∙ on-opened o (m .mesh) g ss r in
             (er ∙ ap (λ (x : Outcome). x .reply) t, eo ∙ ap (λ (x : Outcome). x .out) t);
+        answers = λ h z long.
+            let t = when-not r f a b (lt-leb (2 ^ 16) layers h) (λ y. z (er ∙ y)) in
+            ap number (er ∙ ap (λ (x : Outcome). x .reply) t)
+            ∙ accepted-long (m .mesh) (v .mesh) ss r
+            (subst (λ (x : Float). LongEnough (length (allPieces (workAll x ss))) r) (sym (g .radius)) long);
         all-sixteen = all-seen (m .mesh) (m .places) (v .within);
         none = none-seen (m .places);
         kept = ap (λ (x : Result). x .runs) e;
@@ -257,6 +287,9 @@ module _ (wd : ℕ) (fm : Layered wd) (exF : List Float) (exW : List ℕ) where
         afresh = λ z.
             let t = page-other f bs (ltb 0 l) (λ y. z (er ∙ y)) ∙ page-opened o (m .mesh) g (m .places) bs in
             (er ∙ ap (λ (a : Printout). a .reply) t, ep ∙ ap (λ (a : Printout). a .bytes) t);
+        answers = λ z p room.
+            let t = page-other f bs (ltb 0 l) (λ y. z (er ∙ y)) ∙ page-opened o (m .mesh) g (m .places) bs in
+            ap number (er ∙ ap (λ (a : Printout). a .reply) t) ∙ page-given o (m .places) bs p room;
         kept = ap (λ (x : Result). x .runs) e;
       }
 

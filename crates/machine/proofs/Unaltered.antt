@@ -304,7 +304,7 @@ same-heard (lines bs ∷ cs) m xs ks w g a = same-heard cs m xs ks w g a
 
 -- ---- a reading of the machine's mesh is one of the mesh opened
 pub record From (o m : Mesh) : Type 0 where
-  radius : m .radius ≡ o .radius
+  pub radius : m .radius ≡ o .radius
   faces : m .faces ≡ o .faces
   alike : Alike o (m .coords) (m .corners) (m .verts)
 

@@ -76,8 +76,8 @@ linesRow (left l) q d a b =
     cond (ltb 0 n) n
     (anyRow (λ v. leb placeLimit (placeIn v)) 6 (d .puts) (anyRow (λ v. ltb 15 (layerIn v)) 16 (d .puts) 0))
 
--- ---- "adoptions from a store that itself came of an opening with that mesh and radius and any list of calls": or of a
--- carry, or of lines. With which mesh and radius is for the adoption to find out
+-- ---- the stores from which a place may be adopted: such a store came of an opening, a carry or lines, and any list of
+-- events of its own. Whether its mesh and radius are those of this store is for the adoption to find out
 
 -- a store that has just begun, and its machine
 pub data Begun (q : ℕ) : Machine → Store → Type 0 where

@@ -1,12 +1,12 @@
 -- Demand 3, one statement: `Demand3`, at the end: of an opening, a carry (02, L6) or lines that are read (02, L10), and
 -- every list of events after it: calls, and adoptions from other stores. Each clause stands below the owner's words
--- that it says.
+-- that it says; adoptions and many hands are ours, beyond 02 (docs/landings/Hands.md), and have no such words.
 -- r, xs and ks are the radius, coordinates and corners of an opening; fs and ws the runs lent to it, whatever was in
 -- them; q is the count of words to a place, which the contracts have as `width`. Definitions only.
 use mathlib.Core.Path.{_≡_}
 use mathlib.Core.Bool.{true}
 use mathlib.Core.List.{List, [], _∷_, map}
-use Prim.Native.Nat.{ℕ, _+_, _*_, _/_, _^_, _≤_, _<_}
+use Prim.Native.Nat.{ℕ, _+_, _*_, _/_, _%_, _^_, _≤_, _<_}
 use lib.ListN.{length, getD}
 use lib.Ieee.{Float}
 use Rattle.base.specs.Answers.{Answer, refused, counted, outcome}
@@ -22,13 +22,14 @@ use Rattle.layout.specs.After.{After, after}
 use Rattle.store.specs.Calls.{openStep}
 use Rattle.carry.specs.Carry.{oldWidth}
 use Rattle.script.specs.ReadOf.{Script, readOf, loadStep}
-use Rattle.readings.specs.Readings.{Reading, report, sixes}
+use Rattle.readings.specs.Readings.{Reading, density, report, list, track, sixes}
 use Rattle.readings.specs.Finished.{beside}
+use Rattle.page.specs.Page.{allPrintable, pageOf}
 use Rattle.density.specs.declared.convention.Convention.{Convention}
 use Rattle.machine.specs.Machine.{Mesh, Provenance, carried, empty, full, Machine, seenPlaces, completePlaces, passedPlaces, workLeft, with-places, opened, openRow}
 use Rattle.machine.specs.Holding.{excessF, excessW}
 use Rattle.machine.specs.Valid.{Valid}
-use Rattle.machine.specs.Fresh.{Worked, kernelsOf, allPieces, worstFrom, workedAfresh, finishedAfresh, pageAfresh}
+use Rattle.machine.specs.Fresh.{Worked, kernelsOf, workAll, allPieces, worstFrom, workedAfresh, finishedAfresh, freshRows, pageAfresh}
 use Rattle.machine.specs.Calls.{Call, clear, advance, read, finished, page, needs, workSeen, Store, store, holding, leftIn, without, heard, answers}
 use Rattle.machine.specs.Events.{Event, call, adopt, sameMesh, turnOf, resultOf, leavesAll, machineAfter, leaves, after-all, chargedOver, doneOver}
 use Rattle.machine.specs.OldStore.{Fitting, Todays, Old, nowadays, OfPuts, oldAfter}
@@ -44,12 +45,24 @@ pub record Same (q : ℕ) (exF : List Float) (exW : List ℕ) (m : Machine) (s :
   -- put's with how its fit ended. A squeeze answers how many coordinates it freed, lines how many bytes they are (02,
   -- L10), an adoption the pieces and the left that come across; of a reading and a page more is said below
   pub reply : resultOf q s e .reply ≡ turnOf m e .reply
-  -- each word of a run that is lent beside the store, and each byte of a page
+  -- "answers and writes": each word of a run that is lent beside the store, and each byte of a page or of lines. Of a
+  -- call that is refused they stay, since the machine's do
   pub lent : resultOf q s e .out ≡ turnOf m e .out
   pub shown : resultOf q s e .bytes ≡ turnOf m e .bytes
   -- "After each call the runs hold 01's fields for its mesh, radius, places and steps, volumes so far included": each
-  -- word of both; past the fields come the words that squeezes freed, which are zero, and the excess
+  -- word of both; past the fields come the words that squeezes freed, which are zero (02, L12: "those words become
+  -- zero"), and the excess. "a refused call changes nothing": the machine after it is m
   pub fields : resultOf q s e .runs ≡ holding q (turnOf m e .next) exF exW
+
+-- ---- "its run long enough", of a reading worked on n pieces: a list's has six floats to each; a track's has one to
+-- each point, and the points are up to 4,096 of three coordinates (02, L1). Said from the papers' words, not by the
+-- calls' own checks
+abbrev pub LongEnough : ℕ → Reading → Type 0
+LongEnough n (density v x) = Unit {0}
+LongEnough n (report v) = Unit {0}
+LongEnough n (list v out) = 6 * n ≤ length out
+LongEnough n (track v points out) =
+    (length points % 3 ≡ 0) × ((length points / 3 ≤ 4096) × (length points / 3 ≤ length out))
 
 -- ---- a reading r of a set of layers, anywhere in a list; mesh is the mesh opened, of which squeezes may have dropped
 -- vertices in m
@@ -64,11 +77,16 @@ pub record Read (q : ℕ) (mesh : Mesh) (m : Machine) (s : Store) (layers : ℕ)
   pub only-then : store q s (read layers r) .reply ≡ refused Unfinished
       → (layers < 2 ^ 16) × ((needs r ≡ true) × (0 < workSeen m layers))
   -- "Any other reading, its run long enough, answers and writes what demand 2's functions give, worked afresh on the
-  -- mesh opened and the kernels then in the machine's places", those that it sees; both give 9 where a list's run is
-  -- too short, and 14 of a track
+  -- mesh opened and the kernels then in the machine's places", those that it sees. Both give 9 where a list's run is
+  -- too short, so no premise asks for its length. 02, L1: "demand 3 leaves out a track to which 14 applies and 8
+  -- doesn't": it is not left out here, both give 14
   pub afresh : layers < 2 ^ 16 → (store q s (read layers r) .reply ≡ refused Unfinished → ⊥)
       → (store q s (read layers r) .reply ≡ workedAfresh mesh (seenPlaces layers (m .places)) r .reply)
       × (store q s (read layers r) .out ≡ workedAfresh mesh (seenPlaces layers (m .places)) r .out)
+  -- and "its run long enough", it "answers": it is not refused
+  pub answers : layers < 2 ^ 16 → (store q s (read layers r) .reply ≡ refused Unfinished → ⊥)
+      → LongEnough (length (allPieces (workAll (mesh .radius) (seenPlaces layers (m .places))))) r
+      → store q s (read layers r) .reply .refusal ≡ 0
   -- "with all sixteen it reads as before": all places are seen
   pub all-sixteen : seenPlaces 65535 (m .places) ≡ m .places
   -- with none no place is, so that such a reading is worked on no kernel
@@ -85,6 +103,7 @@ onlyComplete m layers = with-places m (completePlaces (m .mesh) (seenPlaces laye
 pub record Partly
     (q : ℕ) (exF : List Float) (exW : List ℕ) (mesh : Mesh) (m : Machine) (s : Store) (layers : ℕ) (v : Convention)
     : Type 0 where
+  -- 02, L5: "16 when a layer is above 15", as of a reading
   pub no-layer : 2 ^ 16 ≤ layers → store q s (finished layers v) .reply ≡ refused NoLayer
   pub one-of-sixteen : store q s (finished layers v) .reply ≡ refused NoLayer → 2 ^ 16 ≤ layers
   -- "It is never refused as unfinished", whatever the machine has left
@@ -102,6 +121,7 @@ pub record Partly
   -- so with nothing left in its layers it is the ordinary report of this store, and passes over none
   pub whole : layers < 2 ^ 16 → workSeen m layers ≡ 0
       → store q s (finished layers v) .reply ≡ beside 0 (store q s (read layers (report v)) .reply)
+  -- like a reading it alters no word of the store
   pub kept : store q s (finished layers v) .runs ≡ s
 
 -- ---- 02, L8: a page anywhere in a list, into the bytes bs
@@ -115,6 +135,11 @@ pub record Post (q : ℕ) (mesh : Mesh) (m : Machine) (s : Store) (bs : List ℕ
   pub afresh : (store q s (page bs) .reply ≡ refused Unfinished → ⊥)
       → (store q s (page bs) .reply ≡ pageAfresh mesh (m .places) bs .reply)
       × (store q s (page bs) .bytes ≡ pageAfresh mesh (m .places) bs .bytes)
+  -- and where 17 does not apply to a place's mass and the bytes have room it is given: it is not refused
+  pub answers : (store q s (page bs) .reply ≡ refused Unfinished → ⊥)
+      → allPrintable (freshRows mesh 0 (m .places)) ≡ true
+      → length (pageOf (freshRows mesh 0 (m .places))) ≤ length bs
+      → store q s (page bs) .reply .refusal ≡ 0
   -- a page alters no word of the store
   pub kept : store q s (page bs) .runs ≡ s
 
@@ -141,8 +166,8 @@ pub record Decomposed (radius : Float) (ks : List Kernel) : Type 0 where
       (fittedAll (length ks) (length (allPieces (decomposedAll radius ks))) (worstFrom +0 (decomposedAll radius ks)))
       (write run 0 (sixes (allPieces (decomposedAll radius ks))))
 
--- ---- many hands: "work done by any number of such stores, in any split by places and any order of adoptions, ends in
--- the very runs that one store's own advances would have ended in"
+-- ---- many hands: work done by any number of such stores, in any split by places and any order of adoptions, ends in
+-- the very runs that one store's own advances would have ended in
 
 -- the store's own advances, and adoptions each of which brings the place that is there, worked on elsewhere: the same
 -- kernel, pieces and layer, with whatever steps. So a place may come back in any order, twice, out of date or not at
@@ -190,7 +215,8 @@ pub record Follows (q : ℕ) (exF : List Float) (exW : List ℕ) (m : Machine) (
   -- and adoptions
   pub calls : Each q exF exW (m .mesh) m s es
   -- the machine after the list, and so after each part of it: the pieces in its places, which the runs hold, are those
-  -- of its kernels or came by a carry, and no place has more steps than its need
+  -- of its kernels or came by a carry, and no place has more steps than its need, so that each need - p is a plain
+  -- difference
   pub valid : Valid (machineAfter m es .mesh) (machineAfter m es .places)
   -- of a place that a put filled these are the pieces worked afresh; a place that a carry filled starts from its own
   pub pieces : Decomposed (m .mesh .radius) (kernelsOf (machineAfter m es .places))
@@ -204,7 +230,8 @@ pub record Follows (q : ℕ) (exF : List Float) (exW : List ℕ) (m : Machine) (
   -- and from there on, whoever does the work that is left
   pub hands : Hands q (machineAfter m es) (leavesAll q s es)
 
--- ---- what an accepted opening answers and leaves, and every list of events after it
+-- ---- what an accepted opening answers and leaves, and every list of events after it: V and F, and the runs of the
+-- machine of which "Open copies a mesh and radius; all empty, charged = dropped = 0", the excess untouched
 pub record Accepted (q : ℕ) (r : Float) (xs : List Float) (ks : List ℕ) (fs : List Float) (ws : List ℕ) : Type 0 where
   pub reply : openStep q fs ws r xs ks .reply ≡ counted (length xs / 3 ∷ length ks / 3 ∷ [])
   pub holds : leaving (openStep q fs ws r xs ks) ≡ holding q (opened r xs ks) (excessF xs fs) (excessW q ks ws)
@@ -225,17 +252,22 @@ pub record Opens (q : ℕ) (r : Float) (xs : List Float) (ks : List ℕ) (fs : L
       → openStep q fs ws r xs ks ≡ after (refusedBy (openRow q xs ks (length fs) (length ws))) fs ws
   pub accepted : openRow q xs ks (length fs) (length ws) ≡ 0 → Accepted q r xs ks fs ws
 
+-- ---- 02, L6: a carry that is not refused. m is the machine of the old store and cs are its calls; gs and us are the
+-- new runs; a is what the carry answers, V and F as an opening does, and leaves
 pub record Carried
-    (r : Float) (xs : List Float) (ks : List ℕ) (fs : List Float) (ws : List ℕ) (cs : List Old)
+    (r : Float) (xs : List Float) (ks : List ℕ) (cs : List Old)
     (m : Machine) (gs : List Float) (us : List ℕ) (a : After) : Type 0 where
   pub reply : a .reply ≡ counted (m .mesh .verts ∷ m .mesh .faces ∷ [])
   -- "with every kernel in layer 0. Unfinished sums and step counts go along": each word of the new runs, their excess
   -- untouched
   pub holds : leaving a
       ≡ holding width (carriedOver m) (excessF (m .mesh .coords) gs) (excessW width (m .mesh .corners) us)
+  -- "On a carried store demand 3's list begins at the carry, its machine with the mesh, radius, places and steps
+  -- carried, and its charged with the left that goes across"
   pub every-list : (es : List Event) → Came width es
       → Follows width (excessF (m .mesh .coords) gs) (excessW width (m .mesh .corners) us) (carriedOver m) (leaving a)
       es
+  -- squeezes, as after an opening
   pub unaltered : (ds : List Call) → heard width (leaving a) ds ≡ heard width (leaving a) (without ds)
   -- "For every list of later calls, the new store answers as one would that had received the old store's calls, its
   -- puts in layer 0, where those puts were made with L2's powers": that one was opened in runs hs and vs, whatever was
@@ -245,8 +277,9 @@ pub record Carried
       → answers width (leaving a) ds
       ≡ answers width (leaves width (leaving (openStep width hs vs r xs ks)) (map nowadays cs)) ds
 
--- a carry is refused with 4 exactly when the new runs are too short: what the old store's opening and calls left is
--- neither short nor unsound
+-- "Unsound and short-store refusals apply to the old runs as in 01, and 4 to new runs below L5's lengths": what the old
+-- store's opening and calls left is neither short nor unsound, so that a carry is refused with 4 exactly when the new
+-- runs are too short
 pub record Carries
     (r : Float) (xs : List Float) (ks : List ℕ) (fs : List Float) (ws : List ℕ) (cs : List Old)
     (m : Machine) (gs : List Float) (us : List ℕ) : Type 0 where
@@ -254,24 +287,29 @@ pub record Carries
       → carrying r xs ks fs ws cs gs us
       ≡ after (refusedBy (carryRow m gs us)) gs us
   pub accepted : carryRow m gs us ≡ 0
-      → Carried r xs ks fs ws cs m gs us (carrying r xs ks fs ws cs gs us)
+      → Carried r xs ks cs m gs us (carrying r xs ks fs ws cs gs us)
 
-pub record Loaded (q : ℕ) (fs : List Float) (ws : List ℕ) (s : List ℕ) (d : Script) (a : After) : Type 0 where
+-- ---- 02, L10: lines that are read and not refused. d is what they say, a is what the call answers and leaves
+pub record Loaded (q : ℕ) (fs : List Float) (ws : List ℕ) (d : Script) (a : After) : Type 0 where
+  -- V, F and how many puts
   pub reply : a .reply ≡ counted (d .verts ∷ d .faces ∷ length (d .puts) ∷ [])
+  -- "leaves what that opening and those puts, line by line, would": those of the machine, "with all steps still to do"
   pub holds : leaving a ≡ holding q (scripted d) (excessF (d .coords) fs) (excessW q (d .corners) ws)
-  -- the calls that the lines say, one by one, leave the same
+  -- and those of the store: the calls that the lines say, one by one, leave the same
   pub by-calls : leaving a ≡ leaves q (leaving (openStep q fs ws (d .radius) (d .coords) (d .corners)))
       (map putCall (d .puts))
   pub every-list : (es : List Event) → Came q es
       → Follows q (excessF (d .coords) fs) (excessW q (d .corners) ws) (scripted d) (leaving a) es
   pub unaltered : (cs : List Call) → heard q (leaving a) cs ≡ heard q (leaving a) (without cs)
 
+-- "refuses the whole where one line would be refused", changing nothing, by the lowest row that applies to any line, 13
+-- ahead of all others
 pub record Loads (q : ℕ) (fs : List Float) (ws : List ℕ) (s : List ℕ) : Type 0 where
   pub refused-as : 0 < linesRow (readOf s .text) q (readOf s .val) (length fs) (length ws)
       → loadStep q fs ws s
       ≡ after (refusedBy (linesRow (readOf s .text) q (readOf s .val) (length fs) (length ws))) fs ws
   pub accepted : linesRow (readOf s .text) q (readOf s .val) (length fs) (length ws) ≡ 0
-      → Loaded q fs ws s (readOf s .val) (loadStep q fs ws s)
+      → Loaded q fs ws (readOf s .val) (loadStep q fs ws s)
 
 -- ---- demand 3, at the width that the contracts have: of every opening, of every carry of a store that an accepted
 -- opening of the old form and any calls on it left, and of every text that a store is read from
@@ -282,5 +320,5 @@ pub record Demand3 : Type 0 where
       → (cs : List Old) → OfPuts Fitting cs → (gs : List Float) (us : List ℕ)
       → Carries r xs ks fs ws cs (oldAfter carried (opened r xs ks) cs) gs us
   pub reading : (fs : List Float) (ws : List ℕ) (s : List ℕ) → Loads width fs ws s
-  -- "of the same body": an adoption's machine takes two meshes for one exactly when they are
+  -- the same body: an adoption's machine takes two meshes for one exactly when they are
   pub body : (m o : Mesh) → (sameMesh m o ≡ true → o ≡ m) × (o ≡ m → sameMesh m o ≡ true)

@@ -1,4 +1,5 @@
--- Demand 3: what a store goes through, its own calls and adoptions from other stores; the sums over a list. Definitions
+-- Demand 3: what a store goes through, its own calls and adoptions from other stores; the sums over a list. Adoptions
+-- are ours, beyond 01 and 02, so no words are quoted for them: docs/landings/Hands.md says what they do. Definitions
 -- only.
 use mathlib.Core.Bool.{Bool, _&&_, cond}
 use mathlib.Core.List.{List, [], _∷_, map}
@@ -22,22 +23,23 @@ pub data Event : Type 0 where
 
 -- ---- the machine
 
--- "of the same body (radius, V, F, coordinates and corners equal, NaN as one)"
+-- the same body: radius, V, F, coordinates and corners are equal, bit for bit with NaN as one. `body` in Demands.antt
+-- says that this test is `≡`
 unfoldable pub sameMesh : Mesh → Mesh → Bool
 sameMesh m o =
     sameFloat (m .radius) (o .radius)
     && ((eqb (m .verts) (o .verts) && eqb (m .faces) (o .faces))
     && (sameFloats (m .coords) (o .coords) && sameWords (m .corners) (o .corners)))
 
--- "the machine's place becomes that of the other store's machine; charged grows by the left that comes across, dropped
--- by the left that is lost"
+-- the machine's place becomes that of the other store's machine; charged grows by the left that comes across, dropped
+-- by the left that is lost
 abbrev pub adoptInto : Machine → ℕ → Kernel → Pieces → Provenance → ℕ → ℕ → Machine
 adoptInto m i k fit b p l =
     with-places m (set (m .places) i (full k fit b p l)) (need (m .mesh) fit - p)
     (leftPlace (m .mesh) (getD (m .places) i empty))
 
--- "7 where the other's place is empty"; "Answer: adopted or another body, pieces, steps left"; "Where the bodies differ
--- nothing is changed and the answer says so"
+-- 7 where the other's place is empty; else the answer says whether the bodies are the same, and of the place that came
+-- across the pieces and the steps left. Where the bodies differ nothing is changed
 abbrev pub adoptTurn : Machine → ℕ → Mesh → Place → Turn
 adoptTurn m i o empty = turn m (refused Vacant)
 adoptTurn m i o (full k fit b p l) =
@@ -45,7 +47,7 @@ adoptTurn m i o (full k fit b p l) =
     (turn (adoptInto m i k fit b p l) (adopted (fit .count) (need (m .mesh) fit - p)))
     (turn m another)
 
--- "6 of either place"
+-- 6 of either place
 abbrev pub turnOf : Machine → Event → Turn
 turnOf m (call c) = machine m c
 turnOf m (adopt i o s j) = inPlace m i (inPlace m j (adoptTurn m i (o .mesh) (getD (o .places) j empty)))
@@ -88,8 +90,6 @@ abbrev pub doneOver : ℕ → Store → List Event → ℕ
 doneOver q s [] = 0
 doneOver q s (e ∷ es) = doneAt e (resultOf q s e .reply) + doneOver q (resultOf q s e .runs) es
 
+-- and of a store's own calls alone
 abbrev pub chargedIn : ℕ → Store → List Call → ℕ
 chargedIn q s cs = chargedOver q s (map call cs)
-
-abbrev pub doneIn : ℕ → Store → List Call → ℕ
-doneIn q s cs = doneOver q s (map call cs)

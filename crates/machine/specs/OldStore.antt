@@ -27,7 +27,8 @@ use Rattle.machine.specs.Calls.{Call, put, clear, reweigh, advance, sque
 abbrev pub Fitter : Type 0
 Fitter = Kernel → Float → Pieces
 
--- all that the claims ask of it: "So a kernel has at most 16 pieces", and the arrays are +0 past the last
+-- all that the claims ask of it: "So a kernel has at most 16 pieces", and the arrays are +0 past the last. `any-powers`
+-- (proofs/Fitters.antt) shows it of 01's decomposition with any powers at all
 pub record Fitting (fitter : Fitter) : Type 0 where
   pub few : (k : Kernel) (radius : Float) → fitter k radius .count ≤ 16
   pub clean : (k : Kernel) (radius : Float) → Clean (fitter k radius)
@@ -36,8 +37,8 @@ pub record Fitting (fitter : Fitter) : Type 0 where
 abbrev pub Todays : Fitter → Type 0
 Todays fitter = (k : Kernel) (radius : Float) → fitter k radius ≡ decomposed k radius
 
--- the calls on an old store: no put had a layer, and no reading a set of layers. A put has what fitted its kernel: one
--- store may have had puts before L2 and since
+-- the calls on an old store: no put had a layer, and no reading a set of layers; reports of what is finished, a store's
+-- lines and adoptions came later. A put has what fitted its kernel: one store may have had puts before L2 and since
 pub data Old : Type 0 where
   puts : Fitter → ℕ → Kernel → Old
   clears : ℕ → Old
