@@ -24,7 +24,7 @@ use Rattle.density.specs.Conventions.{bulkOf, rho0Scale, appliedScale}
 use Rattle.layout.specs.Runs.{write}
 use Rattle.readings.specs.AlongLaws.{stretch-same}
 use Rattle.readings.specs.Readings.{Reading, density, report, list, track, Part, bare, densityAt, rawMass, origin, applied, rescaled, sixes, trackCheck, seeing, answerOf}
-use Rattle.readings.specs.SixLaws.{whole, list-sound, sixes-whole, whole-rescaled, densitized-on, sized, mass-on}
+use Rattle.readings.specs.SixLaws.{asSix, list-sound, sixes-again, six-rescaled, densitized-on, sized, mass-on}
 use Rattle.machine.specs.Machine.{Mesh, Provenance, Place, empty, full}
 use Rattle.machine.specs.Holding.{triangles}
 use Rattle.machine.specs.Fresh.{fitAfresh, workAll, piecesTo, piecesOf, allPieces, worstFrom, valueOf, massOf, originOf, scaledList, readingOn, workedAfresh}
@@ -49,7 +49,7 @@ module _ (m : Mesh) where
       let a = piecesOf (record { kernel = k; fit = f }) in
       rw (parts-to k f (f .count), parts-all ss, map-append (partOf m) a (allPieces (workAll (m .radius) ss))) refl
 
-  bare-parts : (ks : List Kernel) → map bare (map (partOf m) ks) ≡ map whole ks
+  bare-parts : (ks : List Kernel) → map bare (map (partOf m) ks) ≡ map asSix ks
   bare-parts [] = refl
   bare-parts (k ∷ ks) = rw (bare-parts ks) refl
 
@@ -95,22 +95,22 @@ module _ (m : Mesh) (g : Shape m) where
         ≡ readingOn m ks filled worst r
     answer-on filled worst (density v x) =
         let s = appliedScale v (massOf m ks) (rho0Scale (bulkOf v) (originOf ks)) in
-        rw (scale-on v, bare-parts m ks, whole-rescaled s ks)
+        rw (scale-on v, bare-parts m ks, six-rescaled s ks)
         (ap (λ (a : Answer). outcome a []) (sym (densitized-on (map (rescaled s) ks) x)))
     answer-on filled worst (report v) =
         rw (raw-on, origin-on, length-map ks (partOf m), body-call) refl
     answer-on filled worst (list v out) =
         let s = appliedScale v (massOf m ks) (rho0Scale (bulkOf v) (originOf ks)) in
-        rw (scale-on v, bare-parts m ks, length-map ks whole, whole-rescaled s ks, sixes-whole (map (rescaled s) ks))
+        rw (scale-on v, bare-parts m ks, length-map ks asSix, six-rescaled s ks, sixes-again (map (rescaled s) ks))
         refl
     answer-on filled worst (track v points out) =
         let s = appliedScale v (massOf m ks) (rho0Scale (bulkOf v) (originOf ks)) in
         let n = length points / 3 in
-        rw (scale-on v, bare-parts m ks, whole-rescaled s ks)
+        rw (scale-on v, bare-parts m ks, six-rescaled s ks)
         (ap
         (λ (ds : List Float).
         guardedRun (trackCheck (length points) (length out)) out (outcome (counted (n ∷ [])) (write out 0 ds)))
-        (stretch-same (densityAt (map whole (map (rescaled s) ks))) (λ x. valueOf (densitized (scaledList v m ks) x))
+        (stretch-same (densityAt (map asSix (map (rescaled s) ks))) (λ x. valueOf (densitized (scaledList v m ks) x))
         (λ x. ap valueOf (sym (densitized-on (map (rescaled s) ks) x))) points 0 n))
 
   -- the mass of one place

@@ -31,7 +31,7 @@ use Rattle.machine.proofs.Sane.{no-fault}
 use Rattle.machine.proofs.Read.{There}
 use Rattle.machine.proofs.Layers.{Emptying, emptied-at, emptied-there, emptied-valid, words-emptied, seen-or-none, layers-held}
 use Rattle.machine.proofs.Afresh.{joined}
-use Rattle.machine.proofs.Look.{filled-held, whole-seen}
+use Rattle.machine.proofs.Look.{filled-held, complete-seen}
 
 -- ---- of n pieces, f faces and p steps all pieces are finished exactly where no step is left
 module _ (n f p : ℕ) (h : p ≤ n * f) where
@@ -113,10 +113,10 @@ module _ (m : Mesh) where
       let i = all-complete ss (omega arith) in
       (rw (c, i .0) refl, rw (c, i .1) refl)
 
-  pub whole-afresh : (ss : List Place) (cv : Convention) → leftSum m ss ≡ 0
+  pub complete-afresh : (ss : List Place) (cv : Convention) → leftSum m ss ≡ 0
       → finishedAfresh m ss cv ≡ beside 0 (workedAfresh m ss (report cv) .reply)
   unfolding finishedAfresh
-  whole-afresh ss cv z = let c = all-complete ss z in rw (c .0, c .1) refl
+  complete-afresh ss cv z = let c = all-complete ss z in rw (c .0, c .1) refl
 
 -- ---- the report
 module _
@@ -198,7 +198,7 @@ module _
       → finishedStep wd FS WS layers cv ≡ cond (leb (2 ^ 16) layers) (refused NoLayer) (finishedAfresh m seen cv)
   unfolding finishedStep layersCheck finishedAfresh
   finished-report cv =
-      let w = whole-seen wd fm m ss complete (v .places) complete-valid complete-there xs ys (nothing-left m seen) in
+      let w = complete-seen wd fm m ss complete (v .places) complete-valid complete-there xs ys (nothing-left m seen) in
       let j = joined m (v .mesh) complete (report cv) in
       let e = ap (λ (o : Outcome). o .reply) (ap (answerOf (report cv)) w ∙ j) in
       rw (no-fault wd fm m ss v xs ys, passed-held, complete-held) (go (decLt layers 65536) e)

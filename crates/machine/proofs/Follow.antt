@@ -34,7 +34,7 @@ use Rattle.machine.proofs.Rows.{Layered, formed}
 use Rattle.machine.proofs.Parts.{freshSeen}
 use Rattle.machine.proofs.Afresh.{joined}
 use Rattle.machine.proofs.Layers.{all-seen, none-seen}
-use Rattle.machine.proofs.Finished.{nothing-left, whole-afresh, complete-valid}
+use Rattle.machine.proofs.Finished.{nothing-left, complete-afresh, complete-valid}
 use Rattle.machine.proofs.Claim.{one-call}
 use Rattle.machine.proofs.Adopting.{mesh-stays, Holds, Brought, kept-at, one-event, books, charges, last, its-runs}
 use Rattle.machine.proofs.Coming.{came-brought}
@@ -263,12 +263,12 @@ module _ (wd : ℕ) (fm : Layered wd) (exF : List Float) (exW : List ℕ) where
         alone = λ h.
             er ∙ rw (lt-leb (2 ^ 16) layers h)
             (ap (beside (passedPlaces (m .mesh) ss)) (sym (only-complete m v layers cv)));
-        whole = λ h z.
+        ordinary = λ h z.
             let r = ap (λ (x : Result). x .reply) (one-call wd fm m v exF exW (read layers (report cv))) in
             let y : store wd (holding wd m exF exW) (read layers (report cv)) .reply
             ≡ workedAfresh (m .mesh) ss (report cv) .reply
             = r ∙ rw (lt-leb (2 ^ 16) layers h, z) refl in
-            er ∙ rw (lt-leb (2 ^ 16) layers h) (whole-afresh (m .mesh) ss cv z ∙ ap (beside 0) (sym y));
+            er ∙ rw (lt-leb (2 ^ 16) layers h) (complete-afresh (m .mesh) ss cv z ∙ ap (beside 0) (sym y));
         kept = ap (λ (x : Result). x .runs) e;
       }
 

@@ -23,7 +23,7 @@ use Rattle.pieces.specs.Kernels.{pieceAt, layAt, laid}
 use Rattle.pieces.specs.Lists.{pieceCount, greatestError, spread, fittedAll, listDecomposition}
 use Rattle.readings.specs.Readings.{noKernel, six, sixes}
 use Rattle.readings.specs.Lists.{set6-write}
-use Rattle.readings.specs.SixLaws.{whole, sixes-length, at-whole, list-sound, count-of}
+use Rattle.readings.specs.SixLaws.{asSix, sixes-length, at-six, list-sound, count-of}
 use Rattle.machine.specs.Fresh.{Worked, piecesTo, piecesOf, allPieces, worstFrom}
 use Rattle.machine.specs.Demands.{decomposedAll, Decomposed}
 
@@ -73,16 +73,16 @@ module _ (n : ℕ) (k : Kernel) (fit : Pieces) (xs : List Float) where
       ∙ ap (write xs (6 * n)) (sym (sixes-append (piecesTo k fit j) (pieceAt k fit j ∷ []))))))))
 
 -- ---- a list of kernels as six floats each
-same-fit : (k : Kernel) (r : Float) → decomposed (whole k) r ≡ decomposed k r
+same-fit : (k : Kernel) (r : Float) → decomposed (asSix k) r ≡ decomposed k r
 same-fit k r =
     same-pieces (getD (k .c) 0 nan ∷ getD (k .c) 1 nan ∷ getD (k .c) 2 nan ∷ []) (k .c) (k .sigma) (k .w) (k .w)
     (k .alpha) r
 
-same-sixes : (k : Kernel) (fit : Pieces) (n : ℕ) → sixes (piecesTo (whole k) fit n) ≡ sixes (piecesTo k fit n)
+same-sixes : (k : Kernel) (fit : Pieces) (n : ℕ) → sixes (piecesTo (asSix k) fit n) ≡ sixes (piecesTo k fit n)
 unfolding pieceAt
 same-sixes k fit zero = refl
 same-sixes k fit (suc n) =
-    sixes-append (piecesTo (whole k) fit n) (pieceAt (whole k) fit n ∷ [])
+    sixes-append (piecesTo (asSix k) fit n) (pieceAt (asSix k) fit n ∷ [])
     ∙
     (ap (λ (l : List Float). l ++ six (pieceAt k fit n)) (same-sixes k fit n)
     ∙ sym (sixes-append (piecesTo k fit n) (pieceAt k fit n ∷ [])))
@@ -92,7 +92,7 @@ module _ (ks : List Kernel) (r : Float) where
   L = sixes ks
 
   fit-at : (n : ℕ) → n < length ks → decomposed (kernelAt L n) r ≡ decomposed (getD ks n noKernel) r
-  fit-at n h = ap (λ (k : Kernel). decomposed k r) (at-whole ks n h) ∙ same-fit (getD ks n noKernel) r
+  fit-at n h = ap (λ (k : Kernel). decomposed k r) (at-six ks n h) ∙ same-fit (getD ks n noKernel) r
 
   -- the kernel at n, and all below it
   abbrev one : ℕ → Worked
@@ -141,8 +141,8 @@ module _ (ks : List Kernel) (r : Float) where
       let ys = write xs 0 (sixes done) in
       let w = length-write xs 0 (sixes done) (omega arith) in
       let e : 6 * length done ≡ 0 + length (sixes done) = omega arith in
-      rw (count-to n (omega arith), fit-at n h, at-whole ks n h, spread-to xs n (omega arith) (omega arith))
-      (lay-to (length done) (whole k) fit ys (fit .count) (omega arith)
+      rw (count-to n (omega arith), fit-at n h, at-six ks n h, spread-to xs n (omega arith) (omega arith))
+      (lay-to (length done) (asSix k) fit ys (fit .count) (omega arith)
       ∙ (ap (write ys (6 * length done)) (same-sixes k fit (fit .count))
       ∙ (ap (λ (i : ℕ). write ys i (sixes (piecesOf (one n)))) e
       ∙ (write-more xs 0 (sixes done) (sixes (piecesOf (one n))) (omega arith)

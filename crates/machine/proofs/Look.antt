@@ -34,7 +34,7 @@ use Rattle.machine.proofs.Sixteen.{laidOut}
 use Rattle.machine.proofs.Held.{verts-held, faces-held, get7, status-held, coords-held, corners-held}
 use Rattle.machine.proofs.Sane.{no-fault}
 use Rattle.machine.proofs.Sweep.{left-held}
-use Rattle.machine.proofs.Read.{fit-afresh, There, bare-all, whole-all}
+use Rattle.machine.proofs.Read.{fit-afresh, There, bare-all, complete-all}
 use Rattle.machine.proofs.Layers.{seen-or-none, emptied-there, emptied-valid, layers-held}
 use Rattle.machine.proofs.Parts.{freshSeen}
 use Rattle.machine.proofs.Afresh.{joined}
@@ -169,10 +169,10 @@ module _
   filled-held = filled-to 32 (omega arith) ∙ ap (λ (l : List Place). length (workAll (m .radius) l)) all
 
   -- with nothing left a reading sees what is worked afresh
-  pub whole-seen : leftSum m ts ≡ 0 → heldSeen wd FS WS ≡ freshSeen m ts
+  pub complete-seen : leftSum m ts ≡ 0 → heldSeen wd FS WS ≡ freshSeen m ts
   unfolding heldSeen freshSeen
-  whole-seen z =
-      same-seen (whole-all wd fm m ss ts hs v there xs ys z) body-held filled-held
+  complete-seen z =
+      same-seen (complete-all wd fm m ss ts hs v there xs ys z) body-held filled-held
       (worst-to 32 (omega arith) ∙ ap (λ (l : List Place). worstFrom +0 (workAll (m .radius) l)) all)
 
   bare-seen : map bare (heldSeen wd FS WS .parts) ≡ map bare (freshSeen m ts .parts)
@@ -189,7 +189,7 @@ module _
           ≡ cond (b && c) (refusing r Unfinished) (answerOf r (freshSeen m ts))
       go false n c e = blind r n (heldSeen wd FS WS) (freshSeen m ts) bare-seen
       go true n true e = refl
-      go true n false e = ap (answerOf r) (whole-seen (let z = ltb-false 0 (leftSum m ts) e in omega arith))
+      go true n false e = ap (answerOf r) (complete-seen (let z = ltb-false 0 (leftSum m ts) e in omega arith))
 
   pub seen-held : (r : Reading)
       → readingOf r (leftOf wd WS (facesOf WS) 32) (heldSeen wd FS WS)

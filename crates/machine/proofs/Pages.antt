@@ -24,7 +24,7 @@ use Rattle.machine.proofs.Sixteen.{laidOut}
 use Rattle.machine.proofs.Held.{faces-held, status-held}
 use Rattle.machine.proofs.Sane.{no-fault}
 use Rattle.machine.proofs.Sweep.{left-held}
-use Rattle.machine.proofs.Read.{fit-afresh, whole-place}
+use Rattle.machine.proofs.Read.{fit-afresh, complete-place}
 use Rattle.machine.proofs.Afresh.{place-mass}
 
 module _ (wd : ℕ) (fm : Width wd) (m : Mesh) (ss : List Place) (v : Valid m ss) (xs : List Float) (ys : List ℕ) where
@@ -52,7 +52,7 @@ module _ (wd : ℕ) (fm : Width wd) (m : Mesh) (ss : List Place) (v : Valid m ss
         let n : eqb (1 + fit .count) 0 ≡ false = ne-eqb (1 + fit .count) 0 (λ z. omega arith) in
         let c : 1 + fit .count - 1 ≡ fit .count = omega arith in
         let a = ap rawMass
-        (whole-place wd fm m ss ss (v .places) v (λ j k fit o p l e. e) xs ys none i h (full k fit o p l) e w)
+        (complete-place wd fm m ss ss (v .places) v (λ j k fit o p l e. e) xs ys none i h (full k fit o p l) e w)
         ∙ place-mass m (v .mesh) k fit o p l in
         let g = fitAfresh (m .radius) k fit o in
         rw (n, a, c)

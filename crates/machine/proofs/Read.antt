@@ -1,5 +1,5 @@
--- What a store holds is what working afresh gives: but for volumes at all times, and with no work left whole. Assumes
--- nothing.
+-- What a store holds is what working afresh gives: all but the volumes at any time, and the volumes too where no work is
+-- left. Assumes nothing.
 use mathlib.Core.Path.{_≡_, refl, sym, ap, subst, _∙_}
 use mathlib.Core.List.{List, [], _∷_, _++_, map, map-id, map-append, append-assoc, append-nil}
 use Prim.Native.Nat.{ℕ, zero, suc, _+_, _*_, _-_, _≤_, _<_, min}
@@ -205,7 +205,7 @@ module _
   none-left (s ∷ l) zero e = omega arith
   none-left (s ∷ l) (suc i) e = none-left l i (omega arith)
 
-  -- whole, with nothing left
+  -- the volumes too, with nothing left
   module _ (none : leftSum m ts ≡ 0) where
     agree : (i : ℕ) → i < 32 → (k : Kernel) (fit : Pieces) (o : Provenance) (p l : ℕ)
         → getD ts i empty ≡ full k fit o p l → (j : ℕ) → j < fit .count → heldPart FS i j ≡ freshPart m k fit j
@@ -216,12 +216,12 @@ module _
         ∙ ap (λ (x : Float). record { kernel = freshPart m k fit j .kernel; volume = x })
         (volume-held i h k fit o p l e (omega arith) j hj)
 
-    pub whole-all : heldAll wd FS WS 32 ≡ freshAll m ts
-    whole-all = sym (map-id (heldAll wd FS WS 32)) ∙ (held-all (λ (x : Part). x) agree ∙ map-id (freshAll m ts))
+    pub complete-all : heldAll wd FS WS 32 ≡ freshAll m ts
+    complete-all = sym (map-id (heldAll wd FS WS 32)) ∙ (held-all (λ (x : Part). x) agree ∙ map-id (freshAll m ts))
 
     -- place by place
-    pub whole-place : (i : ℕ) → i < 32 → (s : Place) → getD ts i empty ≡ s → Within m s
+    pub complete-place : (i : ℕ) → i < 32 → (s : Place) → getD ts i empty ≡ s → Within m s
         → heldAt FS i (getD (placeRow wd m s) 0 0 - 1) ≡ freshPlace m s
-    whole-place i h s e w =
+    complete-place i h s e w =
         sym (map-id (heldAt FS i (getD (placeRow wd m s) 0 0 - 1)))
         ∙ (place-held (λ (x : Part). x) agree i h s e w ∙ map-id (freshPlace m s))

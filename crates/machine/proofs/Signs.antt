@@ -40,7 +40,7 @@ use Rattle.mass.specs.Calls.{kernelVolumeCall, fieldMassCall}
 use Rattle.layout.specs.Layout.{width, placeLimit, pieceFrom}
 use Rattle.readings.specs.AlongLaws.{stretch-same}
 use Rattle.readings.specs.Readings.{Reading, density, report, list, track, noKernel, origin, rescaled, six, sixes, trackCheck, refusing}
-use Rattle.readings.specs.SixLaws.{whole, sixes-length, at-whole, list-sound, count-of}
+use Rattle.readings.specs.SixLaws.{asSix, sixes-length, at-six, list-sound, count-of}
 use Rattle.page.specs.Page.{Row, row, pageAnswer}
 use Rattle.text.specs.Print.{patternText, floatText}
 use Rattle.text.specs.WriteLaws.{length-digits}
@@ -75,8 +75,8 @@ even k = record { c = k .c; sigma = abs (k .sigma); w = k .w; alpha = k .alpha }
 
 six-at : (ks : List Kernel) (i : ℕ) → i < length ks → kernelAt (sixes (map even ks)) i ≡ even (kernelAt (sixes ks) i)
 six-at ks i h =
-    at-whole (map even ks) i (rw (length-map ks even) h)
-    ∙ (ap whole (map-getD even ks i noKernel noKernel h) ∙ ap even (sym (at-whole ks i h)))
+    at-six (map even ks) i (rw (length-map ks even) h)
+    ∙ (ap asSix (map-getD even ks i noKernel noKernel h) ∙ ap even (sym (at-six ks i h)))
 
 -- `densitize`
 density-same : (ks : List Kernel) (x : List Float) → densitized (sixes (map even ks)) x ≡ densitized (sixes ks) x

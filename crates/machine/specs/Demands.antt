@@ -119,7 +119,7 @@ pub record Partly
       ≡ beside (passedPlaces (m .mesh) (seenPlaces layers (m .places)))
       (store q (holding q (onlyComplete m layers) exF exW) (read 65535 (report v)) .reply)
   -- so with nothing left in its layers it is the ordinary report of this store, and passes over none
-  pub whole : layers < 2 ^ 16 → workSeen m layers ≡ 0
+  pub ordinary : layers < 2 ^ 16 → workSeen m layers ≡ 0
       → store q s (finished layers v) .reply ≡ beside 0 (store q s (read layers (report v)) .reply)
   -- like a reading it alters no word of the store
   pub kept : store q s (finished layers v) .runs ≡ s

@@ -20,8 +20,8 @@ use Rattle.density.specs.Densitize.{baseAt, densityOf, densitizeOf, densitized}
 use Rattle.readings.specs.Readings.{Part, noKernel, noPart, densityAt, rawMass, rescaled, sixes}
 
 -- a kernel with the three floats of its centre written out, as six floats keep it
-abbrev pub whole : Kernel → Kernel
-whole k =
+abbrev pub asSix : Kernel → Kernel
+asSix k =
     record {
       c = getD (k .c) 0 nan ∷ getD (k .c) 1 nan ∷ getD (k .c) 2 nan ∷ [];
       sigma = k .sigma;
@@ -48,15 +48,15 @@ next-kernel a b c d e f xs i =
 
 -- kernel i of such a list, whatever follows the list
 pub at-laid : (ks : List Kernel) (rest : List Float) (i : ℕ) → i < length ks
-    → kernelAt (sixes ks ++ rest) i ≡ whole (getD ks i noKernel)
+    → kernelAt (sixes ks ++ rest) i ≡ asSix (getD ks i noKernel)
 unfolding kernelAt
 at-laid [] rest i h = absurd (omega arith)
 at-laid (k ∷ ks) rest zero h = refl
 at-laid (k ∷ ks) rest (suc i) h = next-kernel (getD (k .c) 0 nan) (getD (k .c) 1 nan) (getD (k .c) 2 nan) (k .sigma)
     (k .w) (k .alpha) (sixes ks ++ rest) i ∙ at-laid ks rest i (omega arith)
 
-pub at-whole : (ks : List Kernel) (i : ℕ) → i < length ks → kernelAt (sixes ks) i ≡ whole (getD ks i noKernel)
-at-whole ks i h = ap (λ (l : List Float). kernelAt l i) (sym (append-nil (sixes ks))) ∙ at-laid ks [] i h
+pub at-six : (ks : List Kernel) (i : ℕ) → i < length ks → kernelAt (sixes ks) i ≡ asSix (getD ks i noKernel)
+at-six ks i h = ap (λ (l : List Float). kernelAt l i) (sym (append-nil (sixes ks))) ∙ at-laid ks [] i h
 
 pub list-sound : (ks : List Kernel) → listCheck (sixes ks) ≡ Passed
 unfolding listCheck
@@ -67,41 +67,41 @@ list-sound ks =
 pub count-of : (ks : List Kernel) → length (sixes ks) / 6 ≡ length ks
 count-of ks = omega (arith, sixes-length ks)
 
-pub sixes-whole : (ks : List Kernel) → sixes (map whole ks) ≡ sixes ks
-sixes-whole [] = refl
-sixes-whole (k ∷ ks) = rw (sixes-whole ks) refl
+pub sixes-again : (ks : List Kernel) → sixes (map asSix ks) ≡ sixes ks
+sixes-again [] = refl
+sixes-again (k ∷ ks) = rw (sixes-again ks) refl
 
-pub whole-rescaled : (s : Float) (ks : List Kernel) → map (rescaled s) (map whole ks) ≡ map whole (map (rescaled s) ks)
-whole-rescaled s [] = refl
-whole-rescaled s (k ∷ ks) = rw (whole-rescaled s ks) refl
+pub six-rescaled : (s : Float) (ks : List Kernel) → map (rescaled s) (map asSix ks) ≡ map asSix (map (rescaled s) ks)
+six-rescaled s [] = refl
+six-rescaled s (k ∷ ks) = rw (six-rescaled s ks) refl
 
 -- ---- `densitize`
 
 -- it looks at no more of a centre than its three floats
-density-whole : (k : Kernel) (x : List Float) → densityOf (whole k) x ≡ densityOf k x
+density-six : (k : Kernel) (x : List Float) → densityOf (asSix k) x ≡ densityOf k x
 unfolding densityOf baseAt
-density-whole k x = refl
+density-six k x = refl
 
 pub laid-density : (ks : List Kernel) (rest x : List Float)
     → densitizeOf (kernelAt (sixes ks ++ rest)) (length ks) x ≡ densityAt ks x
 unfolding densityAt densitizeOf
 laid-density ks rest x =
     times-same (λ i s h. ap (λ (r : Float). s ⊕ r)
-    (ap (λ (k : Kernel). densityOf k x) (at-laid ks rest i h) ∙ density-whole (getD ks i noKernel) x)) +0
+    (ap (λ (k : Kernel). densityOf k x) (at-laid ks rest i h) ∙ density-six (getD ks i noKernel) x)) +0
 
 pub densitized-on : (ks : List Kernel) (x : List Float)
-    → densitized (sixes ks) x ≡ accepted (densityAt (map whole ks) x ∷ [])
+    → densitized (sixes ks) x ≡ accepted (densityAt (map asSix ks) x ∷ [])
 unfolding densitized
 densitized-on ks x =
-    let ws = map whole ks in
-    rw (← sixes-whole ks, list-sound ws, count-of ws)
+    let ws = map asSix ks in
+    rw (← sixes-again ks, list-sound ws, count-of ws)
     (ap (λ (r : Float). accepted (r ∷ []))
     (ap (λ (l : List Float). densitizeOf (kernelAt l) (length ws) x) (sym (append-nil (sixes ws)))
     ∙ laid-density ws [] x))
 
 -- ---- `kernel_field_mass`
 abbrev pub sized : (ℕ → Triangle) → ℕ → Kernel → Part
-sized t n k = record { kernel = whole k; volume = kernelVolume t n (centreOf k) (k .sigma) }
+sized t n k = record { kernel = asSix k; volume = kernelVolume t n (centreOf k) (k .sigma) }
 
 part-at : (t : ℕ → Triangle) (n : ℕ) (ks : List Kernel) (i : ℕ) → i < length ks
     → getD (map (sized t n) ks) i noPart ≡ sized t n (kernelAt (sixes ks) i)
