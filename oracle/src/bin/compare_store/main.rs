@@ -10,8 +10,8 @@
 //! Then adoptions: histories of three stores on bodies that are the same or differ in one thing, places taken from one into another at
 //! any moment, each store beside its machine; the work of a store done by many hands, in any split and order; stores that nobody opened,
 //! runs too short, every damage of one word of either store, and the largest body. Each kind of adoption must have been met.
-//! Last, whole histories of 50 calls: all of that in one list, with lines written and read back at any moment. Each call must have been
-//! met with each answer that it can have in a history.
+//! Last, whole histories of 50 calls: any of these calls in one list, with lines written and read back at any moment. Each call must have
+//! been met with each answer that it can have in a history.
 //! `compare_store` takes some seconds, `compare_store --long` 10,000 histories, of whole ones too; `compare_store --whole` is the latter
 //! alone. `--seed N` draws others.
 //! The last line counts what differs; the exit status is 1 if anything does.

@@ -1,4 +1,4 @@
-//! Whole histories: every call of the store in one list, in an order that nobody rehearsed, beside the machine of 01 and 02, which sees the
+//! Whole histories: lists of any calls of the store, in an order that nobody rehearsed, beside the machine of 01 and 02, which sees the
 //! calls alone. A list begins in one of demand 3's three ways: an opening, a carry of a store of the form before layers, lines that are
 //! read. A second store, begun in any of them too, gives places to be adopted.
 //!
@@ -151,13 +151,13 @@ fn with_tens(r: &mut Rng, body: &Body, places: &Places, count: u64, notes: &mut 
     Ok(store)
 }
 
-/// One whose puts were made before L2: the archive makes no such store, and the old runs are those that its machine asks for.
+/// One whose puts were made before L2: the archive makes no such store, and the old runs are those that its machine asks for. Its calls
+/// do not count among those of the history, since there is nothing to compare before the carry.
 fn before_tens(r: &mut Rng, body: &Body, places: &Places, count: u64, notes: &mut Notes) -> Result<Store, Differs> {
     let mut old = Machine::<BeforeTens>::open(&body.xyz, &body.faces, body.radius);
     for _ in 0..count {
         let call = without_layers(histories::call(r, &old, places));
         old.answer(call, &mut lent(r, call));
-        notes.calls += 1;
     }
     let old_runs = with_excess(r, old.fields_in(OLD_RECORD));
     let runs = carry(r, &old_runs, notes)?;
@@ -280,7 +280,7 @@ fn step(r: &mut Rng, own: &mut Store, other: &Store, places: &Places, notes: &mu
     }
 }
 
-/// A history of so many calls on one store; now and then a call on the other comes between.
+/// A history of so many calls on one store, each compared; now and then a call on the other comes between.
 fn history(r: &mut Rng, notes: &mut Notes) -> Result<(), Differs> {
     let (body, places) = (body(r), Places::draw(r));
     let relative = relative(r, &body);
