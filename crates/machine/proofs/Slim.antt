@@ -12,7 +12,7 @@ use borrow.Author.Tests.{eq-eqb, ne-eqb}
 use Rattle.store.specs.Squeeze.{used, rank, renumbered, pointOf, keptTo, freedOf}
 use Rattle.store.specs.Marks.{Below}
 use Rattle.store.specs.TriangleLaws.{corner-used}
-use Rattle.machine.specs.Machine.{Mesh, usedBelow, placeIn, pointsAt, slim, freedBy}
+use Rattle.machine.specs.Machine.{Mesh, usedBelow, numberIn, pointsAt, slim, freedBy}
 
 module _ (ks : List ℕ) where
   -- as many vertices as the rank counts
@@ -26,27 +26,27 @@ module _ (ks : List ℕ) where
       one false = refl
 
   -- a vertex from n on is not among those below n
-  past : (n : ℕ) (t : List ℕ) (i : ℕ) → n ≤ i → placeIn (usedBelow ks n ++ t) i ≡ rank ks n + placeIn t i
+  past : (n : ℕ) (t : List ℕ) (i : ℕ) → n ≤ i → numberIn (usedBelow ks n ++ t) i ≡ rank ks n + numberIn t i
   unfolding rank
   past zero t i h = omega arith
   past (suc n) t i h =
-      ap (λ (l : List ℕ). placeIn l i) (append-assoc (usedBelow ks n) (cond (used ks n) (n ∷ []) []) t)
+      ap (λ (l : List ℕ). numberIn l i) (append-assoc (usedBelow ks n) (cond (used ks n) (n ∷ []) []) t)
       ∙ past n (cond (used ks n) (n ∷ []) [] ++ t) i (omega arith)
       ∙ one (used ks n)
     where
-      one : (b : Bool) → rank ks n + placeIn (cond b (n ∷ []) [] ++ t) i ≡ rank ks n + cond b 1 0 + placeIn t i
+      one : (b : Bool) → rank ks n + numberIn (cond b (n ∷ []) [] ++ t) i ≡ rank ks n + cond b 1 0 + numberIn t i
       one true = rw (ne-eqb n i (λ (e : n ≡ i). omega arith)) (omega arith)
       one false = omega arith
 
   -- a used vertex stands at its rank
-  place-rank : (n : ℕ) (t : List ℕ) (i : ℕ) → used ks i ≡ true → i < n → placeIn (usedBelow ks n ++ t) i ≡ rank ks i
+  place-rank : (n : ℕ) (t : List ℕ) (i : ℕ) → used ks i ≡ true → i < n → numberIn (usedBelow ks n ++ t) i ≡ rank ks i
   place-rank zero t i u h = absurd (omega arith)
   place-rank (suc n) t i u h =
-      ap (λ (l : List ℕ). placeIn l i) (append-assoc (usedBelow ks n) (cond (used ks n) (n ∷ []) []) t)
+      ap (λ (l : List ℕ). numberIn l i) (append-assoc (usedBelow ks n) (cond (used ks n) (n ∷ []) []) t)
       ∙ go (λ (l : i < n). place-rank n (cond (used ks n) (n ∷ []) [] ++ t) i u l) (decLt i n)
     where
-      go : (i < n → placeIn (usedBelow ks n ++ (cond (used ks n) (n ∷ []) [] ++ t)) i ≡ rank ks i) → Dec (i < n)
-          → placeIn (usedBelow ks n ++ (cond (used ks n) (n ∷ []) [] ++ t)) i ≡ rank ks i
+      go : (i < n → numberIn (usedBelow ks n ++ (cond (used ks n) (n ∷ []) [] ++ t)) i ≡ rank ks i) → Dec (i < n)
+          → numberIn (usedBelow ks n ++ (cond (used ks n) (n ∷ []) [] ++ t)) i ≡ rank ks i
       go ih (yes l) = ih l
       go ih (no l) =
           let e : n ≡ i = omega arith in
@@ -68,16 +68,16 @@ module _ (ks : List ℕ) where
       one true = refl
       one false = refl
 
-  corners-renumbered : (n : ℕ) → Below n ks → map (placeIn (usedBelow ks n)) ks ≡ renumbered ks
+  corners-renumbered : (n : ℕ) → Below n ks → map (numberIn (usedBelow ks n)) ks ≡ renumbered ks
   corners-renumbered n b = go ks (λ j h. (corner-used ks j h, b .corner j h))
     where
       go : (ls : List ℕ) → ((j : ℕ) → j < length ls → (used ks (getD ls j 0) ≡ true) × (getD ls j 0 < n))
-          → map (placeIn (usedBelow ks n)) ls ≡ map (rank ks) ls
+          → map (numberIn (usedBelow ks n)) ls ≡ map (rank ks) ls
       go [] h = refl
       go (l ∷ ls) h =
           let u = h zero (omega arith) in
-          let e : placeIn (usedBelow ks n) l ≡ rank ks l
-          = ap (λ (t : List ℕ). placeIn t l) (sym (append-nil (usedBelow ks n))) ∙ place-rank n [] l (u .0) (u .1) in
+          let e : numberIn (usedBelow ks n) l ≡ rank ks l
+          = ap (λ (t : List ℕ). numberIn t l) (sym (append-nil (usedBelow ks n))) ∙ place-rank n [] l (u .0) (u .1) in
           rw (e, go ls (λ j z. h (suc j) (omega arith))) refl
 
 -- the mesh by the store's own definitions

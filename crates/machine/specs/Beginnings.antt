@@ -76,8 +76,8 @@ linesRow (left l) q d a b =
     cond (ltb 0 n) n
     (anyRow (λ v. leb placeLimit (placeIn v)) 6 (d .puts) (anyRow (λ v. ltb 15 (layerIn v)) 16 (d .puts) 0))
 
--- ---- "adoptions from a store that itself came of an opening with that mesh and radius and any list of calls": or of a
--- carry, or of lines. With which mesh and radius is for the adoption to find out
+-- ---- the stores from which places may be adopted: each came of an opening, of a carry or of lines, and then of any
+-- list of events. With which mesh and radius is for the adoption to find out
 
 -- a store that has just begun, and its machine
 pub data Begun (q : ℕ) : Machine → Store → Type 0 where

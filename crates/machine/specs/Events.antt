@@ -14,30 +14,31 @@ use Rattle.pieces.specs.declared.pieces.Pieces.{Pieces}
 use Rattle.machine.specs.Machine.{Mesh, Provenance, Place, empty, full, need, leftPlace, Machine, Turn, turn, with-places}
 use Rattle.machine.specs.Calls.{Call, inPlace, machine, Store, Result, result, store, chargedBy, doneBy}
 
--- an event of a store: a call of its own, or an adoption. Into place i comes place j of another store, of which the
--- machine gets the machine and the store the runs; Beginnings.antt says where such a store may come from
+-- an event of a store: a call of its own, or an adoption, which is ours, beyond 02 (docs/DECISIONS.md, Many hands). In
+-- `adopt i o s j` place j of another store comes into place i: the machine gets that store's machine o, the store its
+-- runs s. Beginnings.antt says where such a store may come from
 pub data Event : Type 0 where
   call : Call → Event
   adopt : ℕ → Machine → Store → ℕ → Event
 
 -- ---- the machine
 
--- "of the same body (radius, V, F, coordinates and corners equal, NaN as one)"
+-- of the same body: radius, V, F, coordinates and corners are equal, NaN as one
 unfoldable pub sameMesh : Mesh → Mesh → Bool
 sameMesh m o =
     sameFloat (m .radius) (o .radius)
     && ((eqb (m .verts) (o .verts) && eqb (m .faces) (o .faces))
     && (sameFloats (m .coords) (o .coords) && sameWords (m .corners) (o .corners)))
 
--- "the machine's place becomes that of the other store's machine; charged grows by the left that comes across, dropped
--- by the left that is lost"
+-- the place becomes that of the other store's machine; charged grows by the left that comes across, dropped by the left
+-- that is lost
 abbrev pub adoptInto : Machine → ℕ → Kernel → Pieces → Provenance → ℕ → ℕ → Machine
 adoptInto m i k fit b p l =
     with-places m (set (m .places) i (full k fit b p l)) (need (m .mesh) fit - p)
     (leftPlace (m .mesh) (getD (m .places) i empty))
 
--- "7 where the other's place is empty"; "Answer: adopted or another body, pieces, steps left"; "Where the bodies differ
--- nothing is changed and the answer says so"
+-- 7 where the other's place is empty; else the answer is 1, the pieces and the steps left, or three zeros where the
+-- bodies differ, and then nothing is changed
 abbrev pub adoptTurn : Machine → ℕ → Mesh → Place → Turn
 adoptTurn m i o empty = turn m (refused Vacant)
 adoptTurn m i o (full k fit b p l) =
@@ -45,7 +46,7 @@ adoptTurn m i o (full k fit b p l) =
     (turn (adoptInto m i k fit b p l) (adopted (fit .count) (need (m .mesh) fit - p)))
     (turn m another)
 
--- "6 of either place"
+-- 6 of either place
 abbrev pub turnOf : Machine → Event → Turn
 turnOf m (call c) = machine m c
 turnOf m (adopt i o s j) = inPlace m i (inPlace m j (adoptTurn m i (o .mesh) (getD (o .places) j empty)))
@@ -90,6 +91,3 @@ doneOver q s (e ∷ es) = doneAt e (resultOf q s e .reply) + doneOver q (resultO
 
 abbrev pub chargedIn : ℕ → Store → List Call → ℕ
 chargedIn q s cs = chargedOver q s (map call cs)
-
-abbrev pub doneIn : ℕ → Store → List Call → ℕ
-doneIn q s cs = doneOver q s (map call cs)

@@ -216,9 +216,9 @@ usedBelow ks zero = []
 usedBelow ks (suc n) = usedBelow ks n ++ cond (used ks n) (n ∷ []) []
 
 -- where vertex i stands among the vertices vs: its new number
-abbrev pub placeIn : List ℕ → ℕ → ℕ
-placeIn [] i = 0
-placeIn (v ∷ vs) i = cond (eqb v i) 0 (suc (placeIn vs i))
+abbrev pub numberIn : List ℕ → ℕ → ℕ
+numberIn [] i = 0
+numberIn (v ∷ vs) i = cond (eqb v i) 0 (suc (numberIn vs i))
 
 -- the coordinates of the vertices vs
 abbrev pub pointsAt : List Float → List ℕ → List Float
@@ -232,7 +232,7 @@ slim m =
     record {
       radius = m .radius;
       coords = pointsAt (m .coords) vs;
-      corners = map (placeIn vs) (m .corners);
+      corners = map (numberIn vs) (m .corners);
       verts = length vs;
       faces = m .faces;
     }
