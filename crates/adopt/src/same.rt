@@ -1,6 +1,5 @@
 // Whether two stores' runs hold the same body. Both runs are read whole, so that the loops run at the memory's speed.
 ghost use mathlib.Core.Path.{_≡_};
-ghost use mathlib.Core.Bool.{_&&_};
 ghost use Prim.Native.Nat.{_+_, _*_, _≤_};
 ghost use lib.ListN.{length};
 ghost use Rattle.layout.specs.Layout.{width, coordsFrom, cornersFrom, vertsOf, facesOf};

@@ -54,7 +54,7 @@ placedFrom a =
 abbrev pub stepsFrom : Answer → CauchySteps
 stepsFrom a = record { no = a .refusal; done = getD (a .counts) 0 0; left = getD (a .counts) 1 0 }
 
--- adopt: "adopted or another body, pieces, steps left"
+-- adopt: whether the body is the same, then the pieces and the steps left of the place that came across
 abbrev pub adoptedFrom : Answer → CauchyAdopted
 adoptedFrom a =
     record {

@@ -166,8 +166,8 @@ pub record Decomposed (radius : Float) (ks : List Kernel) : Type 0 where
       (fittedAll (length ks) (length (allPieces (decomposedAll radius ks))) (worstFrom +0 (decomposedAll radius ks)))
       (write run 0 (sixes (allPieces (decomposedAll radius ks))))
 
--- ---- many hands: work done by any number of such stores, in any split by places and any order of adoptions, ends in
--- the very runs that one store's own advances would have ended in
+-- ---- many hands, which is ours, beyond 02: work that is done by any number of stores, split by places in any way and
+-- adopted in any order, ends in the very runs in which one store's own advances would have ended
 
 -- the store's own advances, and adoptions each of which brings the place that is there, worked on elsewhere: the same
 -- kernel, pieces and layer, with whatever steps. So a place may come back in any order, twice, out of date or not at
@@ -238,8 +238,8 @@ pub record Accepted (q : ℕ) (r : Float) (xs : List Float) (ks : List ℕ) (fs 
   pub every-list : (es : List Event) → Came q es
       → Follows q (excessF xs fs) (excessW q ks ws) (opened r xs ks) (leaving (openStep q fs ws r xs ks)) es
   -- 02, L12: "Later readings and step counts are then the same as without it; left isn't altered by it": so is all that
-  -- the store's other calls answer and write; a squeezed mesh is no longer that of another store, so no adoption is in
-  -- the list
+  -- the store's other calls answer and write, but for its lines (02, L10), which show the vertices. A squeezed mesh is
+  -- no longer that of another store, so no adoption is in the list
   pub unaltered : (cs : List Call)
       → heard q (leaving (openStep q fs ws r xs ks)) cs ≡ heard q (leaving (openStep q fs ws r xs ks)) (without cs)
 
@@ -320,5 +320,5 @@ pub record Demand3 : Type 0 where
       → (cs : List Old) → OfPuts Fitting cs → (gs : List Float) (us : List ℕ)
       → Carries r xs ks fs ws cs (oldAfter carried (opened r xs ks) cs) gs us
   pub reading : (fs : List Float) (ws : List ℕ) (s : List ℕ) → Loads width fs ws s
-  -- the same body: an adoption's machine takes two meshes for one exactly when they are
+  -- an adoption's machine takes two meshes for those of the same body exactly when they are one
   pub body : (m o : Mesh) → (sameMesh m o ≡ true → o ≡ m) × (o ≡ m → sameMesh m o ≡ true)

@@ -15,8 +15,9 @@ use Rattle.pieces.specs.declared.pieces.Pieces.{Pieces}
 use Rattle.machine.specs.Machine.{Mesh, Provenance, Place, empty, full, need, leftPlace, Machine, Turn, turn, with-places}
 use Rattle.machine.specs.Calls.{Call, inPlace, machine, Store, Result, result, store, chargedBy, doneBy}
 
--- an event of a store: a call of its own, or an adoption. Into place i comes place j of another store, of which the
--- machine gets the machine and the store the runs; Beginnings.antt says where such a store may come from
+-- an event of a store: a call of its own, or an adoption, which is ours, beyond 02 (docs/DECISIONS.md, Many hands). In
+-- `adopt i o s j` place j of another store comes into place i: the machine gets that store's machine o, the store its
+-- runs s. Beginnings.antt says where such a store may come from
 pub data Event : Type 0 where
   call : Call → Event
   adopt : ℕ → Machine → Store → ℕ → Event
@@ -38,8 +39,8 @@ adoptInto m i k fit b p l =
     with-places m (set (m .places) i (full k fit b p l)) (need (m .mesh) fit - p)
     (leftPlace (m .mesh) (getD (m .places) i empty))
 
--- 7 where the other's place is empty; else the answer says whether the bodies are the same, and of the place that came
--- across the pieces and the steps left. Where the bodies differ nothing is changed
+-- 7 where the other's place is empty; else the answer is 1, the pieces and the steps left, or three zeros where the
+-- bodies differ, and then nothing is changed
 abbrev pub adoptTurn : Machine → ℕ → Mesh → Place → Turn
 adoptTurn m i o empty = turn m (refused Vacant)
 adoptTurn m i o (full k fit b p l) =

@@ -12,22 +12,22 @@ use Rattle.machine.specs.Machine.{openRow}
 use Rattle.machine.specs.Calls.{Call, heardOf, numberless}
 use Rattle.machine.specs.Beginnings.{leaving}
 
--- p numbers v vertices anew, and q takes each new number back
-pub record Permutation (v : ℕ) (p q : ℕ → ℕ) : Type 0 where
+-- p numbers v vertices anew, and b takes each new number back
+pub record Permutation (v : ℕ) (p b : ℕ → ℕ) : Type 0 where
   pub within : (i : ℕ) → i < v → p i < v
-  pub within-back : (i : ℕ) → i < v → q i < v
-  pub back : (i : ℕ) → i < v → q (p i) ≡ i
-  pub forth : (i : ℕ) → i < v → p (q i) ≡ i
+  pub within-back : (i : ℕ) → i < v → b i < v
+  pub back : (i : ℕ) → i < v → b (p i) ≡ i
+  pub forth : (i : ℕ) → i < v → p (b i) ≡ i
 
 -- "two meshes differ only by a permutation of vertices, with corners renumbered to match": the mesh of coordinates ys
 -- and corners ls is that of xs and ks with vertex i as its vertex p i
-pub record Renumbered (p q : ℕ → ℕ) (xs : List Float) (ks : List ℕ) (ys : List Float) (ls : List ℕ) : Type 0 where
-  pub numbers : Permutation (length xs / 3) p q
+pub record Renumbered (p b : ℕ → ℕ) (xs : List Float) (ks : List ℕ) (ys : List Float) (ls : List ℕ) : Type 0 where
+  pub numbers : Permutation (length xs / 3) p b
   pub long : length ys ≡ length xs
   pub coords : (i j : ℕ) → i < length xs / 3 → j < 3 → getD ys (3 * p i + j) nan ≡ getD xs (3 * i + j) nan
   pub corners : ls ≡ map p ks
 
--- ---- what two openings answered and left
+-- ---- what two openings answered and left; q is the count of words to a place
 pub record Agree (q : ℕ) (a b : After) : Type 0 where
   pub opening : a .reply ≡ b .reply
   -- "the same list of put, clear, reweigh, advance and reading calls is made on each, then all answers and all that
@@ -40,7 +40,7 @@ pub record Agree (q : ℕ) (a b : After) : Type 0 where
 -- nothing else is asked
 abbrev pub Renumbering : Type 0
 Renumbering =
-    (p q : ℕ → ℕ) (xs : List Float) (ks : List ℕ) (ys : List Float) (ls : List ℕ) → Renumbered p q xs ks ys ls
+    (p b : ℕ → ℕ) (xs : List Float) (ks : List ℕ) (ys : List Float) (ls : List ℕ) → Renumbered p b xs ks ys ls
     → (r : Float) (fs : List Float) (ws : List ℕ) (gs : List Float) (us : List ℕ)
     → openRow width xs ks (length fs) (length ws) ≡ 0 → openRow width ys ls (length gs) (length us) ≡ 0
     → Agree width (openStep width fs ws r xs ks) (openStep width gs us r ys ls)

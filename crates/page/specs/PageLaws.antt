@@ -2,8 +2,7 @@
 use mathlib.Core.Path.{_≡_, refl, sym, ap, subst, _∙_}
 use mathlib.Core.Bool.{Bool, true, false, _&&_, cond, and-eq-true-iff}
 use mathlib.Core.List.{List, [], _∷_, _++_, append-assoc}
-use Prim.Native.Nat.{ℕ, zero, suc, _+_, _-_, _*_, _/_, _^_, _≤_, _<_}
-use native.Mathlib.Nat.{pow-suc}
+use Prim.Native.Nat.{ℕ, zero, suc, _+_, _-_, _*_, _≤_, _<_}
 use native.Mathlib.Numerals.{add-one}
 use native.Mathlib.Omega.{arith}
 use native.Mathlib.Decide.{decLt}
@@ -20,7 +19,7 @@ use Rattle.layout.specs.Layout.{statusOf}
 use Rattle.layout.specs.Soundness.{storeCheck}
 use Rattle.layout.specs.SoundLaws.{Worded, passed-both}
 use Rattle.readings.specs.Readings.{rawMass, heldAt, heldFilled}
-use Rattle.text.specs.Print.{decimalLength, decimalText}
+use Rattle.text.specs.Print.{decimalText}
 use Rattle.text.specs.LengthLaws.{decimal-length, digits-under}
 use Rattle.whole.specs.Whole.{printable}
 use Rattle.whole.specs.WholeLaws.{rounded-most}

@@ -19,7 +19,7 @@ use Rattle.page.specs.PageLaws.{Fair, AllFair, figure-small, total-small
 
 -- ---- definitions
 
--- each byte is a space or one after it in ASCII: none is a newline
+-- no byte comes before the space in ASCII: so none is a newline
 abbrev pub Visible : List ℕ → Type 0
 Visible [] = Unit {0}
 Visible (b ∷ l) = (32 ≤ b) × Visible l
