@@ -47,12 +47,12 @@ use Rattle.readings.specs.ListAnswer.{listRead}
 use Rattle.readings.specs.declared.tracks.TrackRead.{TrackRead}
 use Rattle.readings.specs.declared.tracks.TrackRead.the-variants as tracks
 use Rattle.readings.specs.TrackAnswer.{trackRead}
-use Rattle.cauchy.specs.Crossing.{solvedFrom, piecesFrom, listPiecesFrom}
+use Rattle.cauchy.specs.Crossing.{solvedFrom, kernelPiecesFrom, listPiecesFrom}
 use Rattle.cauchy.specs.declared.kernels.CauchySolved.{CauchySolved}
 use Rattle.cauchy.specs.Volumes.{valueFrom}
 use Rattle.cauchy.specs.Bills.{billFrom}
 use Rattle.cauchy.specs.Files.{convertedFrom}
-use Rattle.cauchy.specs.StoreCrossing.{openedFrom, placedFrom, stepsFrom, adoptedFrom, reportFrom, listedFrom, trackFrom}
+use Rattle.cauchy.specs.StoreCrossing.{openedFrom, placedFrom, stepsFrom, adoptedFrom, storeReportFrom, listedFrom, trackFrom}
 
 -- the reply of a number and values, which count where the number is 0
 abbrev pub told : ℕ → List ℕ → List Float → Answer
@@ -73,7 +73,7 @@ pub bad-matrix : toldSolved (solvedFrom (solvedAs (Refused BadMatrix))) ≡ solv
 bad-matrix = refl
 
 pub decomposes : (d : Decomposed)
-    → let c = piecesFrom (decomposedAs d) in
+    → let c = kernelPiecesFrom (decomposedAs d) in
     told (c .no) (c .pieces ∷ c .fit .kind ∷ c .fit .column ∷ []) (c .error ∷ c .fit .pivot ∷ []) ≡ decomposedAs d
 decomposes (decomposing.Written n e f) = refl
 decomposes (decomposing.Refused r) = rw (never-zero r) refl
@@ -108,7 +108,7 @@ values (measured.Value x) = refl
 values (measured.Refused r) = rw (never-zero r) refl
 
 pub reports : (d : Reported)
-    → let c = reportFrom (reportRead d) in
+    → let c = storeReportFrom (reportRead d) in
     let s = reported (c .report) (c .kernels) (c .pieces) (c .error) in
     told (c .no) (s .counts) (s .floats) ≡ reportRead d
 reports (reporting.Report mass filled pieces error) = refl

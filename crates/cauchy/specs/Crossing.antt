@@ -61,8 +61,8 @@ fitFrom i j a =
     record { kind = getD (a .counts) i 0; column = getD (a .counts) (i + 1) 0; pivot = getD (a .floats) j +0 }
 
 -- ---- a kernel's pieces
-abbrev pub piecesFrom : Answer → CauchyPieces
-piecesFrom a =
+abbrev pub kernelPiecesFrom : Answer → CauchyPieces
+kernelPiecesFrom a =
     record { no = a .refusal; pieces = getD (a .counts) 0 0; error = getD (a .floats) 0 +0; fit = fitFrom 1 1 a }
 
 -- ---- a list's pieces

@@ -54,7 +54,7 @@ placedFrom a =
 abbrev pub stepsFrom : Answer → CauchySteps
 stepsFrom a = record { no = a .refusal; done = getD (a .counts) 0 0; left = getD (a .counts) 1 0 }
 
--- adopt: whether the body is the same, then the pieces and the steps left of the place that came across
+-- adopt: 1 where the bodies are the same and 0 where they are not, then pieces and steps left
 abbrev pub adoptedFrom : Answer → CauchyAdopted
 adoptedFrom a =
     record {
@@ -69,8 +69,8 @@ abbrev pub squeezedFrom : Answer → CauchySqueezed
 squeezedFrom a = record { no = a .refusal; freed = getD (a .counts) 0 0 }
 
 -- report: "the first seven in `MassReport` order", then "filled count, pieces, greatest error"
-abbrev pub reportFrom : Answer → CauchyStoreReport
-reportFrom a =
+abbrev pub storeReportFrom : Answer → CauchyStoreReport
+storeReportFrom a =
     record {
       no = a .refusal;
       report = massFrom a;

@@ -4,7 +4,7 @@ ghost use mathlib.Core.Path.{_≡_};
 ghost use Rattle.solve.specs.Solve.{solution, solvedAs};
 ghost use Rattle.pieces.specs.Kernels.{decomposition, decomposedAs};
 ghost use Rattle.pieces.specs.Lists.{listDecomposition, listedAs};
-ghost use Rattle.cauchy.specs.Crossing.{lent, lentFrom, solvedFrom, exponentOf, crossedKernel, fitCrossed, noFit, piecesFrom, listPiecesFrom};
+ghost use Rattle.cauchy.specs.Crossing.{lent, lentFrom, solvedFrom, exponentOf, crossedKernel, fitCrossed, noFit, kernelPiecesFrom, listPiecesFrom};
 use base::refusal::Refusal;
 use base::refusal::refusal_number;
 use kernel::file::Exponent;
@@ -161,7 +161,7 @@ pub fn no_fit() -> CauchyFit
 }
 
 fn pieces_of(d: Decomposed) -> CauchyPieces
-    ensures { λ r. ⌜ r ≡ piecesFrom (decomposedAs d) ⌝ }
+    ensures { λ r. ⌜ r ≡ kernelPiecesFrom (decomposedAs d) ⌝ }
 {
     match d {
         Decomposed::Written(n, e, f) => CauchyPieces {
@@ -186,7 +186,8 @@ fn pieces_of(d: Decomposed) -> CauchyPieces
 // is too short for them.
 #[no_mangle]
 pub extern "C" fn cauchy_decompose(k: Kernel, radius: f64, out: &mut [f64]) -> CauchyPieces
-    ensures { λ r. ⌜ lent r (now (out .exit)) ≡ lentFrom piecesFrom (decomposition k radius (now (out .entry))) ⌝ }
+    ensures { λ r. ⌜ lent r (now (out .exit))
+        ≡ lentFrom kernelPiecesFrom (decomposition k radius (now (out .entry))) ⌝ }
 {
     pieces_of(decompose_into(k, radius, out))
 }

@@ -31,7 +31,7 @@ ghost use Rattle.base.specs.Answers.{printedAs};
 ghost use Rattle.page.specs.Page.{pageStep};
 ghost use Rattle.cauchy.specs.Volumes.{valueFrom};
 ghost use Rattle.cauchy.specs.Crossing.{lent, lentFrom, numberFrom};
-ghost use Rattle.cauchy.specs.StoreCrossing.{crossed, across, openedFrom, placedFrom, stepsFrom, adoptedFrom, squeezedFrom, conventionOf, reportFrom, finishedFrom, listedFrom, trackFrom, bytesFrom, printedFrom};
+ghost use Rattle.cauchy.specs.StoreCrossing.{crossed, across, openedFrom, placedFrom, stepsFrom, adoptedFrom, squeezedFrom, conventionOf, storeReportFrom, finishedFrom, listedFrom, trackFrom, bytesFrom, printedFrom};
 use crate::kernels::CauchyFit;
 use crate::kernels::fit_of;
 use crate::kernels::no_fit;
@@ -410,7 +410,7 @@ pub extern "C" fn cauchy_store_density(
 }
 
 fn report_of(d: Reported) -> CauchyStoreReport
-    ensures { λ r. ⌜ r ≡ reportFrom (reportRead d) ⌝ }
+    ensures { λ r. ⌜ r ≡ storeReportFrom (reportRead d) ⌝ }
 {
     match d {
         Reported::Report {
@@ -446,7 +446,7 @@ pub extern "C" fn cauchy_store_report(
     convention: CauchyConvention,
     layers: u32,
 ) -> CauchyStoreReport
-    ensures { λ r. ⌜ r ≡ reportFrom (readStep width (now (floats .entry)) (now (words .entry)) layers
+    ensures { λ r. ⌜ r ≡ storeReportFrom (readStep width (now (floats .entry)) (now (words .entry)) layers
         (Readings.report (conventionOf convention)) .reply) ⌝ }
 {
     report_of(report(floats, words, convention_of(convention), layers))
