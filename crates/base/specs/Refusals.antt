@@ -10,15 +10,16 @@ number Ragged = 1
 number Oversize = 2
 -- index ≥ V
 number LooseCorner = 3
--- below 1,761+3V floats or 98+3F words
+-- below 1,761+3V floats or 98+3F words; "below 130+3F words" since 02's L5
 number ShortStore = 4
 -- store not sound
 number Unsound = 5
 -- place ≥ 32
 number NoPlace = 6
--- clear or reweigh of an empty place
+-- clear or reweigh of an empty place, and of our own calls an adoption of one
 number Vacant = 7
--- left > 0, for report, or density and list by mass with target > 0
+-- left > 0, for report, or density and list by mass with target > 0; a track counts as a density (02, L1), and a page
+-- is given only when nothing is left (02, L8)
 number Unfinished = 8
 -- run to be written under 6 floats per piece (or kernel) written, or a kernel list given whose length isn't a multiple
 -- of 6
@@ -49,5 +50,5 @@ number ShortText = 19
 number BadKernelLine = 20
 -- the strict form finds differing kernels (02, L11)
 number LoadersDiffer = 21
--- a face names a corner twice, or a directed edge or its reverse does not occur once
+-- a face names a corner twice, or a directed edge or its reverse does not occur once (02, L13)
 number Unclosed = 22

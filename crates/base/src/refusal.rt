@@ -1,8 +1,8 @@
-// The refusals of document 01's table, whose numbers every call answers.
+// The refusals of 01's table and of 02, whose numbers every call answers.
 ghost use mathlib.Core.Path.{_≡_};
 ghost use Rattle.base.specs.Refusals.{number};
 
-// A refusal, by 01's trade word.
+// A refusal; 01 has trade words for those up to 13, and 02 has none.
 pub enum Refusal {
     // 1: a coordinate or index count is not a multiple of 3
     Ragged,
@@ -16,7 +16,7 @@ pub enum Refusal {
     Unsound,
     // 6: the place is 32 or more
     NoPlace,
-    // 7: the place to clear or reweigh is empty
+    // 7: the place to clear, reweigh or adopt is empty
     Vacant,
     // 8: work is left that this reading needs
     Unfinished,
@@ -68,7 +68,7 @@ pub enum Printed {
     Refused(Refusal),
 }
 
-// 01's number of a refusal.
+// The number of a refusal in 01 or 02.
 pub fn refusal_number(refusal: Refusal) -> u32
     ensures { λ r. ⌜ r ≡ number refusal ⌝ }
 {
