@@ -1,4 +1,4 @@
--- What a call answers: 01's or 02's number of its refusal, and its values. Definitions only.
+-- What a call answers: the number of its refusal in 01 or 02, and its values. Definitions only.
 use Prim.Native.Nat.{ℕ}
 use mathlib.Core.Bool.{cond}
 use mathlib.Core.List.{List, [], _∷_}

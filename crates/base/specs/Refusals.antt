@@ -10,7 +10,7 @@ number Ragged = 1
 number Oversize = 2
 -- index ≥ V
 number LooseCorner = 3
--- below 1,761+3V floats or 98+3F words; since 02's L5 130+3F words
+-- below 1,761+3V floats or 98+3F words; "below 130+3F words" since 02's L5
 number ShortStore = 4
 -- store not sound
 number Unsound = 5

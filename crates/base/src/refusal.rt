@@ -1,8 +1,8 @@
-// The refusals of document 01's table and of 02, whose numbers every call answers.
+// The refusals of 01's table and of 02, whose numbers every call answers.
 ghost use mathlib.Core.Path.{_≡_};
 ghost use Rattle.base.specs.Refusals.{number};
 
-// A refusal: up to 13 by 01's trade word, then 02's.
+// A refusal; 01 has trade words for those up to 13, and 02 has none.
 pub enum Refusal {
     // 1: a coordinate or index count is not a multiple of 3
     Ragged,
@@ -68,7 +68,7 @@ pub enum Printed {
     Refused(Refusal),
 }
 
-// 01's or 02's number of a refusal.
+// The number of a refusal in 01 or 02.
 pub fn refusal_number(refusal: Refusal) -> u32
     ensures { λ r. ⌜ r ≡ number refusal ⌝ }
 {

@@ -1,7 +1,7 @@
--- DUNANT7 of native mass.rs: Dunavant 1985, degree 5, on a triangle. 02, L9: "The seven rows of the surface rule repeat
--- five coordinates and three weights .. Replace the rows by the numbers and a formula that picks, for row and corner,
--- which one stands there." The numbers are given by their bits. That they are the Rust's decimals, each rounded once,
--- and that the formula gives the Rust's rows, is the theorem `seven-rows` (DunavantRows).
+-- DUNANT7 of native mass.rs and of source density.rs: Dunavant 1985, degree 5, on a triangle. 02, L9: "The seven rows
+-- of the surface rule repeat five coordinates and three weights .. Replace the rows by the numbers and a formula that
+-- picks, for row and corner, which one stands there." The numbers are given by their bits. That they are the Rust's
+-- decimals, each rounded once, and that the formula gives the Rust's rows, is the theorem `seven-rows` (DunavantRows).
 use Prim.Native.Nat.{ℕ, _+_, _%_}
 use mathlib.Core.Path.{_≡_, refl}
 use mathlib.Core.Bool.{cond}

@@ -15,7 +15,8 @@ middle = record { a = one ⊘ three; b = one ⊘ three; c = one ⊘ three; w = d
 abbrev row : ℕ → ℕ → ℕ → ℕ → Node
 row a b c w = record { a = decimal a 17; b = decimal b 17; c = decimal c 17; w = decimal w 17 }
 
--- the table of native mass.rs, the digits grouped as they are there
+-- the table of native mass.rs, the digits grouped as they are there and filled up with zeros; that of source density.rs
+-- has the same numbers
 abbrev pub DUNANT7 : List Node
 DUNANT7 =
     middle

@@ -1,5 +1,5 @@
--- 01, "Remainder", program `bench`: numbers as text, and what a run holds after a text was written to it. Definitions
--- only.
+-- 01, "Remainder", program `bench`, and 02, L8 and L10: numbers as text, and what a run holds after a text was written
+-- to it. Definitions only.
 use Prim.Native.Nat.{ℕ, zero, suc, _+_, _/_, _%_}
 use mathlib.Core.Path.{_≡_}
 use mathlib.Core.List.{List, [], _∷_, _++_}
@@ -40,6 +40,7 @@ decimalText n = digits 10 (decimalLength n) n
 unfoldable pub patternText : ℕ → List ℕ
 patternText n = digits 16 16 n
 
--- "of a float's bits; a NaN is printed as 7FF8000000000000"
+-- "of a float's bits; a NaN is printed as 7FF8000000000000": `toBits` has that pattern for it, as `nan-written` shows
+-- (crates/script/specs/Rows.antt)
 abbrev pub floatText : Float → List ℕ
 floatText x = patternText (toBits binary64 x)

@@ -1,5 +1,5 @@
--- 01, "Remainder", program `bench`: the tokens of a line of text, each read where the text before it ended. Definitions
--- only. A token that does not fit leaves `lost`, and every token of `lost` is `lost`.
+-- 01, "Remainder", program `bench`, and 02, L10 and L11: the tokens of a line of text, each read where the text before
+-- it ended. Definitions only. A token that does not fit leaves `lost`, and every token of `lost` is `lost`.
 use Prim.Native.Nat.{ℕ, zero, suc, _-_, _+_, _*_}
 use Prim.Native.String.{String}
 use Prim.Native.Char.{code}
