@@ -10,10 +10,10 @@
 //! Then adoptions: histories of three stores on bodies that are the same or differ in one thing, places taken from one into another at
 //! any moment, each store beside its machine; the work of a store done by many hands, in any split and order; stores that nobody opened,
 //! runs too short, every damage of one word of either store, and the largest body. Each kind of adoption must have been met.
-//! Last, whole histories of 50 calls: any of these calls in one list, with lines written and read back at any moment. Each call must have
+//! Last, histories of 50 calls with every call in them: any of these in one list, with lines written and read back at any moment. Each call must have
 //! been met with each answer that it can have in a history.
-//! `compare_store` takes some seconds, `compare_store --long` 10,000 histories, of whole ones too; `compare_store --whole` is the latter
-//! alone. `--seed N` draws others.
+//! `compare_store` takes some seconds, `compare_store --long` 10,000 histories, and 10,000 of every call; `compare_store --every-call` is
+//! the latter alone. `--seed N` draws others.
 //! The last line counts what differs; the exit status is 1 if anything does.
 #[cfg(original)]
 mod adoption_kinds;
@@ -26,6 +26,10 @@ mod carry_kinds;
 #[cfg(original)]
 mod damage;
 #[cfg(original)]
+mod every_call;
+#[cfg(original)]
+mod every_call_kinds;
+#[cfg(original)]
 mod judge;
 #[cfg(original)]
 mod openings;
@@ -33,10 +37,6 @@ mod openings;
 mod squeezes;
 #[cfg(original)]
 mod tracks;
-#[cfg(original)]
-mod whole;
-#[cfg(original)]
-mod whole_kinds;
 
 #[cfg(original)]
 use oracle::tally::{Kinds, Plan, Tally};
@@ -47,17 +47,17 @@ fn main() {
 
 #[cfg(original)]
 fn work() {
-    let plan = Plan::read_with("compare_store", Some("--whole"));
+    let plan = Plan::read_with("compare_store", Some("--every-call"));
     let mut total = Tally::new();
     if !plan.alone {
         parts(&plan, &mut total);
     }
     let mut kinds = Kinds::default();
-    total.add(whole::histories(plan.count(200, 10_000), plan.rng(21), &mut kinds));
-    total.add(kinds.all_met("whole", "calls", &whole_kinds::in_any(), plan.count(1, 20)));
+    total.add(every_call::histories(plan.count(200, 10_000), plan.rng(21), &mut kinds));
+    total.add(kinds.all_met("every call", "calls", &every_call_kinds::in_any(), plan.count(1, 20)));
     if plan.count(0, 1) > 0 {
-        whole_kinds::print(&kinds);
-        total.add(kinds.all_met("whole", "calls and beginnings", &whole_kinds::in_many(), 20));
+        every_call_kinds::print(&kinds);
+        total.add(kinds.all_met("every call", "calls and beginnings", &every_call_kinds::in_many(), 20));
     }
     total.end();
 }

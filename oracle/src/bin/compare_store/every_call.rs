@@ -1,4 +1,4 @@
-//! Whole histories: lists of any calls of the store, in an order that nobody rehearsed, beside the machine of 01 and 02, which sees the
+//! Histories of every call: lists of any calls of the store, in an order that nobody rehearsed, beside the machine of 01 and 02, which sees the
 //! calls alone. A list begins in one of demand 3's three ways: an opening, a carry of a store of the form before layers, lines that are
 //! read. A second store, begun in any of them too, gives places to be adopted.
 //!
@@ -6,8 +6,8 @@
 //! before 02's L2 go across as held: the archive's powers without L2 made those.
 use crate::adoptions::{between, body, left, relative, taken};
 use crate::carries::{carried, garbage, needed, same_bits, with_excess};
+use crate::every_call_kinds::{self, Since};
 use crate::judge::{Runs, differs, lent, opened, runs_differ, wanted};
-use crate::whole_kinds::{self, Since};
 use oracle::cases::one;
 use oracle::histories::{self, Answer, Body, Call, Model, Places};
 use oracle::inputs::Rng;
@@ -70,7 +70,7 @@ impl Store {
             Answer::Steps(steps, _) => self.done += steps,
             _ => {}
         }
-        whole_kinds::add_call(notes.kinds, self.since, call, want);
+        every_call_kinds::add_call(notes.kinds, self.since, call, want);
         notes.compared(fault.map(|what| format!("{call:?}: {what}")))
     }
 
@@ -172,12 +172,12 @@ fn carry(r: &mut Rng, old: &Runs, notes: &mut Notes) -> Result<Runs, Differs> {
     if r.below(3) == 0 {
         let (floats, words) = one(r, &[(floats - 1, words), (floats, words - 1), (floats, words - PLACES)]);
         let (fault, no, _) = carried(r, old, floats, words);
-        whole_kinds::add(notes.kinds, Since::OldOpening, "carry", no);
+        every_call_kinds::add(notes.kinds, Since::OldOpening, "carry", no);
         notes.compared(fault)?;
     }
     let (floats, words) = (floats + r.below(5) as usize, words + r.below(5) as usize);
     let (fault, no, runs) = carried(r, old, floats, words);
-    whole_kinds::add(notes.kinds, Since::OldOpening, "carry", no);
+    every_call_kinds::add(notes.kinds, Since::OldOpening, "carry", no);
     notes.compared(fault)?;
     notes.calls += 1;
     Ok(runs)
@@ -237,7 +237,7 @@ fn read_back(r: &mut Rng, own: &mut Store, notes: &mut Notes) -> Result<(), Diff
         bytes.extend(b"(face 0 0 0)\n".repeat(FACES + 1));
     }
     let (fault, read) = read(r, &bytes, floats, words);
-    whole_kinds::add(notes.kinds, own.since, "read", read.as_ref().err().copied().unwrap_or(0));
+    every_call_kinds::add(notes.kinds, own.since, "read", read.as_ref().err().copied().unwrap_or(0));
     notes.compared(fault.map(|what| format!("read {floats} floats, {words} words: {what}")))?;
     if let Ok(store) = read {
         own.end(notes)?;
@@ -270,7 +270,7 @@ fn step(r: &mut Rng, own: &mut Store, other: &Store, places: &Places, notes: &mu
             let (fault, want) = taken((&mut own.runs, &mut own.machine), (&other.runs, &other.machine), (i, j));
             // "charged grows by the left that comes across"
             own.charged += want.ok().flatten().map_or(0, |(_, left)| left);
-            whole_kinds::add_adoption(notes.kinds, own.since, want);
+            every_call_kinds::add_adoption(notes.kinds, own.since, want);
             notes.compared(fault.map(|what| format!("adoption of place {j} into place {i}: {what}")))
         }
         _ => {
@@ -307,6 +307,6 @@ pub fn histories(count: u64, mut r: Rng, kinds: &mut Kinds) -> Tally {
         // a difference is told where it is met
         let _ = history(&mut r, &mut notes);
     }
-    notes.tally.line("whole", &format!("{count} histories of {CALLS} calls"), &whole_kinds::shown(notes.kinds));
+    notes.tally.line("every call", &format!("{count} histories of {CALLS} calls"), &every_call_kinds::shown(notes.kinds));
     notes.tally
 }

@@ -1,4 +1,4 @@
-//! Which kinds of calls were met in whole histories.
+//! Which kinds of calls were met in histories of every call.
 use crate::adoption_kinds::Told;
 use crate::judge::set_of;
 use oracle::conventions::{Convention, RAW, RHO0};
