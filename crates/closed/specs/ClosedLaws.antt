@@ -10,13 +10,14 @@ use borrow.Author.Tests.{eq-eqb, ltb-true, ltb-false, eqb-true, eqb-false, not-t
 use Rattle.closed.specs.Closed.{Edge, edge, same, edges, occurrences, distinctCorners, once, each, passes, closedCheck}
 use Rattle.closed.specs.Order.{is}
 use Rattle.closed.specs.OrderLaws.{is-yes, is-no}
-use Rattle.closed.specs.Held.{code, tally, Below, Matched, Unmatched}
+use Rattle.closed.specs.Held.{code, tally, Matched, Unmatched}
 use Rattle.closed.specs.HeldLaws.{peel, few, neither}
 use Rattle.base.specs.declared.refusal.Refusal.the-variants.{Ragged, Oversize, LooseCorner, Unclosed}
 use Rattle.base.specs.declared.refusal.Refusal.{Refusal}
 use Rattle.base.specs.declared.refusal.Checked.the-variants.{Passed, Failed}
 use Rattle.mesh.specs.Checks.{vertexLimit, faceLimit, ragged, oversize, allBelow, meshCheck}
 use Rattle.mesh.specs.CheckLaws.{passed-sound}
+use Rattle.mesh.specs.Corners.{Below, below-greater}
 
 -- ---- what one face adds
 distinct-few : (l : List ℕ) → length l ≤ 2 → distinctCorners l ≡ true
@@ -151,9 +152,6 @@ proper {v} (x ∷ y ∷ z ∷ ks) d s e n =
     go false false false i j k m o = o (omega arith)
 
 -- ---- numbers in pairs are edges in pairs
-pub below-limit : {v w : ℕ} {ks : List ℕ} → v ≤ w → Below v ks → Below w ks
-below-limit h s = record { corner = λ k l. let g = s .corner k l in omega arith }
-
 pub matched-once : {v : ℕ} {ks : List ℕ} → distinctCorners ks ≡ true → v ≤ 1048576 → Below v ks
     → Matched ks (v * 1048576) → each (once (edges ks)) (edges ks) ≡ true
 unfolding once code
@@ -161,8 +159,8 @@ matched-once {v} {ks} d h s m = each-of (once (edges ks)) (edges ks) (λ e n.
     let g = proper ks d s e n in
     let gt = g .tail in
     let gh = g .head in
-    let t = tally-is (e .tail) (e .head) (omega arith) (omega arith) ks (below-limit h s) in
-    let r = tally-is (e .head) (e .tail) (omega arith) (omega arith) ks (below-limit h s) in
+    let t = tally-is (e .tail) (e .head) (omega arith) (omega arith) ks (below-greater s h) in
+    let r = tally-is (e .head) (e .tail) (omega arith) (omega arith) ks (below-greater s h) in
     let o = ones (e .tail) (e .head) (g .apart) (g .tail) (g .head) (omega arith) in
     rw (
       t,
@@ -238,9 +236,9 @@ unmatched-fails {v} {ks} d h s u = go (each (once (edges ks)) (edges ks)) refl
         let o = and-eq-true-iff (eqb (occurrences (edge (e .a) (e .b)) (edges ks)) 1)
         (eqb (occurrences (edge (e .b) (e .a)) (edges ks)) 1) .0
         (each-at (once (edges ks)) (edges ks) w (edge (e .a) (e .b)) (e .occurs)) in
-        let p = sym (tally-is (e .a) (e .b) (omega arith) (omega arith) ks (below-limit h s))
+        let p = sym (tally-is (e .a) (e .b) (omega arith) (omega arith) ks (below-greater s h))
         ∙ eqb-true (occurrences (edge (e .a) (e .b)) (edges ks)) 1 (o .0) in
-        let q = sym (tally-is (e .b) (e .a) (omega arith) (omega arith) ks (below-limit h s))
+        let q = sym (tally-is (e .b) (e .a) (omega arith) (omega arith) ks (below-greater s h))
         ∙ eqb-true (occurrences (edge (e .b) (e .a)) (edges ks)) 1 (o .1) in
         side (e .a) (e .b) (g .apart) (ltb (e .a) (e .b)) (ltb (e .b) (e .a)) refl refl (e .number) p q
       where

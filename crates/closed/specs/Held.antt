@@ -60,10 +60,6 @@ pub record Listed (ks : List ℕ) (first last size from to : ℕ) (ps : List ℕ
   pub stops : behind size from ps m ≤ to
   pub rest : NoneWithin ks first last (3 * behind size from ps m) (3 * to)
 
--- every corner is below v
-pub record Below (v : ℕ) (ks : List ℕ) : Type 0 where
-  pub corner : (k : ℕ) → k < length ks → getD ks k 0 < v
-
 -- of words in order, the first m of n are those below `end`
 pub record Cut (end : ℕ) (xs : List ℕ) (n m : ℕ) : Type 0 where
   pub fewer : m ≤ n

@@ -10,10 +10,11 @@ use lib.Dec.{eqb, leb, ltb}
 use lib.ListN.{length, getD, set, drop, length-set, length-drop}
 use lib.Seq.{getD-set-same, getD-set-other, drop-cons}
 use borrow.Author.Tests.{le-leb, lt-ltb, leb-true, leb-false, ltb-true, ltb-false, eqb-true, eqb-false}
+use Rattle.mesh.specs.Corners.{Below}
 use Rattle.closed.specs.declared.ranges.Batch.{Batch}
 use Rattle.closed.specs.Order.{is, copies, All, Within, Rising, Ordered}
 use Rattle.closed.specs.OrderLaws.{is-yes, is-no, is-pair, copies-next, copies-le, copies-past, copies-none, copies-two, copies-above, all-moved, all-none}
-use Rattle.closed.specs.Held.{code, tally, inside, taken, Put, Faced, NoneWithin, behind, Listed, Below, Cut, Sound, Gathered, Halved, Paired, Unpaired, Matched, Unmatched}
+use Rattle.closed.specs.Held.{code, tally, inside, taken, Put, Faced, NoneWithin, behind, Listed, Cut, Sound, Gathered, Halved, Paired, Unpaired, Matched, Unmatched}
 
 -- ---- a word that is put
 pub put-one : (c low end x n : ℕ) (xs : List ℕ) → n < length xs → low ≤ c → c < end

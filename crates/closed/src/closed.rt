@@ -3,7 +3,7 @@ ghost use mathlib.Core.Path.{_≡_};
 ghost use Prim.Native.Nat.{_≤_};
 ghost use lib.ListN.{length};
 ghost use Rattle.closed.specs.Closed.{distinctCorners, passes, closedCheck};
-ghost use Rattle.closed.specs.Held.{Below};
+ghost use Rattle.mesh.specs.Corners.{Below};
 use crate::sweep::sweep;
 use base::refusal::Checked;
 use base::refusal::Refusal;

@@ -21,7 +21,7 @@ use Rattle.kernel.specs.declared.file.Exponent.the-variants.{Given, Missing}
 use Rattle.kernel.specs.File.{exponentOr, fromFile}
 use Rattle.text.specs.Text.{Text, lost, left, bytes, literal, float, pattern}
 use Rattle.text.specs.Form.{read, map as mapped, orAt}
-use Rattle.convert.specs.Loaders.{nativeOf, sourceOf, givenOr, loaded, sameFloat, sameKernel, alike, allAlike}
+use Rattle.convert.specs.Loaders.{nativeOf, sourceOf, givenOr, loaded, sameBits, sameKernel, alike, allAlike}
 use Rattle.convert.specs.Lines.{givenForm, missingForm, toExponent, fileLine, fileLines, filed, allLines}
 use Rattle.convert.specs.Convert.{laidFrom, conversionCheck, conversion}
 use Rattle.convert.specs.declared.file.FileKernel.{FileKernel}
@@ -29,10 +29,10 @@ use Rattle.convert.specs.declared.file.Loader.the-variants.{Native, Sour
 
 -- ---- floats of the format are told apart by their bits
 
-same-self : (x : Float) → sameFloat x x ≡ true
+same-self : (x : Float) → sameBits x x ≡ true
 same-self x = eq-eqb (toBits binary64 x) (toBits binary64 x) refl
 
-same-is : (x y : Float) → T (fits binary64 x) → T (fits binary64 y) → sameFloat x y ≡ true → x ≡ y
+same-is : (x y : Float) → T (fits binary64 x) → T (fits binary64 y) → sameBits x y ≡ true → x ≡ y
 same-is x y f g h =
     sym (ofBits-toBits binary64 x f) ∙ ap (ofBits binary64) (eqb-true (toBits binary64 x) (toBits binary64 y) h)
     ∙ ofBits-toBits binary64 y g
@@ -67,7 +67,7 @@ by-exponent d f e =
     (λ i. record { c = n .c; sigma = n .sigma; w = n .w; alpha = e i })
 
 pub alike-by-exponent : (d : Float) (f : FileKernel)
-    → sameFloat (exponentOr (f .exponent) d) (givenOr (f .exponent) d) ≡ alike d f
+    → sameBits (exponentOr (f .exponent) d) (givenOr (f .exponent) d) ≡ alike d f
 unfolding alike nativeOf sourceOf fromFile
 alike-by-exponent d f = sym (simp same-self)
 

@@ -42,14 +42,14 @@ loaded Source default f = sourceOf default f
 loaded Strict default f = nativeOf default f
 
 -- "equal kernels, bit for bit with NaN as one": each of the six floats, by its bits; `toBits` has one pattern for NaN
-abbrev pub sameFloat : Float → Float → Bool
-sameFloat x y = eqb (toBits binary64 x) (toBits binary64 y)
+abbrev pub sameBits : Float → Float → Bool
+sameBits x y = eqb (toBits binary64 x) (toBits binary64 y)
 
 abbrev pub sameKernel : Kernel → Kernel → Bool
 sameKernel j k =
-    sameFloat (getD (j .c) 0 nan) (getD (k .c) 0 nan)
-    && (sameFloat (getD (j .c) 1 nan) (getD (k .c) 1 nan) && (sameFloat (getD (j .c) 2 nan) (getD (k .c) 2 nan)
-    && (sameFloat (j .sigma) (k .sigma) && (sameFloat (j .w) (k .w) && sameFloat (j .alpha) (k .alpha)))))
+    sameBits (getD (j .c) 0 nan) (getD (k .c) 0 nan)
+    && (sameBits (getD (j .c) 1 nan) (getD (k .c) 1 nan) && (sameBits (getD (j .c) 2 nan) (getD (k .c) 2 nan)
+    && (sameBits (j .sigma) (k .sigma) && (sameBits (j .w) (k .w) && sameBits (j .alpha) (k .alpha)))))
 
 unfoldable pub alike : Float → FileKernel → Bool
 alike default f = sameKernel (nativeOf default f) (sourceOf default f)

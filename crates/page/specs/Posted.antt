@@ -9,11 +9,8 @@ use lib.Dec.{leb}
 use lib.ListN.{length, take, drop}
 use lib.Seq.{take-append-seam, drop-append-seam}
 use lib.Ieee.{Float}
-use borrow.Author.Tests.{eq-eqb}
 use Rattle.base.specs.Answers.{counted, andThen, Printout, printout, guardedBytes}
-use Rattle.base.specs.Refusals.{number}
-use Rattle.base.specs.RefusalLaws.{never-zero}
-use Rattle.base.specs.declared.refusal.Refusal.{Refusal}
+use Rattle.base.specs.RefusalLaws.{not-zero}
 use Rattle.base.specs.declared.refusal.Refusal.the-variants.{NoFigure, ShortPage}
 use Rattle.base.specs.declared.refusal.Checked.{Checked}
 use Rattle.base.specs.declared.refusal.Checked.the-variants.{Passed, Failed}
@@ -24,10 +21,6 @@ use Rattle.readings.specs.Readings.{heldFilled}
 use Rattle.page.specs.Page.{doneCheck, Row, totalOf, pageOf, allPrintable, pageAnswer, heldRows, pageStep}
 use Rattle.page.specs.PageLaws.{AllFair, done-passed, page-length, rows-count, rows-fair, filled-most}
 use Rattle.page.specs.ReadBack.{Lines, exactly, readMass, readLines, shown, page-lines, page-back, total-back}
-
-not-zero : {P : Type 0} (e : Refusal) → number e ≡ 0 → P
-not-zero e h = absurd (let o : _≡_ {A = Bool} true false = sym (eq-eqb (number e) 0 h)
-    ∙ never-zero e in let p : _≡_ {A = ℕ} 0 1 = cc in omega arith)
 
 module _ (q : ℕ) (fs : List Float) (ws bs : List ℕ) where
   -- the call, the filled places, how many bytes their page has, and those bytes

@@ -9,11 +9,9 @@ use lib.Dec.{ltb}
 use lib.ListN.{length, getD, drop}
 use lib.Seq.{getD-take, take-append-seam, drop-append-seam}
 use lib.Ieee.{Float, nan}
-use borrow.Author.Tests.{eq-eqb, le-leb}
+use borrow.Author.Tests.{le-leb}
 use Rattle.base.specs.Answers.{andThen, accepted, counted, Outcome, outcome, guardedRun}
-use Rattle.base.specs.Refusals.{number}
-use Rattle.base.specs.RefusalLaws.{never-zero}
-use Rattle.base.specs.declared.refusal.Refusal.{Refusal}
+use Rattle.base.specs.RefusalLaws.{not-zero}
 use Rattle.base.specs.declared.refusal.Refusal.the-variants.{Unfinished}
 use Rattle.base.specs.declared.refusal.Checked.{Checked}
 use Rattle.base.specs.declared.refusal.Checked.the-variants.{Passed, Failed}
@@ -36,10 +34,6 @@ front vs l i d h = sym (getD-take (length vs) (vs ++ drop (length vs) l) i d h)
 past : (vs l : List Float) → drop (length vs) (write l 0 vs) ≡ drop (length vs) l
 unfolding write
 past vs l = drop-append-seam vs (drop (length vs) l)
-
-not-zero : {P : Type 0} (e : Refusal) → number e ≡ 0 → P
-not-zero e h = absurd (let o : _≡_ {A = Bool} true false = sym (eq-eqb (number e) 0 h)
-    ∙ never-zero e in let p : _≡_ {A = ℕ} 0 1 = cc in omega arith)
 
 -- "A track of no points .. succeeds where no refusal before 14 applies"
 pub no-points : (room : ℕ) → trackCheck 0 room ≡ Passed

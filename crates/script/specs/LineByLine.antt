@@ -10,10 +10,9 @@ use native.Mathlib.Omega.{arith}
 use lib.Dec.{eqb, ltb}
 use lib.ListN.{length}
 use lib.Ieee.{Float}
-use borrow.Author.Tests.{ltb-true, eq-eqb, eqb-true}
+use borrow.Author.Tests.{ltb-true, eqb-true}
 use Rattle.base.specs.Answers.{counted, andThen}
-use Rattle.base.specs.Refusals.{number}
-use Rattle.base.specs.RefusalLaws.{never-zero}
+use Rattle.base.specs.RefusalLaws.{not-zero}
 use Rattle.base.specs.declared.refusal.Refusal.{Refusal}
 use Rattle.base.specs.declared.refusal.Refusal.the-variants.{NoPlace, NoLayer}
 use Rattle.base.specs.declared.refusal.Checked.{Checked}
@@ -54,11 +53,6 @@ heldAfter [] held = held
 heldAfter (v ∷ vs) held = heldAfter vs (heldBy v held)
 
 -- ---- one call
-
-not-zero : {A : Type 0} (r : Refusal) → number r ≡ 0 → A
-not-zero r e =
-    let z : false ≡ true = sym (never-zero r) ∙ eq-eqb (number r) 0 e in
-    absurd (let y : _≡_ {A = ℕ} 0 1 = cc in omega arith)
 
 -- a call that is not refused has passed its checks
 passed : (c : Checked) (fs : List Float) (ws : List ℕ) (good : After) → Taken (guarded c fs ws good) → c ≡ Passed

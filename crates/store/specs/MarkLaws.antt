@@ -17,7 +17,7 @@ use borrow.Author.Tests.{eq-eqb, ne-eqb, eqb-true, eqb-false}
 use Rattle.base.specs.Loops.{every}
 use Rattle.base.specs.LoopLaws.{every-at}
 use Rattle.store.specs.Squeeze.{used, rank}
-use Rattle.store.specs.Marks.{wordLimit, digit, Marked, onesTo, Ranked, Below, numberOf}
+use Rattle.store.specs.Marks.{wordLimit, digit, Marked, onesTo, Ranked, numberOf}
 
 decEq : (a b : ℕ) → Dec (a ≡ b)
 decEq a b = go (eqb a b) refl
@@ -25,9 +25,6 @@ decEq a b = go (eqb a b) refl
     go : (t : Bool) → eqb a b ≡ t → Dec (a ≡ b)
     go true e = yes (eqb-true a b e)
     go false e = no (eqb-false a b e)
-
-pub below-more : {v n : ℕ} {ks : List ℕ} → Below v ks → v ≤ n → Below n ks
-below-more b h = record { corner = λ j l. omega (arith, b .corner j l) }
 
 -- ---- digits
 pub one-shifted : (b : ℕ) → b < 32 → 1 * 2 ^ b % 4294967296 ≡ 2 ^ b

@@ -8,6 +8,7 @@ use lib.Count.{ones}
 use lib.ListN.{length, getD, take, drop}
 use lib.Ieee.{Float}
 use Rattle.mesh.specs.Checks.{vertexLimit}
+use Rattle.mesh.specs.Corners.{Below}
 use Rattle.store.specs.Squeeze.{used, rank, keptTo}
 
 -- the words of an array of marks, 32 vertices to each
@@ -32,10 +33,6 @@ onesTo ms (suc j) = onesTo ms j + ones (getD ms j 0)
 -- word j of rs, of the first n, counts the marks of the words before it
 pub record Ranked (ms rs : List ℕ) (n : ℕ) : Type 0 where
   pub at : (j : ℕ) → j < n → getD rs j 0 ≡ onesTo ms j
-
--- corners below v
-pub record Below (v : ℕ) (ks : List ℕ) : Type 0 where
-  pub corner : (j : ℕ) → j < length ks → getD ks j 0 < v
 
 -- the new number of vertex k, by marks and ranks
 abbrev pub numberOf : List ℕ → List ℕ → ℕ → ℕ

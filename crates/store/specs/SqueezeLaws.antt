@@ -10,9 +10,10 @@ use lib.ListN.{length, getD, take, drop, set, replicate, length-append, length-s
 use lib.Seq.{take-suc, drop-cons, length-take-le, set-at, getD-at, take-all, take-set-le, drop-set-lt, take-suc-set, getD-drop, drop-drop}
 use lib.Ieee.{Float, nan}
 use Rattle.base.specs.Floats.{+0}
+use Rattle.mesh.specs.Corners.{Below}
 use Rattle.layout.specs.Runs.{write}
 use Rattle.store.specs.Squeeze.{used, rank, renumbered, pointOf, keptTo, freedOf, squeezed}
-use Rattle.store.specs.Marks.{wordLimit, digit, Marked, Ranked, Below, numberOf}
+use Rattle.store.specs.Marks.{wordLimit, digit, Marked, Ranked, numberOf}
 use Rattle.store.specs.MarkLaws.{rank-le, number-is, number-small}
 
 -- ---- a list mapped word by word

@@ -14,8 +14,8 @@ use borrow.Author.Tests.{eq-eqb, lt-ltb}
 use Rattle.mesh.specs.Triangles.{vertex, triangleAt}
 use Rattle.mesh.specs.TriangleLaws.{same-named}
 use Rattle.mesh.specs.Checks.{allBelow}
+use Rattle.mesh.specs.Corners.{Below}
 use Rattle.store.specs.Squeeze.{used, rank, renumbered, pointOf, keptTo}
-use Rattle.store.specs.Marks.{Below}
 use Rattle.store.specs.SqueezeLaws.{kept-length}
 
 -- a vertex that a corner names is used

@@ -6,7 +6,8 @@ ghost use Prim.Native.Nat.{ℕ, _+_, _*_, _/_, _%_, _^_, _≤_, _<_};
 ghost use lib.Bits.{bitOr};
 ghost use lib.Count.{ones};
 ghost use lib.ListN.{length, getD};
-ghost use Rattle.store.specs.Marks.{Marked, Ranked, Below, numberOf};
+ghost use Rattle.mesh.specs.Corners.{Below};
+ghost use Rattle.store.specs.Marks.{Marked, Ranked, numberOf};
 
 // A word with digit b set.
 fn with_digit(x: u32, b: u32) -> u32

@@ -3,7 +3,8 @@ use mathlib.Core.Path.{sym, _∙_}
 use native.Mathlib.Omega.{arith}
 use borrow.Author.Tests.{not-true, not-false}
 use borrow.Author.Needs.{needs}
-use Rattle.closed.specs.ClosedLaws.{passes-not, swept, below-limit}
+use Rattle.mesh.specs.Corners.{below-greater}
+use Rattle.closed.specs.ClosedLaws.{passes-not, swept}
 use Rattle.closed.proofs.closed.passes.Statement.{statement}
 use Rattle.closed.proofs.closed.passes.Tie as tie
 
@@ -19,5 +20,5 @@ passes-spec =
     (λ c κs. search needs)
     (λ c. passes-not _ (sym (c .before .distinct .ensures) ∙ not-true _ (c .if1 .taken)))
     (λ c. search needs)
-    (λ c κs. ((omega arith, omega arith), below-limit (omega arith) (c .before .before .before .pre .1)))
+    (λ c κs. ((omega arith, omega arith), below-greater (c .before .before .before .pre .1) (omega arith)))
     returns-2)

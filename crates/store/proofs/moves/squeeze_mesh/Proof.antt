@@ -4,7 +4,8 @@ use mathlib.Core.Path.{refl, _∙_}
 use Prim.Native.Nat.{ℕ}
 use native.Mathlib.Omega.{arith}
 use lib.ListN.{length-replicate}
-use Rattle.store.specs.MarkLaws.{none-marked, below-more}
+use Rattle.mesh.specs.Corners.{below-greater}
+use Rattle.store.specs.MarkLaws.{none-marked}
 use Rattle.store.specs.SqueezeLaws.{zeroed}
 use Rattle.store.proofs.moves.squeeze_mesh.Statement.{statement}
 use Rattle.store.proofs.moves.squeeze_mesh.Tie as tie
@@ -30,7 +31,7 @@ squeeze-mesh-spec =
     (λ c. search needs)
     (λ c κs. (
       none-marked 32768 refl,
-      below-more (c .before .before .before .before .pre .below) (c .before .before .before .before .pre .verts),
+      below-greater (c .before .before .before .before .pre .below) (c .before .before .before .before .pre .verts),
     ))
     (λ c κs. (
       omega (arith, c .before .before .before .before .before .before .before .pre .verts),
@@ -38,7 +39,7 @@ squeeze-mesh-spec =
     ))
     (λ c κs.
     let c11 = c .before .before .before .before .before .before .before .before .before .before .before in (
-      below-more (c11 .pre .below) (omega arith),
+      below-greater (c11 .pre .below) (omega arith),
       omega (arith, c11 .pre .verts),
       c .before .before .before .sum .ensures,
       c .before .before .before .before .before .before .mark .ensures,
