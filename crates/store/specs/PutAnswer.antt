@@ -6,5 +6,5 @@ use Rattle.store.specs.declared.put.Placed.the-variants.{Needs, Refused}
 
 -- "pieces and need", and how the fit ended
 abbrev pub placed : Placed → Answer
-placed (Needs pieces need fit) = placedWith pieces need fit
+placed (Needs pieces need end) = placedWith pieces need end
 placed (Refused r) = refused r

@@ -42,10 +42,10 @@ putWords q ws i fit layer =
     write ws (stateFrom q i) ((1 + fit .count) ∷ atFirst (facesOf ws) (fit .count) ∷ 0 ∷ layerWords q layer)
 
 -- "Answers pieces and need"; 02, L4: "put answers one of kept, fitted with that pivot, fallback with that column, or no
--- exponent"
+-- exponent": `end` says which, and `fit` elsewhere in this file is the pieces of a kernel
 abbrev pub placedWith : ℕ → ℕ → Fit → Answer
-placedWith pieces need fit =
-    record { refusal = 0; counts = pieces ∷ need ∷ kindOf fit ∷ columnOf fit ∷ []; floats = pivotOf fit ∷ [] }
+placedWith pieces need end =
+    record { refusal = 0; counts = pieces ∷ need ∷ kindOf end ∷ columnOf end ∷ []; floats = pivotOf end ∷ [] }
 
 -- "Put: .. p = 0"; 02, L5: a layer "given at put", "16 when a layer is above 15, after 6"
 unfoldable pub putStep : ℕ → List Float → List ℕ → ℕ → Kernel → ℕ → After
