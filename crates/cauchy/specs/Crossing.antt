@@ -13,7 +13,7 @@ use Rattle.kernel.specs.declared.file.Exponent.{Exponent}
 use Rattle.kernel.specs.declared.file.Exponent.the-variants.{Given, Missing}
 use Rattle.kernel.specs.File.{fromFile}
 use Rattle.pieces.specs.declared.fit.Fit.{Fit}
-use Rattle.pieces.specs.FitEnd.{kindOf, columnOf, pivotOf}
+use Rattle.pieces.specs.FitEnd.{kindOf, columnOf, pivotTold}
 use Rattle.cauchy.specs.declared.kernels.CauchyFileKernel.{CauchyFileKernel}
 use Rattle.cauchy.specs.declared.kernels.CauchySolved.{CauchySolved}
 use Rattle.cauchy.specs.declared.kernels.CauchyFit.{CauchyFit}
@@ -49,7 +49,7 @@ crossedKernel k default = fromFile (k .c, k .sigma) (k .w) (exponentOf (k .given
 
 -- ---- how a fit ended
 abbrev pub fitCrossed : Fit → CauchyFit
-fitCrossed f = record { kind = kindOf f; column = columnOf f; pivot = pivotOf f }
+fitCrossed f = record { kind = kindOf f; column = columnOf f; pivot = pivotTold f }
 
 -- beside a refusal
 abbrev pub noFit : CauchyFit

@@ -25,7 +25,7 @@ use Rattle.pieces.specs.declared.pieces.Pieces.{Pieces}
 use Rattle.pieces.specs.declared.fit.Fit.{Fit}
 use Rattle.pieces.specs.declared.fit.Fit.the-variants as ended
 use Rattle.pieces.specs.Pieces.{decomposed}
-use Rattle.pieces.specs.FitEnd.{fitOf, kindOf, columnOf, pivotOf}
+use Rattle.pieces.specs.FitEnd.{fitOf, kindOf, columnOf, pivotTold}
 use Rattle.pieces.specs.PieceLaws.{Clean, clean, at-most-16, same-pieces}
 use Rattle.layout.specs.Layout.{placeLimit, statusOf}
 use Rattle.layout.specs.Soundness.{storeCheck, placeCheck, filledCheck, layerCheck}
@@ -38,7 +38,7 @@ use Rattle.machine.specs.Holding.{placeRow, cells, wordsOf}
 use Rattle.density.specs.declared.convention.Convention.{Convention}
 use Rattle.readings.specs.Readings.{Reading}
 use Rattle.machine.specs.Calls.{Call, put, clear, reweigh, advance, squeeze, read, finished, page, lines, machine, Store, Result, result, seen, pinned, store, past, holding}
-use Rattle.machine.specs.Events.{Event, call, chargedAt, doneAt}
+use Rattle.machine.specs.Events.{Event, call, chargedByEvent, doneByEvent}
 use Rattle.machine.specs.Valid.{FittedBy, Within, Valid}
 use Rattle.machine.proofs.Rows.{Width, width4, Layered, formed}
 use Rattle.machine.proofs.Sixteen.{sixteen, laidOut, laid-out}
@@ -59,7 +59,7 @@ end-counts (ended.Fitted pivot) = refl
 end-counts (ended.Fallback column) = refl
 end-counts ended.NoExponent = refl
 
-end-floats : (e : Fit) → (pivotOf e ∷ []) ≡ endFloats e
+end-floats : (e : Fit) → (pivotTold e ∷ []) ≡ endFloats e
 end-floats ended.Kept = refl
 end-floats (ended.Fitted pivot) = refl
 end-floats (ended.Fallback column) = refl
@@ -333,9 +333,9 @@ still-fitted radius k fit carried w f = f
 -- t is the machine's turn at the event e
 pub record Kept (m : Machine) (e : Event) (t : Turn) : Type 0 where
   pub valid : Valid (t .next .mesh) (t .next .places)
-  pub balance : doneAt e (t .reply) + leftSum (t .next .mesh) (t .next .places) + t .next .dropped
-      ≡ chargedAt e (t .reply) + leftSum (m .mesh) (m .places) + m .dropped
-  pub charged : t .next .charged ≡ m .charged + chargedAt e (t .reply)
+  pub balance : doneByEvent e (t .reply) + leftSum (t .next .mesh) (t .next .places) + t .next .dropped
+      ≡ chargedByEvent e (t .reply) + leftSum (m .mesh) (m .places) + m .dropped
+  pub charged : t .next .charged ≡ m .charged + chargedByEvent e (t .reply)
 
 module _ (m : Machine) (v : Valid (m .mesh) (m .places)) where
   remade : (ss : List Place) → length ss ≡ 32 → ((i : ℕ) → Within (m .mesh) (getD ss i empty)) → Valid (m .mesh) ss

@@ -75,21 +75,21 @@ abbrev pub after-all : Machine → List Call → Machine
 after-all m cs = machineAfter m (map call cs)
 
 -- ---- the sums: what an accepted put charges is its need, an adoption the left that comes across, as they answer
-abbrev pub chargedAt : Event → Answer → ℕ
-chargedAt (call c) r = chargedBy c r
-chargedAt (adopt i o s j) r = getD (r .counts) 2 0
+abbrev pub chargedByEvent : Event → Answer → ℕ
+chargedByEvent (call c) r = chargedBy c r
+chargedByEvent (adopt i o s j) r = getD (r .counts) 2 0
 
-abbrev pub doneAt : Event → Answer → ℕ
-doneAt (call c) r = doneBy c r
-doneAt (adopt i o s j) r = 0
+abbrev pub doneByEvent : Event → Answer → ℕ
+doneByEvent (call c) r = doneBy c r
+doneByEvent (adopt i o s j) r = 0
 
 abbrev pub chargedOver : ℕ → Store → List Event → ℕ
 chargedOver q s [] = 0
-chargedOver q s (e ∷ es) = chargedAt e (resultOf q s e .reply) + chargedOver q (resultOf q s e .runs) es
+chargedOver q s (e ∷ es) = chargedByEvent e (resultOf q s e .reply) + chargedOver q (resultOf q s e .runs) es
 
 abbrev pub doneOver : ℕ → Store → List Event → ℕ
 doneOver q s [] = 0
-doneOver q s (e ∷ es) = doneAt e (resultOf q s e .reply) + doneOver q (resultOf q s e .runs) es
+doneOver q s (e ∷ es) = doneByEvent e (resultOf q s e .reply) + doneOver q (resultOf q s e .runs) es
 
 -- and of a store's own calls alone
 abbrev pub chargedIn : ℕ → Store → List Call → ℕ

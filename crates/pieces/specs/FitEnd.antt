@@ -37,8 +37,8 @@ columnOf (Fitted s) = 0
 columnOf (Fallback c) = c
 columnOf NoExponent = 0
 
-abbrev pub pivotOf : Fit → Float
-pivotOf Kept = +0
-pivotOf (Fitted s) = s
-pivotOf (Fallback c) = +0
-pivotOf NoExponent = +0
+abbrev pub pivotTold : Fit → Float
+pivotTold Kept = +0
+pivotTold (Fitted s) = s
+pivotTold (Fallback c) = +0
+pivotTold NoExponent = +0

@@ -13,7 +13,7 @@ use Rattle.pieces.specs.declared.pieces.Pieces.{Pieces}
 use Rattle.pieces.specs.declared.kernels.Decomposed.{Decomposed}
 use Rattle.pieces.specs.declared.kernels.Decomposed.the-variants.{Written, Refused}
 use Rattle.pieces.specs.Pieces.{decomposed, pieceAlpha}
-use Rattle.pieces.specs.FitEnd.{fitOf, kindOf, columnOf, pivotOf}
+use Rattle.pieces.specs.FitEnd.{fitOf, kindOf, columnOf, pivotTold}
 
 -- piece i of a kernel: its centre, the piece's sigma, "its weight is w times the coefficient"
 unfoldable pub pieceAt : Kernel → Pieces → ℕ → Kernel
@@ -34,7 +34,7 @@ laid n k p xs = times (layAt n k p) (p .count) 0 xs
 
 -- the count of pieces and the peak error, with how the fit ended
 abbrev pub fittedOne : ℕ → Float → Fit → Answer
-fittedOne n e fit = record { refusal = 0; counts = n ∷ kindOf fit ∷ columnOf fit ∷ []; floats = e ∷ pivotOf fit ∷ [] }
+fittedOne n e fit = record { refusal = 0; counts = n ∷ kindOf fit ∷ columnOf fit ∷ []; floats = e ∷ pivotTold fit ∷ [] }
 
 -- row 9: "run to be written under 6 floats per piece"; 02, L4: "Decomposition passes this on"
 unfoldable pub decomposition : Kernel → Float → List Float → Outcome

@@ -13,7 +13,7 @@ use Rattle.kernel.specs.Kernels.{six}
 use Rattle.pieces.specs.declared.fit.Fit.{Fit}
 use Rattle.pieces.specs.declared.pieces.Pieces.{Pieces}
 use Rattle.pieces.specs.Pieces.{decomposed}
-use Rattle.pieces.specs.FitEnd.{fitOf, kindOf, columnOf, pivotOf}
+use Rattle.pieces.specs.FitEnd.{fitOf, kindOf, columnOf, pivotTold}
 use Rattle.layout.specs.Layout.{pieceLimit, radiusOf, kernelFrom, piecesFrom, stateFrom, layerWords, facesOf}
 use Rattle.layout.specs.Soundness.{placeCheck, layerCheck}
 use Rattle.layout.specs.After.{After, after, guarded}
@@ -45,7 +45,7 @@ putWords q ws i fit layer =
 -- exponent": `end` says which, and `fit` elsewhere in this file is the pieces of a kernel
 abbrev pub placedWith : ℕ → ℕ → Fit → Answer
 placedWith pieces need end =
-    record { refusal = 0; counts = pieces ∷ need ∷ kindOf end ∷ columnOf end ∷ []; floats = pivotOf end ∷ [] }
+    record { refusal = 0; counts = pieces ∷ need ∷ kindOf end ∷ columnOf end ∷ []; floats = pivotTold end ∷ [] }
 
 -- "Put: .. p = 0"; 02, L5: a layer "given at put", "16 when a layer is above 15, after 6"
 unfoldable pub putStep : ℕ → List Float → List ℕ → ℕ → Kernel → ℕ → After
