@@ -1,4 +1,5 @@
 // Whether two stores' runs hold the same body. Both runs are read whole, so that the loops run at the memory's speed.
+// Internal: a function with a `requires` is called by proved code alone.
 ghost use mathlib.Core.Path.{_≡_};
 ghost use Prim.Native.Nat.{_+_, _*_, _≤_};
 ghost use lib.ListN.{length};

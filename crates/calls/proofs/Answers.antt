@@ -27,8 +27,8 @@ use Rattle.advance.specs.AdvanceAnswer.{advanced}
 use Rattle.advance.specs.declared.advance.Advanced.{Advanced}
 use Rattle.advance.specs.declared.advance.Advanced.the-variants.{Steps, Refused as Unadvanced}
 use Rattle.readings.specs.ReportAnswer.{reportRead}
-use Rattle.readings.specs.declared.reports.Reported.{Reported}
-use Rattle.readings.specs.declared.reports.Reported.the-variants.{Report, Refused as Unreported}
+use Rattle.readings.specs.declared.reports.ReportRead.{ReportRead}
+use Rattle.readings.specs.declared.reports.ReportRead.the-variants.{Report, Refused as Unreported}
 use Rattle.forms.specs.Answers.{openAnswer, putAnswer, densityAnswer, advanceAnswer, clearAnswer, reweighAnswer, reportAnswer, reportIn}
 use Rattle.calls.specs.Texts.{lined, noText, openText, putText, densityText, advanceText, clearText, reweighText, reportText}
 
@@ -103,12 +103,12 @@ pub density-refused : {x : Measured} {r : Refusal} → x ≡ Unmeasured r → de
 unfolding densityText
 density-refused {r} e = rw (e, never-zero r) refl
 
-pub report-done : {x : Reported} {m : MassReport} {filled pieces : ℕ} {worst : Float}
+pub report-done : {x : ReportRead} {m : MassReport} {filled pieces : ℕ} {worst : Float}
     → x ≡ Report m filled pieces worst
     → reportText (reportRead x) ≡ lined (print reportAnswer (reportIn m filled pieces worst))
 unfolding reportText
 report-done e = rw (e) refl
 
-pub report-refused : {x : Reported} {r : Refusal} → x ≡ Unreported r → reportText (reportRead x) ≡ noText (number r)
+pub report-refused : {x : ReportRead} {r : Refusal} → x ≡ Unreported r → reportText (reportRead x) ≡ noText (number r)
 unfolding reportText
 report-refused {r} e = rw (e, never-zero r) refl

@@ -29,7 +29,7 @@ use forms::answers::write_report;
 use forms::answers::write_reweigh;
 use kernel::kernel::Kernel;
 use readings::at_point::density;
-use readings::reports::Reported;
+use readings::reports::ReportRead;
 use readings::reports::report;
 use store::edit::Edited;
 use store::edit::clear;
@@ -212,7 +212,7 @@ pub fn answer_report(floats: &[f64], words: &[u32], v: Convention, out: &mut [u8
         (now (out .exit)) ⌝ }
 {
     match report(floats, words, v, ALL_LAYERS) {
-        Reported::Report {
+        ReportRead::Report {
             mass,
             filled,
             pieces,
@@ -221,6 +221,6 @@ pub fn answer_report(floats: &[f64], words: &[u32], v: Convention, out: &mut [u8
             let at = write_report(out, 0, mass, filled, pieces, error);
             newline(out, at)
         }
-        Reported::Refused(r) => answer_no(out, r),
+        ReportRead::Refused(r) => answer_no(out, r),
     }
 }

@@ -38,8 +38,8 @@ use Rattle.convert.specs.declared.convert.Converted.{Converted}
 use Rattle.convert.specs.declared.convert.Converted.the-variants as converting
 use Rattle.convert.specs.ConvertAnswer.{convertedAs}
 use Rattle.readings.specs.Readings.{reported}
-use Rattle.readings.specs.declared.reports.Reported.{Reported}
-use Rattle.readings.specs.declared.reports.Reported.the-variants as reporting
+use Rattle.readings.specs.declared.reports.ReportRead.{ReportRead}
+use Rattle.readings.specs.declared.reports.ReportRead.the-variants as reporting
 use Rattle.readings.specs.ReportAnswer.{reportRead}
 use Rattle.readings.specs.declared.listing.ListRead.{ListRead}
 use Rattle.readings.specs.declared.listing.ListRead.the-variants as listing
@@ -107,7 +107,7 @@ pub values : (d : Measured) → let c = valueFrom (measuredAs d) in told (c .no)
 values (measured.Value x) = refl
 values (measured.Refused r) = rw (never-zero r) refl
 
-pub reports : (d : Reported)
+pub reports : (d : ReportRead)
     → let c = storeReportFrom (reportRead d) in
     let s = reported (c .report) (c .kernels) (c .pieces) (c .error) in
     told (c .no) (s .counts) (s .floats) ≡ reportRead d

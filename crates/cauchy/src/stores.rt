@@ -55,7 +55,7 @@ use readings::finished::FinishedRead;
 use readings::finished::finished;
 use readings::listing::ListRead;
 use readings::listing::list;
-use readings::reports::Reported;
+use readings::reports::ReportRead;
 use readings::reports::report;
 use readings::tracks::TrackRead;
 use readings::tracks::track;
@@ -409,11 +409,11 @@ pub extern "C" fn cauchy_store_density(
     ))
 }
 
-fn report_of(d: Reported) -> CauchyStoreReport
+fn report_of(d: ReportRead) -> CauchyStoreReport
     ensures { λ r. ⌜ r ≡ storeReportFrom (reportRead d) ⌝ }
 {
     match d {
-        Reported::Report {
+        ReportRead::Report {
             mass,
             filled,
             pieces,
@@ -425,7 +425,7 @@ fn report_of(d: Reported) -> CauchyStoreReport
             pieces,
             error,
         },
-        Reported::Refused(r) => {
+        ReportRead::Refused(r) => {
             let report = no_report();
             CauchyStoreReport {
                 no: refusal_number(r),

@@ -74,7 +74,7 @@ module _ (m : Mesh) where
   within-same : (s : Place) → Within m s → Within m (carriedPlace s)
   within-same empty w = w
   within-same (full k fit o p l) w =
-      record { fitted = tt {0}; few = w .few; clean = w .clean; steps = w .steps; layer = omega arith }
+      record { of-kernel = tt {0}; few = w .few; clean = w .clean; steps = w .steps; layer = omega arith }
 
   carried-valid : (ss : List Place) → Valid m ss → Valid m (map carriedPlace ss)
   carried-valid ss v =

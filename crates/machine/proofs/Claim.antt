@@ -350,7 +350,7 @@ module _ (m : Machine) (v : Valid (m .mesh) (m .places)) where
   pub put-valid : (i : ℕ) (k : Kernel) (fit : Pieces) (o : Provenance) (l : ℕ) → FittedBy (m .mesh .radius) k fit o
       → fit .count ≤ 16 → Clean fit → l < 16 → Valid (m .mesh) (set (m .places) i (full k fit o 0 l))
   put-valid i k fit o l f n c b =
-      with-place i (full k fit o 0 l) (record { fitted = f; few = n; clean = c; steps = omega arith; layer = b })
+      with-place i (full k fit o 0 l) (record { of-kernel = f; few = n; clean = c; steps = omega arith; layer = b })
 
   still-put : (i : ℕ) (k : Kernel) (l : ℕ) (r : Refusal) → Kept m (call (put i k l)) (turn m (refused r))
   still-put i k l r = record { valid = v; balance = refl; charged = omega arith }
@@ -388,7 +388,7 @@ module _ (m : Machine) (v : Valid (m .mesh) (m .places)) where
       record {
         valid = with-place i (full (weighed k w) fit o p l)
             (record {
-              fitted = still-fitted (m .mesh .radius) k fit o w (y .fitted);
+              of-kernel = still-fitted (m .mesh .radius) k fit o w (y .of-kernel);
               few = y .few;
               clean = y .clean;
               steps = y .steps;

@@ -124,7 +124,7 @@ module _
   worst-one i h e (full k fit o p l) q w =
       let a : 7 + 7 * i ≡ 1 + (7 * i + 6) = omega arith in
       rw (not-empty fit, a, get7 wd fm m ss hs xs i h 6 (omega arith), there i k fit o p l q)
-      (ap (λ (f : Pieces). greater e (f .error)) (fit-afresh (m .radius) k fit o (w .fitted)))
+      (ap (λ (f : Pieces). greater e (f .error)) (fit-afresh (m .radius) k fit o (w .of-kernel)))
 
   filled-to : (n : ℕ) → n ≤ 32 → heldFilled wd WS n ≡ length (workAll (m .radius) (take n ts))
   unfolding heldFilled

@@ -27,7 +27,7 @@ use Rattle.machine.proofs.Adopting.{Holds}
 pub record Source (o : Provenance) (fitter : Fitter) : Type 0 where
   pub few : (k : Kernel) (radius : Float) → fitter k radius .count ≤ 16
   pub clean : (k : Kernel) (radius : Float) → Clean (fitter k radius)
-  pub fitted : (k : Kernel) (radius : Float) → FittedBy radius k (fitter k radius) o
+  pub of-kernel : (k : Kernel) (radius : Float) → FittedBy radius k (fitter k radius) o
 
 -- of puts that were fitted by such and such
 both-puts : {P Q R : Fitter → Type 0} → ((fitter : Fitter) → P fitter → Q fitter → R fitter)
@@ -56,7 +56,7 @@ module _ (o : Provenance) where
         go : (b : Bool) → Valid (next b .mesh) (next b .places)
         go true =
             let r = m .mesh .radius in
-            put-valid m v i k fit o 0 (source .fitted k r) (source .few k r) (source .clean k r) (omega arith)
+            put-valid m v i k fit o 0 (source .of-kernel k r) (source .few k r) (source .clean k r) (omega arith)
         go false = v
     still-valid (clears i) source = kept m v (clear i) .valid
     still-valid (reweighs i w) source = kept m v (reweigh i w) .valid
@@ -105,9 +105,9 @@ module _ (o : Provenance) where
 -- of pieces that are fitted by anything, where they count as brought
 pub brought-puts : (cs : List Old) → OfPuts Fitting cs → OfPuts (Source carried) cs
 brought-puts cs fitting =
-    both-puts (λ f p q. record { few = p .few; clean = p .clean; fitted = λ k radius. tt {0} }) cs fitting fitting
+    both-puts (λ f p q. record { few = p .few; clean = p .clean; of-kernel = λ k radius. tt {0} }) cs fitting fitting
 
 -- and by today's decomposition, where they count as the store's own
 pub own-puts : (cs : List Old) → OfPuts Fitting cs → OfPuts Todays cs → OfPuts (Source own) cs
 own-puts cs fitting same =
-    both-puts (λ f p q. record { few = p .few; clean = p .clean; fitted = q }) cs fitting same
+    both-puts (λ f p q. record { few = p .few; clean = p .clean; of-kernel = q }) cs fitting same

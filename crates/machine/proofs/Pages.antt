@@ -57,7 +57,7 @@ module _ (wd : ℕ) (fm : Width wd) (m : Mesh) (ss : List Place) (v : Valid m ss
         let g = fitAfresh (m .radius) k fit o in
         rw (n, a, c)
         (ap (λ (f : Pieces). row i (f .count) (massOf m (piecesOf (record { kernel = k; fit = g }))) ∷ [])
-        (fit-afresh (m .radius) k fit o (w .fitted)))
+        (fit-afresh (m .radius) k fit o (w .of-kernel)))
 
     rows-to : (n : ℕ) → n ≤ 32 → heldRows wd FS WS n ≡ freshRows m 0 (take n ss)
     unfolding heldRows

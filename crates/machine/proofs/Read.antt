@@ -1,4 +1,4 @@
--- What a store holds is what working afresh gives: all but the volumes at any time, and the volumes too where no work is
+-- What a store holds is what working afresh gives: all but the volumes at any time, the volumes too where no work is
 -- left. Assumes nothing.
 use mathlib.Core.Path.{_≡_, refl, sym, ap, subst, _∙_}
 use mathlib.Core.List.{List, [], _∷_, _++_, map, map-id, map-append, append-assoc, append-nil}
@@ -169,7 +169,7 @@ module _
           let n : 1 + fit .count - 1 ≡ fit .count = omega arith in
           rw n
           (parts-to i h k fit o p l e (fit .count) (omega arith)
-          ∙ ap (λ (f : Pieces). map g (freshAt m k f (f .count))) (fit-afresh (m .radius) k fit o (w .fitted)))
+          ∙ ap (λ (f : Pieces). map g (freshAt m k f (f .count))) (fit-afresh (m .radius) k fit o (w .of-kernel)))
 
       fresh-snoc : (l : List Place) (s : Place) → freshAll m (l ++ (s ∷ [])) ≡ freshAll m l ++ freshPlace m s
       fresh-snoc [] s = append-nil (freshPlace m s)

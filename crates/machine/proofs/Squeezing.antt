@@ -111,7 +111,7 @@ module _ (m : Mesh) (ss : List Place) (v : Valid m ss) where
   within-thin : (s : Place) → Within m s → Within (thinned m) s
   within-thin empty h = h
   within-thin (full k fit o p l) h =
-      record { fitted = h .fitted; few = h .few; clean = h .clean; steps = h .steps; layer = h .layer }
+      record { of-kernel = h .of-kernel; few = h .few; clean = h .clean; steps = h .steps; layer = h .layer }
 
   thin-valid : Valid (thinned m) ss
   thin-valid =

@@ -293,5 +293,5 @@ module _ (m : Mesh) where
   within-spread n (empty ∷ ss) h zero = h zero
   within-spread n (full k fit o p l ∷ ss) h zero =
       let z = h zero in
-      record { fitted = z .fitted; few = z .few; clean = z .clean; steps = omega arith; layer = z .layer }
+      record { of-kernel = z .of-kernel; few = z .few; clean = z .clean; steps = omega arith; layer = z .layer }
   within-spread n (s ∷ ss) h (suc i) = within-spread (n - leftPlace m s) ss (λ j. h (suc j)) i

@@ -14,7 +14,7 @@ use Rattle.pieces.specs.declared.pieces.Pieces.{Pieces}
 use Rattle.layout.specs.Layout.{placeLimit, kernelFrom, coordsFrom, cornersFrom, vertsOf, facesOf, statusOf, layerOf}
 use Rattle.text.specs.Form.{Vals, print, _&_}
 use Rattle.script.specs.Lines.{openLine, vertLine, faceLine, putLine}
-use Rattle.script.specs.Written.{rows, vertAt, faceAt, putAt, vertRows, faceRows, putRow, putRows, linesOf, written, textAnswer, writeStep}
+use Rattle.script.specs.Written.{printedLines, vertAt, faceAt, putAt, vertRows, faceRows, putRow, putRows, linesOf, written, textAnswer, writeStep}
 use Rattle.script.specs.RoundTrip.{putsFrom, three-more}
 use Rattle.machine.specs.Machine.{Mesh, Provenance, Place, empty, full}
 use Rattle.machine.specs.Holding.{floats7, placeRow, wordsOf}
@@ -27,7 +27,7 @@ use Rattle.machine.proofs.Sane.{no-fault}
 
 -- ---- a line to three words
 verts-are : (fs : List Float) (n i : ℕ) → coordsFrom + 3 * (i + n) ≤ length fs
-    → rows vertLine (vertAt fs) n i ≡ vertLines (take (3 * n) (drop (coordsFrom + 3 * i) fs))
+    → printedLines vertLine (vertAt fs) n i ≡ vertLines (take (3 * n) (drop (coordsFrom + 3 * i) fs))
 verts-are fs zero i h = refl
 verts-are fs (suc n) i h =
     let k : coordsFrom + 3 * suc i ≡ coordsFrom + 3 * i + 3 = omega arith in
@@ -36,7 +36,7 @@ verts-are fs (suc n) i h =
     ∙ sym (ap vertLines (three-more nan fs n (coordsFrom + 3 * i) (omega arith)))
 
 faces-are : (q : ℕ) (ws : List ℕ) (n i : ℕ) → cornersFrom q + 3 * (i + n) ≤ length ws
-    → rows faceLine (faceAt q ws) n i ≡ faceLines (take (3 * n) (drop (cornersFrom q + 3 * i) ws))
+    → printedLines faceLine (faceAt q ws) n i ≡ faceLines (take (3 * n) (drop (cornersFrom q + 3 * i) ws))
 faces-are q ws zero i h = refl
 faces-are q ws (suc n) i h =
     let k : cornersFrom q + 3 * suc i ≡ cornersFrom q + 3 * i + 3 = omega arith in
@@ -129,7 +129,7 @@ module _ (wd : ℕ) (ly : Layered wd) (m : Mesh) (ss : List Place) (v : Valid m 
   verts-written : vertRows FS (vertsOf WS) 0 ≡ vertLines (m .coords)
   unfolding vertRows
   verts-written =
-      ap (λ (n : ℕ). rows vertLine (vertAt FS) n 0) (verts-held wd m ss ys)
+      ap (λ (n : ℕ). printedLines vertLine (vertAt FS) n 0) (verts-held wd m ss ys)
       ∙ (verts-are FS (m .verts) 0 (omega (arith, floats-long wd fm m ss (v .places) xs (v .mesh .coords)))
       ∙ ap vertLines (coords-held wd fm m ss (v .places) xs (v .mesh .coords)))
 
@@ -138,7 +138,7 @@ module _ (wd : ℕ) (ly : Layered wd) (m : Mesh) (ss : List Place) (v : Valid m 
   faces-written =
       let n : cornersFrom wd + 3 * (0 + m .faces) ≤ length WS
       = omega (arith, words-long wd fm m ss (v .places) ys (v .mesh .corners)) in
-      ap (λ (n : ℕ). rows faceLine (faceAt wd WS) n 0) (faces-held wd m ss ys)
+      ap (λ (n : ℕ). printedLines faceLine (faceAt wd WS) n 0) (faces-held wd m ss ys)
       ∙ (faces-are wd WS (m .faces) 0 n
       ∙ (ap (λ (j : ℕ). faceLines (take (3 * m .faces) (drop j WS))) (add-zero (cornersFrom wd))
       ∙ ap faceLines (corners-held wd fm m ss (v .places) ys (v .mesh .corners))))

@@ -19,7 +19,7 @@ FittedBy radius k fit carried = Unit {0}
 
 -- a filled place
 pub record Okay (m : Mesh) (k : Kernel) (fit : Pieces) (o : Provenance) (p l : ℕ) : Type 0 where
-  pub fitted : FittedBy (m .radius) k fit o
+  pub of-kernel : FittedBy (m .radius) k fit o
   -- "So a kernel has at most 16 pieces", and the arrays of a fit are +0 past its last
   pub few : fit .count ≤ 16
   pub clean : Clean fit

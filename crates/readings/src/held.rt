@@ -16,9 +16,9 @@ use layout::offsets::WEIGHT;
 use pieces::pieces::piece_alpha;
 
 // Piece j of place i, with the weight w.
-fn piece_of_weight(floats: &[f64], i: usize, j: usize, w: f64) -> Kernel
+fn piece_of_weight(floats: &[f64], i: usize, j: usize, weight: f64) -> Kernel
     requires { ⌜ (coordsFrom ≤ length (now floats)) × (i < placeLimit) × (j < pieceLimit) ⌝ }
-    ensures { λ r. ⌜ r ≡ heldPiece (now (floats .entry)) i j w ⌝ }
+    ensures { λ r. ⌜ r ≡ heldPiece (now (floats .entry)) i j weight ⌝ }
 {
     let at = KERNEL_SIZE * i;
     let alpha = piece_alpha(floats[ALPHA + at]);
@@ -29,7 +29,7 @@ fn piece_of_weight(floats: &[f64], i: usize, j: usize, w: f64) -> Kernel
             floats[KERNEL + 2 + at],
         ],
         sigma: floats[PIECE + PIECES_SIZE * i + 3 * j],
-        w,
+        w: weight,
         alpha,
     }
 }

@@ -31,7 +31,7 @@ use mesh::vectors::V3;
 use volume::faces::volume_from;
 
 // The answer of a report: the masses, the filled places, the pieces, and the greatest error.
-pub enum Reported {
+pub enum ReportRead {
     Report {
         mass: MassReport,
         filled: u32,
@@ -93,19 +93,19 @@ pub fn report_seen(v: Convention, floats: &[f64], seen: &[u32], faces: usize, bo
 }
 
 // The masses of the places in some layers, none of which has work left, under a convention.
-pub fn report(floats: &[f64], words: &[u32], v: Convention, layers: u32) -> Reported
+pub fn report(floats: &[f64], words: &[u32], v: Convention, layers: u32) -> ReportRead
     ensures { λ r. ⌜ outcome (reportRead r) []
         ≡ readStep width (now (floats .entry)) (now (words .entry)) layers (Readings.report v) ⌝ }
 {
     match check_read(floats, words, layers, true) {
-        Checked::Failed(r) => Reported::Refused(r),
+        Checked::Failed(r) => ReportRead::Refused(r),
         Checked::Passed => {
             let faces = word(words, 1);
             let body = body_of(floats, words, word(words, 0), faces);
             let seen = seen_places(words, layers, faces);
             let told = report_seen(v, floats, &seen, faces, body);
             let mass = told.mass;
-            Reported::Report {
+            ReportRead::Report {
                 mass,
                 filled: told.filled,
                 pieces: told.pieces,

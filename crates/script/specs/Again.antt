@@ -30,7 +30,7 @@ use Rattle.store.specs.OpenLaws.{open-passes}
 use Rattle.text.specs.Text.{Got}
 use Rattle.text.specs.Form.{Form, Vals, print, _&_}
 use Rattle.script.specs.Lines.{vertLine, faceLine, putLine}
-use Rattle.script.specs.Written.{rows, vertAt, faceAt, putAt, vertRows, faceRows, putRow, putRows, linesOf, written, writeStep}
+use Rattle.script.specs.Written.{printedLines, vertAt, faceAt, putAt, vertRows, faceRows, putRow, putRows, linesOf, written, writeStep}
 use Rattle.script.specs.ReadOf.{Script, kernelIn, layerIn, placesIn, layersIn, formCheck, scriptCheck, loadStep}
 use Rattle.script.specs.RoundTrip.{putsFrom, scriptOf, kernelOf, put-says, Floats, read-written}
 use Rattle.script.specs.Leaves.{part, part-at, Held, none, given, sevenOf, stateOf, PlaceHolds, Stands, held-as, stands-sound}
@@ -161,10 +161,11 @@ same-at f g at n k d e l h =
     part-at f at n (k - at) k d (omega arith) (omega arith)
     ∙ (ap (λ t. getD t (k - at) d) e ∙ sym (part-at g at n (k - at) k d (omega arith) (omega arith)))
 
-rows-same : (f : Form) (v w : ℕ → Vals f) (n i : ℕ) → ((j : ℕ) → j < i + n → v j ≡ w j) → rows f v n i ≡ rows f w n i
-rows-same f v w zero i h = refl
-rows-same f v w (suc n) i h =
-    (λ j. print f (h i (omega arith) j) ++ rows-same f v w n (suc i) (λ k l. h k (omega arith)) j)
+printed-same : (f : Form) (v w : ℕ → Vals f) (n i : ℕ) → ((j : ℕ) → j < i + n → v j ≡ w j)
+    → printedLines f v n i ≡ printedLines f w n i
+printed-same f v w zero i h = refl
+printed-same f v w (suc n) i h =
+    (λ j. print f (h i (omega arith) j) ++ printed-same f v w n (suc i) (λ k l. h k (omega arith)) j)
 
 -- coordinates and corners of a sound store
 module _ (fs : List Float) (ws : List ℕ) (s : Fine width fs ws) where
@@ -262,8 +263,8 @@ module _ (fs : List Float) (ws : List ℕ) (gs : List Float) (vs : List ℕ) (s 
         x,
         y,
         t .size,
-        rows-same vertLine (vertAt gs) (vertAt fs) (vertsOf ws) 0 vert-same,
-        rows-same faceLine (faceAt width vs) (faceAt width ws) (facesOf ws) 0 face-same,
+        printed-same vertLine (vertAt gs) (vertAt fs) (vertsOf ws) 0 vert-same,
+        printed-same faceLine (faceAt width vs) (faceAt width ws) (facesOf ws) 0 face-same,
         puts-same 32 0 (omega arith),
       ) refl
 

@@ -18,7 +18,7 @@ use Rattle.text.specs.WriteLaws.{sets-append}
 use Rattle.text.specs.Form.{Form, Vals, print, _&_}
 use Rattle.script.specs.Lines.{openLine, vertLine, faceLine, putLine}
 use Rattle.layout.specs.Layout.{placeLimit, radiusOf, statusOf, layerOf}
-use Rattle.script.specs.Written.{rows, vertAt, faceAt, putIn, putAt, putRow, putRows, vertRows, faceRows, linesOf, textAnswer}
+use Rattle.script.specs.Written.{printedLines, vertAt, faceAt, putIn, putAt, putRow, putRows, vertRows, faceRows, linesOf, textAnswer}
 
 pub open-bytes : (r : Float) (v f : ℕ) → length (print openLine (r & v & f & tt))
     ≡ 51 + decimalLength v + decimalLength f
@@ -37,31 +37,31 @@ put-bytes fs p l = simp (length-append, decimal-length, length-pattern) (omega a
 
 -- ---- rows
 
-pub rows-more : (f : Form) (v : ℕ → Vals f) (n i : ℕ) → i < n
-    → rows f v (n - i) i ≡ print f (v i) ++ rows f v (n - (i + 1)) (i + 1)
-rows-more f v n i h = let e : n - i ≡ suc (n - (i + 1)) = omega arith in rw (e, add-one i) refl
+pub printed-more : (f : Form) (v : ℕ → Vals f) (n i : ℕ) → i < n
+    → printedLines f v (n - i) i ≡ print f (v i) ++ printedLines f v (n - (i + 1)) (i + 1)
+printed-more f v n i h = let e : n - i ≡ suc (n - (i + 1)) = omega arith in rw (e, add-one i) refl
 
-pub rows-none : (f : Form) (v : ℕ → Vals f) (n i : ℕ) → n ≤ i → rows f v (n - i) i ≡ []
-rows-none f v n i h = let e : n - i ≡ 0 = omega arith in rw e refl
+pub printed-none : (f : Form) (v : ℕ → Vals f) (n i : ℕ) → n ≤ i → printedLines f v (n - i) i ≡ []
+printed-none f v n i h = let e : n - i ≡ 0 = omega arith in rw e refl
 
 module _ (fs : List Float) (n i : ℕ) where
   pub verts-more : i < n → vertRows fs (n - i) i ≡ print vertLine (vertAt fs i) ++ vertRows fs (n - (i + 1)) (i + 1)
   unfolding vertRows
-  verts-more h = rows-more vertLine (vertAt fs) n i h
+  verts-more h = printed-more vertLine (vertAt fs) n i h
 
   pub verts-none : n ≤ i → vertRows fs (n - i) i ≡ []
   unfolding vertRows
-  verts-none h = rows-none vertLine (vertAt fs) n i h
+  verts-none h = printed-none vertLine (vertAt fs) n i h
 
 module _ (q : ℕ) (ws : List ℕ) (n i : ℕ) where
   pub faces-more : i < n → faceRows q ws (n - i) i
       ≡ print faceLine (faceAt q ws i) ++ faceRows q ws (n - (i + 1)) (i + 1)
   unfolding faceRows
-  faces-more h = rows-more faceLine (faceAt q ws) n i h
+  faces-more h = printed-more faceLine (faceAt q ws) n i h
 
   pub faces-none : n ≤ i → faceRows q ws (n - i) i ≡ []
   unfolding faceRows
-  faces-none h = rows-none faceLine (faceAt q ws) n i h
+  faces-none h = printed-none faceLine (faceAt q ws) n i h
 
 module _ (q : ℕ) (fs : List Float) (ws : List ℕ) (n i : ℕ) where
   pub puts-more : i < n → putRows q fs ws (n - i) i ≡ putRow q fs ws i ++ putRows q fs ws (n - (i + 1)) (i + 1)
@@ -86,7 +86,7 @@ pub verts-bytes : (fs : List Float) (n i : ℕ) → length (vertRows fs n i) ≡
 unfolding vertRows
 verts-bytes fs zero i = refl
 verts-bytes fs (suc n) i =
-    length-append (print vertLine (vertAt fs i)) (rows vertLine (vertAt fs) n (suc i))
+    length-append (print vertLine (vertAt fs i)) (printedLines vertLine (vertAt fs) n (suc i))
     ∙ (let e = verts-bytes fs n (suc i) in let h = vert-bytes (vertAt fs i .0) (vertAt fs i .1 .0)
     (vertAt fs i .1 .1 .0) in omega arith)
 

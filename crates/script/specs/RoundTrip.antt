@@ -20,7 +20,7 @@ use Rattle.text.specs.Text.{left}
 use Rattle.text.specs.Form.{Form, Vals, print, Spells, Fit, _&_}
 use Rattle.text.specs.FormLaws.{printed}
 use Rattle.script.specs.Lines.{openLine, vertLine, faceLine, putLine}
-use Rattle.script.specs.Written.{rows, vertAt, faceAt, putAt, vertRows, faceRows, putRow, putRows, linesOf, written}
+use Rattle.script.specs.Written.{printedLines, vertAt, faceAt, putAt, vertRows, faceRows, putRow, putRows, linesOf, written}
 use Rattle.script.specs.ReadOf.{coordsIn, cornersIn, placeIn, kernelIn, layerIn, Script, readOf}
 use Rattle.script.specs.Spelling.{SpellsAll, SpellsScript, taken}
 
@@ -68,7 +68,7 @@ put-says q fs ws i =
 
 -- the floats of a run are of the format, as those of a lent run are
 pub record Floats (fs : List Float) : Type 0 where
-  pub fit : (j : ℕ) → T (fits binary64 (getD fs j nan))
+  pub each : (j : ℕ) → T (fits binary64 (getD fs j nan))
 
 -- ---- lines that were printed spell their values
 
@@ -80,15 +80,15 @@ pub values-long : (f : Form) (v : ℕ → Vals f) (n i : ℕ) → length (values
 values-long f v zero i = refl
 values-long f v (suc n) i = ap suc (values-long f v n (suc i))
 
-pub rows-spell : (f : Form) (v : ℕ → Vals f) (n i : ℕ) (r : List ℕ) → ((j : ℕ) → j < i + n → Fit f (v j))
-    → SpellsAll f (valuesOf f v n i) (rows f v n i ++ r) r
-rows-spell f v zero i r h = refl
-rows-spell f v (suc n) i r h =
-    let t = rows f v n (suc i) ++ r in (
+pub printed-spell : (f : Form) (v : ℕ → Vals f) (n i : ℕ) (r : List ℕ) → ((j : ℕ) → j < i + n → Fit f (v j))
+    → SpellsAll f (valuesOf f v n i) (printedLines f v n i ++ r) r
+printed-spell f v zero i r h = refl
+printed-spell f v (suc n) i r h =
+    let t = printedLines f v n (suc i) ++ r in (
       t,
-      subst (λ (l : List ℕ). Spells f (v i) l t) (sym (append-assoc (print f (v i)) (rows f v n (suc i)) r))
+      subst (λ (l : List ℕ). Spells f (v i) l t) (sym (append-assoc (print f (v i)) (printedLines f v n (suc i)) r))
           (printed f (v i) t (h i (omega arith))),
-      rows-spell f v n (suc i) r (λ j l. h j (omega arith)),
+      printed-spell f v n (suc i) r (λ j l. h j (omega arith)),
     )
 
 -- ---- three words after three words
@@ -119,7 +119,7 @@ module _ (q : ℕ) (fs : List Float) (ws : List ℕ) (e : storeCheck q fs ws ≡
   low h l = omega arith
 
   vert-fits : (i : ℕ) → Fit vertLine (vertAt fs i)
-  vert-fits i = let k = coordsFrom + 3 * i in g .fit k & g .fit (k + 1) & g .fit (k + 2) & tt
+  vert-fits i = let k = coordsFrom + 3 * i in g .each k & g .each (k + 1) & g .each (k + 2) & tt
 
   face-fits : (i : ℕ) → i < facesOf ws → Fit faceLine (faceAt q ws i)
   face-fits i h =
@@ -133,7 +133,7 @@ module _ (q : ℕ) (fs : List Float) (ws : List ℕ) (e : storeCheck q fs ws ≡
       let l = s .places .layer i h in
       let place : i ≤ 4294967295 = omega arith in
       let layer : layerOf q ws i ≤ 4294967295 = omega arith in
-      place & g .fit k & g .fit (k + 1) & g .fit (k + 2) & g .fit (k + 3) & g .fit (k + 4) & g .fit (k + 5)
+      place & g .each k & g .each (k + 1) & g .each (k + 2) & g .each (k + 3) & g .each (k + 4) & g .each (k + 5)
       & (layer & tt) & tt
 
   puts-spell : (n i : ℕ) (r : List ℕ) → i + n ≤ 32
@@ -179,8 +179,8 @@ module _ (q : ℕ) (fs : List Float) (ws : List ℕ) (e : storeCheck q fs ws ≡
   written-spells =
       let o : Vals openLine = radiusOf fs & vertsOf ws & facesOf ws & tt in
       let c = putRows q fs ws placeLimit 0 in
-      let b = rows faceLine (faceAt q ws) (facesOf ws) 0 ++ c in
-      let a = rows vertLine (vertAt fs) (vertsOf ws) 0 ++ b in
+      let b = printedLines faceLine (faceAt q ws) (facesOf ws) 0 ++ c in
+      let a = printedLines vertLine (vertAt fs) (vertsOf ws) 0 ++ b in
       record {
         vertices = valuesOf vertLine (vertAt fs) (vertsOf ws) 0;
         triangles = valuesOf faceLine (faceAt q ws) (facesOf ws) 0;
@@ -188,10 +188,10 @@ module _ (q : ℕ) (fs : List Float) (ws : List ℕ) (e : storeCheck q fs ws ≡
         rest = b;
         tail = c;
         opening =
-            printed openLine o a (g .fit 0 & low (s .mesh .verts) (omega arith) & low (s .mesh .faces) (omega arith)
+            printed openLine o a (g .each 0 & low (s .mesh .verts) (omega arith) & low (s .mesh .faces) (omega arith)
             & tt);
-        vertLines = rows-spell vertLine (vertAt fs) (vertsOf ws) 0 b (λ j l. vert-fits j);
-        faceLines = rows-spell faceLine (faceAt q ws) (facesOf ws) 0 c (λ j l. face-fits j (omega arith));
+        vertLines = printed-spell vertLine (vertAt fs) (vertsOf ws) 0 b (λ j l. vert-fits j);
+        faceLines = printed-spell faceLine (faceAt q ws) (facesOf ws) 0 c (λ j l. face-fits j (omega arith));
         putLines =
             subst (λ (l : List ℕ). SpellsAll putLine (putsFrom q fs ws placeLimit 0) l []) (append-nil c)
             (puts-spell placeLimit 0 [] (omega arith));

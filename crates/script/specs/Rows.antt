@@ -57,7 +57,8 @@ pub an-opening : formCheck (readOf (bytes "(open (radius 0000000000000000) (vert
 unfolding readOf linesFrom linesTo float patternFrom decimal ofBits
 an-opening = refl
 
-pub no-newline : formCheck (readOf (bytes "(open (radius 0000000000000000) (verts 0) (faces 0))") .text) ≡ Failed BadLine
+pub no-newline : formCheck (readOf (bytes "(open (radius 0000000000000000) (verts 0) (faces 0))") .text)
+    ≡ Failed BadLine
 unfolding readOf linesFrom linesTo float patternFrom decimal ofBits
 no-newline = refl
 

@@ -20,9 +20,9 @@ use Rattle.text.specs.Form.{Form, Vals, print, _&_}
 use Rattle.script.specs.Lines.{openLine, vertLine, faceLine, putLine}
 
 -- n lines of a form, of the values from i on
-abbrev pub rows : (f : Form) → (ℕ → Vals f) → ℕ → ℕ → List ℕ
-rows f v zero i = []
-rows f v (suc n) i = print f (v i) ++ rows f v n (suc i)
+abbrev pub printedLines : (f : Form) → (ℕ → Vals f) → ℕ → ℕ → List ℕ
+printedLines f v zero i = []
+printedLines f v (suc n) i = print f (v i) ++ printedLines f v n (suc i)
 
 -- vertex i
 abbrev pub vertAt : List Float → ℕ → Vals vertLine
@@ -53,10 +53,10 @@ abbrev pub putAt : ℕ → List Float → List ℕ → ℕ → Vals putLine
 putAt q fs ws i = putIn fs i (layerOf q ws i)
 
 unfoldable pub vertRows : List Float → ℕ → ℕ → List ℕ
-vertRows fs n i = rows vertLine (vertAt fs) n i
+vertRows fs n i = printedLines vertLine (vertAt fs) n i
 
 unfoldable pub faceRows : ℕ → List ℕ → ℕ → ℕ → List ℕ
-faceRows q ws n i = rows faceLine (faceAt q ws) n i
+faceRows q ws n i = printedLines faceLine (faceAt q ws) n i
 
 -- the line of a place, none where it is empty
 unfoldable pub putRow : ℕ → List Float → List ℕ → ℕ → List ℕ

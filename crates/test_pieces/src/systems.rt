@@ -1,5 +1,6 @@
 // Systems of equations: those of the table, at 01's limits or refused, and one of each size. The run for
 // the answer is lent full of sevens, as long as the table says.
+// Internal: a function with a `requires` is called by proved code alone.
 ghost use Prim.Native.Nat.{_≤_, _<_};
 use crate::lines::at_most;
 use crate::lines::put_float;

@@ -1,5 +1,6 @@
 // Pieces written as kernels, of one kernel and of a list. The run for them is lent full of sevens, as long
 // as the tables say.
+// Internal: a function with a `requires` is called by proved code alone.
 ghost use Prim.Native.Nat.{_≤_, _<_};
 use crate::lines::at_most;
 use crate::lines::put_end_of_fit;

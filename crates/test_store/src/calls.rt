@@ -19,7 +19,7 @@ use pieces::fit::Fit;
 use readings::at_point::density;
 use readings::listing::ListRead;
 use readings::listing::list;
-use readings::reports::Reported;
+use readings::reports::ReportRead;
 use readings::reports::report;
 use readings::tracks::TrackRead;
 use readings::tracks::track;
@@ -43,8 +43,8 @@ pub type Words = [u32; 167];
 
 // Opens the store with so many coordinates of the mesh, and its corners from one position to another.
 pub fn run_open(
-    f: &mut Floats,
-    w: &mut Words,
+    floats: &mut Floats,
+    words: &mut Words,
     coordinates: usize,
     from: usize,
     to: usize,
@@ -59,7 +59,13 @@ pub fn run_open(
     if from > to {
         return;
     }
-    match open(f, w, radius, &XYZ[0..coordinates], &FACES[from..to]) {
+    match open(
+        floats,
+        words,
+        radius,
+        &XYZ[0..coordinates],
+        &FACES[from..to],
+    ) {
         Opened::Mesh(verts, faces) => {
             say(b" verts 0 faces 1", [verts as u64, faces as u64], NO_FLOATS);
         }
@@ -82,8 +88,8 @@ fn say_fit(fit: Fit) {
 
 // Puts a kernel into a layer; all have one centre.
 pub fn run_put(
-    f: &mut Floats,
-    w: &mut Words,
+    floats: &mut Floats,
+    words: &mut Words,
     place: u64,
     sigma: f64,
     weight: f64,
@@ -96,7 +102,7 @@ pub fn run_put(
         w: weight,
         alpha,
     };
-    match put(f, w, (place % WORD) as u32, k, layer) {
+    match put(floats, words, (place % WORD) as u32, k, layer) {
         Placed::Needs(pieces, need, fit) => {
             say(b" pieces 0 need 1", [pieces as u64, need as u64], NO_FLOATS);
             say_fit(fit);
@@ -112,39 +118,39 @@ fn say_edited(e: Edited) {
     }
 }
 
-pub fn run_clear(f: &mut Floats, w: &mut Words, place: u64) {
-    say_edited(clear(f, w, (place % WORD) as u32));
+pub fn run_clear(floats: &mut Floats, words: &mut Words, place: u64) {
+    say_edited(clear(floats, words, (place % WORD) as u32));
 }
 
-pub fn run_reweigh(f: &mut Floats, w: &mut Words, place: u64, weight: f64) {
-    say_edited(reweigh(f, w, (place % WORD) as u32, weight));
+pub fn run_reweigh(floats: &mut Floats, words: &mut Words, place: u64, weight: f64) {
+    say_edited(reweigh(floats, words, (place % WORD) as u32, weight));
 }
 
-pub fn run_advance(f: &mut Floats, w: &mut Words, budget: u64) {
-    match advance(f, w, budget) {
+pub fn run_advance(floats: &mut Floats, words: &mut Words, budget: u64) {
+    match advance(floats, words, budget) {
         Advanced::Steps { done, left } => say(b" done 0 left 1", [done, left], NO_FLOATS),
         Advanced::Refused(r) => say_refused(r),
     }
 }
 
-pub fn run_squeeze(f: &mut Floats, w: &mut Words) {
-    match squeeze(f, w) {
+pub fn run_squeeze(floats: &mut Floats, words: &mut Words) {
+    match squeeze(floats, words) {
         Squeezed::Freed(n) => say(b" freed 0", [n as u64, 0], NO_FLOATS),
         Squeezed::Refused(r) => say_refused(r),
     }
 }
 
 // The density at a point beside the kernels' centre.
-pub fn run_density(f: &Floats, w: &Words, v: Convention, layers: u32) {
-    match density(f, w, v, layers, [0.75, -0.5, 0.25]) {
+pub fn run_density(floats: &Floats, words: &Words, v: Convention, layers: u32) {
+    match density(floats, words, v, layers, [0.75, -0.5, 0.25]) {
         Measured::Value(x) => say(b" value A", [0, 0], [x; 8]),
         Measured::Refused(r) => say_refused(r),
     }
 }
 
-pub fn run_report(f: &Floats, w: &Words, v: Convention, layers: u32) {
-    match report(f, w, v, layers) {
-        Reported::Report {
+pub fn run_report(floats: &Floats, words: &Words, v: Convention, layers: u32) {
+    match report(floats, words, v, layers) {
+        ReportRead::Report {
             mass,
             filled,
             pieces,
@@ -165,7 +171,7 @@ pub fn run_report(f: &Floats, w: &Words, v: Convention, layers: u32) {
                 ],
             );
         }
-        Reported::Refused(r) => say_refused(r),
+        ReportRead::Refused(r) => say_refused(r),
     }
 }
 
@@ -177,17 +183,24 @@ fn say_listed(l: ListRead) {
 }
 
 // The list into the first `room` floats of a run, whose digest is written too: words past the pieces stay.
-fn run_list_in(f: &Floats, w: &Words, v: Convention, layers: u32, room: usize, out: &mut [f64]) {
+fn run_list_in(
+    floats: &Floats,
+    words: &Words,
+    v: Convention,
+    layers: u32,
+    room: usize,
+    out: &mut [f64],
+) {
     if room > out.len() {
         return;
     }
-    say_listed(list(f, w, v, layers, &mut out[0..room]));
+    say_listed(list(floats, words, v, layers, &mut out[0..room]));
     say(b" run X", [digest_floats(out), 0], NO_FLOATS);
 }
 
-pub fn run_list(f: &Floats, w: &Words, v: Convention, layers: u32, room: usize) {
+pub fn run_list(floats: &Floats, words: &Words, v: Convention, layers: u32, room: usize) {
     let mut out = [2.5; 1200];
-    run_list_in(f, w, v, layers, room, &mut out);
+    run_list_in(floats, words, v, layers, room, &mut out);
 }
 
 fn say_tracked(t: TrackRead) {
@@ -200,8 +213,8 @@ fn say_tracked(t: TrackRead) {
 // The densities at the first of these points into the first `room` floats of a run, whose digest is written too: words
 // past them stay.
 fn run_track_in(
-    f: &Floats,
-    w: &Words,
+    floats: &Floats,
+    words: &Words,
     v: Convention,
     layers: u32,
     points: &[f64],
@@ -215,14 +228,21 @@ fn run_track_in(
     if room > out.len() {
         return;
     }
-    say_tracked(track(f, w, v, layers, &points[0..coordinates], &mut out[0..room]));
+    say_tracked(track(
+        floats,
+        words,
+        v,
+        layers,
+        &points[0..coordinates],
+        &mut out[0..room],
+    ));
     say(b" run X", [digest_floats(out), 0], NO_FLOATS);
 }
 
 // A track of a few of the body's points, or of so many that all are one.
 pub fn run_track(
-    f: &Floats,
-    w: &Words,
+    floats: &Floats,
+    words: &Words,
     v: Convention,
     layers: u32,
     coordinates: usize,
@@ -230,10 +250,19 @@ pub fn run_track(
 ) {
     let mut out = [2.5; 4100];
     if coordinates <= 24 {
-        run_track_in(f, w, v, layers, &points(), coordinates, room, &mut out);
+        run_track_in(
+            floats,
+            words,
+            v,
+            layers,
+            &points(),
+            coordinates,
+            room,
+            &mut out,
+        );
     } else {
         let far = [0.5; 12291];
-        run_track_in(f, w, v, layers, &far, coordinates, room, &mut out);
+        run_track_in(floats, words, v, layers, &far, coordinates, room, &mut out);
     }
 }
 
@@ -245,23 +274,23 @@ fn say_paged(p: Printed) {
 }
 
 // The page into the first `room` bytes of a run, whose digest is written too: bytes past the page stay.
-fn run_page_in(f: &Floats, w: &Words, room: usize, out: &mut [u8]) {
+fn run_page_in(floats: &Floats, words: &Words, room: usize, out: &mut [u8]) {
     if room > out.len() {
         return;
     }
-    say_paged(page(f, w, &mut out[0..room]));
+    say_paged(page(floats, words, &mut out[0..room]));
     say(b" run X", [digest_bytes(out), 0], NO_FLOATS);
 }
 
 // Before it the run is of full stops.
-pub fn run_page(f: &Floats, w: &Words, room: usize) {
+pub fn run_page(floats: &Floats, words: &Words, room: usize) {
     let mut out: [u8; 2200] = [46; 2200];
-    run_page_in(f, w, room, &mut out);
+    run_page_in(floats, words, room, &mut out);
 }
 
 // Writes a word of the store from outside.
-pub fn run_write(w: &mut Words, at: usize, value: u64) {
+pub fn run_write(words: &mut Words, at: usize, value: u64) {
     if at < 167 {
-        w[at] = (value % WORD) as u32;
+        words[at] = (value % WORD) as u32;
     }
 }

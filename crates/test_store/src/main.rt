@@ -30,8 +30,8 @@ use crate::calls::run_track;
 use crate::calls::run_write;
 use crate::line::say_runs;
 use crate::script::NO_WORD;
-use crate::script::floats;
 use crate::script::numbers;
+use crate::script::values;
 use density::convention::Convention;
 use libc::STDIN_FILENO;
 use libc::STDOUT_FILENO;
@@ -54,50 +54,65 @@ fn convention(first: u64, second: u64, a: f64, b: f64) -> Convention {
 }
 
 // A reading of some layers by the first letter of its name, and its line's words.
-fn read(f: &Floats, w: &Words, first: u8, n: [u64; 8], x: [f64; 8], layers: u32) {
+fn read(floats: &Floats, words: &Words, first: u8, n: [u64; 8], x: [f64; 8], layers: u32) {
     match first {
-        b'd' => run_density(f, w, convention(n[2], n[3], x[2], x[3]), layers),
+        b'd' => run_density(floats, words, convention(n[2], n[3], x[2], x[3]), layers),
         b't' => run_track(
-            f,
-            w,
+            floats,
+            words,
             convention(n[4], n[5], x[4], x[5]),
             layers,
             n[1] as usize,
             n[2] as usize,
         ),
         b'l' => run_list(
-            f,
-            w,
+            floats,
+            words,
             convention(n[3], n[4], x[3], x[4]),
             layers,
             n[1] as usize,
         ),
-        _ => run_report(f, w, convention(n[2], n[3], x[2], x[3]), layers),
+        _ => run_report(floats, words, convention(n[2], n[3], x[2], x[3]), layers),
     }
 }
 
 // A call by the first and the third letter of its name, and its line's words; a put is into a layer, a reading of some
 // layers.
-fn call(f: &mut Floats, w: &mut Words, first: u8, third: u8, n: [u64; 8], x: [f64; 8], at: Layers) {
+fn call(
+    floats: &mut Floats,
+    words: &mut Words,
+    first: u8,
+    third: u8,
+    n: [u64; 8],
+    x: [f64; 8],
+    at: Layers,
+) {
     match first {
-        b'o' => run_open(f, w, n[1] as usize, 0, n[2] as usize, x[3]),
-        b'e' => run_open(f, w, n[1] as usize, n[2] as usize, n[3] as usize, x[4]),
+        b'o' => run_open(floats, words, n[1] as usize, 0, n[2] as usize, x[3]),
+        b'e' => run_open(
+            floats,
+            words,
+            n[1] as usize,
+            n[2] as usize,
+            n[3] as usize,
+            x[4],
+        ),
         b'p' => {
             if third == b'g' {
-                run_page(f, w, n[1] as usize);
+                run_page(floats, words, n[1] as usize);
             } else {
-                run_put(f, w, n[1], x[2], x[3], x[4], at.layer);
+                run_put(floats, words, n[1], x[2], x[3], x[4], at.layer);
             }
         }
-        b'c' => run_clear(f, w, n[1]),
-        b'a' => run_advance(f, w, n[1]),
-        b's' => run_squeeze(f, w),
-        b'w' => run_write(w, n[1] as usize, n[2]),
+        b'c' => run_clear(floats, words, n[1]),
+        b'a' => run_advance(floats, words, n[1]),
+        b's' => run_squeeze(floats, words),
+        b'w' => run_write(words, n[1] as usize, n[2]),
         _ => {
             if third == b'w' {
-                run_reweigh(f, w, n[1], x[2]);
+                run_reweigh(floats, words, n[1], x[2]);
             } else {
-                read(f, w, first, n, x, at.layers);
+                read(floats, words, first, n, x, at.layers);
             }
         }
     }
@@ -119,24 +134,32 @@ fn next(s: &[u8], at: usize, b: u8) -> usize
 }
 
 // The call of a line.
-fn run_call(f: &mut Floats, w: &mut Words, s: &[u8], at: Layers) {
+fn run_call(floats: &mut Floats, words: &mut Words, s: &[u8], at: Layers) {
     if s.len() < 3 {
         return;
     }
     let colon = next(s, 0, b':');
-    call(f, w, s[0], s[2], numbers(&s[0..colon]), floats(s), at);
+    call(
+        floats,
+        words,
+        s[0],
+        s[2],
+        numbers(&s[0..colon]),
+        values(s),
+        at,
+    );
 }
 
 // A call after the word `in` and a number: the layer of a put, the set of layers of a reading.
-fn run_in(f: &mut Floats, w: &mut Words, s: &[u8], number: u32) {
+fn run_in(floats: &mut Floats, words: &mut Words, s: &[u8], number: u32) {
     if s.len() < 3 {
         return;
     }
     let end = next(s, 3, b' ');
     if end < s.len() {
         run_call(
-            f,
-            w,
+            floats,
+            words,
             &s[end + 1..s.len()],
             Layers {
                 layer: number,
@@ -148,7 +171,7 @@ fn run_in(f: &mut Floats, w: &mut Words, s: &[u8], number: u32) {
 
 // A line of the script: a call, of which the part before the colon is written, or nothing. A put is into layer 0 and a
 // reading of all sixteen layers, unless the line says otherwise.
-fn run_line(f: &mut Floats, w: &mut Words, s: &[u8]) {
+fn run_line(floats: &mut Floats, words: &mut Words, s: &[u8]) {
     if s.len() < 3 {
         return;
     }
@@ -159,11 +182,11 @@ fn run_line(f: &mut Floats, w: &mut Words, s: &[u8]) {
     let shown = &s[0..colon];
     io::write_all(STDOUT_FILENO, shown);
     if s[0] == b'i' {
-        run_in(f, w, s, (numbers(shown)[1] % WORD) as u32);
+        run_in(floats, words, s, (numbers(shown)[1] % WORD) as u32);
     } else {
         run_call(
-            f,
-            w,
+            floats,
+            words,
             s,
             Layers {
                 layer: 0,
@@ -171,23 +194,23 @@ fn run_line(f: &mut Floats, w: &mut Words, s: &[u8]) {
             },
         );
     }
-    say_runs(f, w);
+    say_runs(floats, words);
 }
 
 // The lines of the script, in order.
-fn play(f: &mut Floats, w: &mut Words, script: &[u8]) {
+fn play(floats: &mut Floats, words: &mut Words, script: &[u8]) {
     let mut at = 0;
     while at < script.len() {
         let end = next(script, at, 10);
-        run_line(f, w, &script[at..end]);
+        run_line(floats, words, &script[at..end]);
         at = end + 1;
     }
 }
 
 fn main() {
-    let mut f = [1.5; 1787];
-    let mut w: Words = [9; 167];
+    let mut floats = [1.5; 1787];
+    let mut words: Words = [9; 167];
     let mut script = io::large_buffer();
     let n = io::read_full(STDIN_FILENO, &mut script);
-    play(&mut f, &mut w, &script[0..n]);
+    play(&mut floats, &mut words, &script[0..n]);
 }

@@ -38,7 +38,7 @@ pub fn numbers(s: &[u8]) -> [u64; 8] {
 }
 
 // The words of a text as floats by their bits; a colon is no part of a word.
-pub fn floats(s: &[u8]) -> [f64; 8] {
+pub fn values(s: &[u8]) -> [f64; 8] {
     let mut x = [0.0; 8];
     let mut k: usize = 0;
     let mut bits: u64 = 0;

@@ -1,4 +1,5 @@
 // The lists of kernels, places and values of the tables, and the density of each list at each place.
+// Internal: a function with a `requires` is called by proved code alone.
 ghost use Prim.Native.Nat.{_≤_, _<_};
 use crate::lines::put_measured;
 use crate::lines::put_pair;

@@ -1,4 +1,4 @@
--- `vectors::put_arguments` is safe and ends: the index stays within the table. Assumes nothing.
+-- `test_powers::put_arguments` is safe and ends: the index stays within the table. Assumes nothing.
 use Prim.Native.Nat.{_≤_, _-_}
 use borrow.Author.Needs.{needs}
 use Rattle.test_powers.proofs.put_arguments.Statement.{statement}

@@ -1,4 +1,4 @@
--- `vectors::put_pairs` is safe and ends: both indices stay within the table. Assumes nothing.
+-- `test_powers::put_pairs` is safe and ends: both indices stay within the table. Assumes nothing.
 use mathlib.Core.Path.{_≡_}
 use Prim.Native.Nat.{_≤_, _-_}
 use borrow.Author.Needs.{needs}

@@ -1,4 +1,5 @@
--- `history::next` is safe, ends, and answers a position of the text that is not before the given one. Assumes nothing.
+-- `test_store::next` is safe, ends, and answers a position of the text that is not before the given one. Assumes
+-- nothing.
 use Prim.Native.Nat.{_≤_, _-_}
 use lib.ListN.{length}
 use borrow.Author.Needs.{needs}

@@ -1,4 +1,4 @@
--- `history::play` is safe and ends: each turn starts past the line of the turn before. Assumes nothing.
+-- `test_store::play` is safe and ends: each turn starts past the line of the turn before. Assumes nothing.
 use Prim.Native.Nat.{_-_}
 use lib.ListN.{length}
 use borrow.Author.Needs.{needs}

@@ -1,4 +1,4 @@
--- `field::centre_of` meets its contract. Assumes nothing.
+-- `kernel::field::centre_of` meets its contract. Assumes nothing.
 use borrow.Author.Needs.{needs}
 use Rattle.kernel.specs.Field.{centreOf}
 use Rattle.kernel.proofs.field.centre_of.Statement.{statement}

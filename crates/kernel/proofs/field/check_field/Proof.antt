@@ -1,4 +1,4 @@
--- `field::check_field` meets its contract: the mesh comes before the list. Assumes nothing.
+-- `kernel::field::check_field` meets its contract: the mesh comes before the list. Assumes nothing.
 use borrow.Author.Needs.{needs}
 use Rattle.kernel.specs.Field.{fieldCheck}
 use Rattle.kernel.proofs.field.check_field.Statement.{statement}

@@ -1,4 +1,4 @@
--- `reports::homogeneous` meets its contract: a mesh that passes is sound. Assumes nothing.
+-- `mass::homogeneous::homogeneous` meets its contract: a mesh that passes is sound. Assumes nothing.
 use mathlib.Core.Path.{sym, _∙_}
 use borrow.Author.Needs.{needs}
 use Rattle.mesh.specs.CheckLaws.{passed-sound}

@@ -1,4 +1,4 @@
--- `field::dunavant::point_of` meets its contract. Assumes nothing.
+-- `mesh::dunavant::point_of` meets its contract. Assumes nothing.
 use borrow.Author.Needs.{needs}
 use Rattle.mesh.specs.Dunavant.{pointOf}
 use Rattle.mesh.proofs.dunavant.point_of.Statement.{statement}

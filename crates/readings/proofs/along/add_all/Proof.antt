@@ -1,4 +1,4 @@
--- `track::add_all` meets its contract: the pairs, then the last one of an odd number. Assumes nothing.
+-- `along::add_all` meets its contract: the pairs, then the last one of an odd number. Assumes nothing.
 use mathlib.Core.Path.{_≡_}
 use Prim.Native.Nat.{suc, _*_, _/_}
 use native.Mathlib.Omega.{arith}

@@ -1,4 +1,4 @@
--- `track::add_any` meets its contract: a loop that sets each element. Assumes nothing.
+-- `along::add_any` meets its contract: a loop that sets each element. Assumes nothing.
 use mathlib.Core.Path.{_≡_, ap, _∙_}
 use Prim.Native.Nat.{ℕ, _-_}
 use native.Mathlib.Omega.{arith}

@@ -1,4 +1,4 @@
--- `track::add_both` meets its contract: both pass the strict test, or one is added after the other. Assumes nothing.
+-- `along::add_both` meets its contract: both pass the strict test, or one is added after the other. Assumes nothing.
 use mathlib.Core.Path.{sym, _∙_}
 use mathlib.Core.Bool.{and-eq-true-iff}
 use borrow.Author.Needs.{needs}

@@ -1,4 +1,4 @@
--- `track::add_kernel` meets its contract, either way. Assumes nothing.
+-- `along::add_kernel` meets its contract, either way. Assumes nothing.
 use mathlib.Core.Path.{sym, _∙_}
 use borrow.Author.Needs.{needs}
 use Rattle.readings.proofs.along.add_kernel.Statement.{statement}

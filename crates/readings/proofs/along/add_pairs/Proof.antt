@@ -1,4 +1,4 @@
--- `track::add_pairs` meets its contract: at each point the kernels that are left, added to the sum so far, give the
+-- `along::add_pairs` meets its contract: at each point the kernels that are left, added to the sum so far, give the
 -- density. Assumes nothing.
 use mathlib.Core.Path.{_≡_}
 use Prim.Native.Nat.{_+_, _*_, _-_, _≤_}

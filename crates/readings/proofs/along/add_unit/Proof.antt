@@ -1,4 +1,4 @@
--- `track::add_unit` meets its contract: a loop that sets each element; the test holds, so the quotient is what the
+-- `along::add_unit` meets its contract: a loop that sets each element; the test holds, so the quotient is what the
 -- kernel adds. Assumes nothing.
 use mathlib.Core.Path.{_≡_, ap, _∙_}
 use Prim.Native.Nat.{ℕ, _-_}

@@ -1,4 +1,4 @@
--- `track::add_units` meets its contract: a loop that sets each element; the tests hold, so the quotients are what the
+-- `along::add_units` meets its contract: a loop that sets each element; the tests hold, so the quotients are what the
 -- kernels add. Assumes nothing.
 use mathlib.Core.Path.{_≡_, refl}
 use Prim.Native.Nat.{ℕ, _-_}

@@ -1,4 +1,4 @@
--- `track::block` meets its contract: the sums are a stretch of the track. Assumes nothing.
+-- `along::block` meets its contract: the sums are a stretch of the track. Assumes nothing.
 use mathlib.Core.Path.{sym, ap, _∙_}
 use native.Mathlib.Omega.{arith}
 use lib.Seq.{length-take-le}

@@ -1,4 +1,4 @@
--- `track::densities` meets its contract: a block more a turn. Assumes nothing.
+-- `along::densities` meets its contract: a block more a turn. Assumes nothing.
 use mathlib.Core.Path.{_≡_}
 use Prim.Native.Nat.{_-_, _≤_}
 use native.Mathlib.Omega.{arith}

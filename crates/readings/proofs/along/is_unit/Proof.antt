@@ -1,4 +1,4 @@
--- `track::is_unit` meets its contract: the test is the definition's. Assumes nothing.
+-- `along::is_unit` meets its contract: the test is the definition's. Assumes nothing.
 use mathlib.Core.Path.{refl}
 use borrow.Author.Needs.{needs}
 use Rattle.readings.proofs.along.is_unit.Statement.{statement}

@@ -1,4 +1,4 @@
--- `track::load` meets its contract: a loop that sets each element. Assumes nothing.
+-- `along::load` meets its contract: a loop that sets each element. Assumes nothing.
 use mathlib.Core.Path.{_≡_, refl}
 use Prim.Native.Nat.{ℕ, _+_, _*_, _-_}
 use lib.ListN.{getD}

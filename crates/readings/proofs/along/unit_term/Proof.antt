@@ -1,4 +1,4 @@
--- `track::unit_term` meets its contract: operation by operation. Assumes nothing.
+-- `along::unit_term` meets its contract: operation by operation. Assumes nothing.
 use Rattle.readings.specs.PointLanes.{unitTerm}
 use borrow.Author.Needs.{needs}
 use Rattle.readings.proofs.along.unit_term.Statement.{statement}

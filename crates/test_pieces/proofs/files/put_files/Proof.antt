@@ -1,4 +1,4 @@
--- `pieces_rows::files::put_files` is safe and ends. Assumes nothing.
+-- `test_pieces::files::put_files` is safe and ends. Assumes nothing.
 use Prim.Native.Nat.{_≤_, _-_}
 use borrow.Author.Needs.{needs}
 use Rattle.test_pieces.proofs.files.put_files.Statement.{statement}

@@ -1,4 +1,4 @@
--- `pieces_rows::fits::put_fits` is safe and ends: the three indices stay within the table. Assumes nothing.
+-- `test_pieces::fits::put_fits` is safe and ends: the three indices stay within the table. Assumes nothing.
 use mathlib.Core.Path.{_≡_}
 use Prim.Native.Nat.{_≤_, _-_}
 use borrow.Author.Needs.{needs}

@@ -1,4 +1,4 @@
--- `pieces_rows::fits::put_pieces` is safe and ends: the index stays within both arrays. Assumes nothing.
+-- `test_pieces::fits::put_pieces` is safe and ends: the index stays within both arrays. Assumes nothing.
 use Prim.Native.Nat.{_≤_, _-_}
 use borrow.Author.Needs.{needs}
 use Rattle.test_pieces.proofs.fits.put_pieces.Statement.{statement}

@@ -1,4 +1,4 @@
--- `pieces_rows::lines::put_run` is safe and ends: the index stays within the run. Assumes nothing.
+-- `test_pieces::lines::put_run` is safe and ends: the index stays within the run. Assumes nothing.
 use mathlib.Core.Path.{_≡_}
 use Prim.Native.Nat.{_≤_, _-_}
 use lib.ListN.{length}

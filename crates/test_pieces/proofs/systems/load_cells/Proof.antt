@@ -1,4 +1,4 @@
--- `pieces_rows::systems::load_cells` is safe and ends: the indices stay within the table and the array.
+-- `test_pieces::systems::load_cells` is safe and ends: the indices stay within the table and the array.
 -- Assumes nothing.
 use Prim.Native.Nat.{_≤_, _-_}
 use borrow.Author.Needs.{needs}

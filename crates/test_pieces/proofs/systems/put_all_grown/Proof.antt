@@ -1,4 +1,4 @@
--- `pieces_rows::systems::put_all_grown` is safe and ends. Assumes nothing.
+-- `test_pieces::systems::put_all_grown` is safe and ends. Assumes nothing.
 use Prim.Native.Nat.{_≤_, _*_, _-_}
 use borrow.Author.Needs.{needs}
 use Rattle.test_pieces.proofs.systems.put_all_grown.Statement.{statement}

@@ -1,4 +1,4 @@
--- `pieces_rows::systems::put_grown` is safe: the part lent is within its array. Assumes nothing.
+-- `test_pieces::systems::put_grown` is safe: the part lent is within its array. Assumes nothing.
 use mathlib.Core.Path.{sym}
 use lib.Seq.{length-take-le}
 use borrow.Author.Needs.{needs}

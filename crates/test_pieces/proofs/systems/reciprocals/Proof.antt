@@ -1,4 +1,4 @@
--- `pieces_rows::systems::reciprocals` is safe and ends: the index stays within the array. Assumes nothing.
+-- `test_pieces::systems::reciprocals` is safe and ends: the index stays within the array. Assumes nothing.
 use Prim.Native.Nat.{_≤_, _-_}
 use borrow.Author.Needs.{needs}
 use Rattle.test_pieces.proofs.systems.reciprocals.Statement.{statement}

@@ -1,4 +1,4 @@
--- `pieces_rows::written::load_list` is safe and ends: the indices stay within the table and the array. Assumes nothing.
+-- `test_pieces::written::load_list` is safe and ends: the indices stay within the table and the array. Assumes nothing.
 use Prim.Native.Nat.{_≤_, _-_}
 use borrow.Author.Needs.{needs}
 use Rattle.test_pieces.proofs.written.load_list.Statement.{statement}

@@ -1,4 +1,4 @@
--- `pieces_rows::written::put_all_into` is safe and ends. Assumes nothing.
+-- `test_pieces::written::put_all_into` is safe and ends. Assumes nothing.
 use Prim.Native.Nat.{_≤_, _-_}
 use borrow.Author.Needs.{needs}
 use Rattle.test_pieces.proofs.written.put_all_into.Statement.{statement}

@@ -1,4 +1,4 @@
--- `pieces_rows::written::put_lists` is safe and ends. Assumes nothing.
+-- `test_pieces::written::put_lists` is safe and ends. Assumes nothing.
 use Prim.Native.Nat.{_≤_, _-_}
 use borrow.Author.Needs.{needs}
 use Rattle.test_pieces.proofs.written.put_lists.Statement.{statement}

@@ -1,4 +1,4 @@
--- `history::digest::digest_floats` is safe and ends: the index stays within the run. Assumes nothing.
+-- `test_store::digest::digest_floats` is safe and ends: the index stays within the run. Assumes nothing.
 use mathlib.Core.Path.{_≡_}
 use Prim.Native.Nat.{_≤_, _-_}
 use lib.ListN.{length}

@@ -1,4 +1,4 @@
--- `history::line::say` is safe and ends: the index stays within the form. Assumes nothing.
+-- `test_store::line::say` is safe and ends: the index stays within the form. Assumes nothing.
 use mathlib.Core.Path.{_≡_}
 use Prim.Native.Nat.{_≤_, _-_}
 use lib.ListN.{length}

@@ -1,4 +1,4 @@
--- `history::script::numbers` is safe and ends: the index stays within the text. Assumes nothing.
+-- `test_store::script::numbers` is safe and ends: the index stays within the text. Assumes nothing.
 use mathlib.Core.Path.{_≡_}
 use Prim.Native.Nat.{_≤_, _-_}
 use lib.ListN.{length}

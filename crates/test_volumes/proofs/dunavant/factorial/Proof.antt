@@ -1,4 +1,4 @@
--- `volume_rows::dunavant::factorial` is safe and ends. Assumes nothing.
+-- `test_volumes::dunavant::factorial` is safe and ends. Assumes nothing.
 use Prim.Native.Nat.{_≤_, _-_}
 use borrow.Author.Needs.{needs}
 use Rattle.test_volumes.proofs.dunavant.factorial.Statement.{statement}

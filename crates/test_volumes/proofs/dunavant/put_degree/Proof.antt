@@ -1,4 +1,4 @@
--- `volume_rows::dunavant::put_degree` is safe and ends. Assumes nothing.
+-- `test_volumes::dunavant::put_degree` is safe and ends. Assumes nothing.
 use mathlib.Core.Path.{_≡_}
 use Prim.Native.Nat.{_≤_, _-_, _+_}
 use borrow.Author.Needs.{needs}

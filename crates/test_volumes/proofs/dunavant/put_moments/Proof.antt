@@ -1,4 +1,4 @@
--- `volume_rows::dunavant::put_moments` is safe and ends. Assumes nothing.
+-- `test_volumes::dunavant::put_moments` is safe and ends. Assumes nothing.
 use Prim.Native.Nat.{_≤_, _-_}
 use borrow.Author.Needs.{needs}
 use Rattle.test_volumes.proofs.dunavant.put_moments.Statement.{statement}

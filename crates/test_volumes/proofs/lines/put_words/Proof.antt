@@ -1,4 +1,4 @@
--- `volume_rows::lines::put_words` is safe and ends: the index stays within the array. Assumes nothing.
+-- `test_volumes::lines::put_words` is safe and ends: the index stays within the array. Assumes nothing.
 use Prim.Native.Nat.{_≤_, _-_}
 use borrow.Author.Needs.{needs}
 use Rattle.test_volumes.proofs.lines.put_words.Statement.{statement}

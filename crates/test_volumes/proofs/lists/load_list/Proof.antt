@@ -1,4 +1,4 @@
--- `volume_rows::lists::load_list` is safe and ends: the indices stay within the table and the array. Assumes nothing.
+-- `test_volumes::lists::load_list` is safe and ends: the indices stay within the table and the array. Assumes nothing.
 use Prim.Native.Nat.{_≤_, _-_}
 use borrow.Author.Needs.{needs}
 use Rattle.test_volumes.proofs.lists.load_list.Statement.{statement}

@@ -1,4 +1,4 @@
--- `volume_rows::meshes::put_mesh` is safe and ends: the parts lent are within their arrays. Assumes nothing.
+-- `test_volumes::meshes::put_mesh` is safe and ends: the parts lent are within their arrays. Assumes nothing.
 use mathlib.Core.Path.{sym}
 use lib.Seq.{length-take-le}
 use borrow.Author.Needs.{needs}

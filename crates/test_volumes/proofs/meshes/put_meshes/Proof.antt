@@ -1,4 +1,4 @@
--- `volume_rows::meshes::put_meshes` is safe and ends. Assumes nothing.
+-- `test_volumes::meshes::put_meshes` is safe and ends. Assumes nothing.
 use Prim.Native.Nat.{_≤_, _-_}
 use borrow.Author.Needs.{needs}
 use Rattle.test_volumes.proofs.meshes.put_meshes.Statement.{statement}

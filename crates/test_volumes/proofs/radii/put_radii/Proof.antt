@@ -1,4 +1,4 @@
--- `volume_rows::radii::put_radii` is safe and ends: the index stays within the table. Assumes nothing.
+-- `test_volumes::radii::put_radii` is safe and ends: the index stays within the table. Assumes nothing.
 use Prim.Native.Nat.{_≤_, _-_}
 use borrow.Author.Needs.{needs}
 use Rattle.test_volumes.proofs.radii.put_radii.Statement.{statement}
