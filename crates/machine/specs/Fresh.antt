@@ -1,7 +1,8 @@
 -- 01, "The store": "Afresh: the machine's filled places in order, on the opening's mesh and radius, each decomposed,
 -- `kernel_volume` of every piece over all F faces, then the reading's functions by its convention; nothing comes from
--- the runs". Said with demand 2's functions alone: `decomposed`, `fieldMassCall`, `densitized` and `bodyVolumeCall`
--- are what the contracts of those calls cite. Definitions only.
+-- the runs". Said with demand 2's functions: `decomposed`, `fieldMassCall`, `densitized` and `bodyVolumeCall` are what
+-- the contracts of those calls cite; `appliedScale` and `reportOf` (crates/density/specs) are 01's "Scales and report
+-- fields", which the readings cite. Definitions only.
 use mathlib.Core.List.{List, [], _∷_, _++_, map}
 use Prim.Native.Nat.{ℕ, zero, suc, _*_, _/_}
 use lib.ListN.{length, getD}
