@@ -1,3 +1,4 @@
 pub mod Filling
 pub mod Joins
+pub mod Parts
 pub mod Points

@@ -1,4 +1,5 @@
 -- What a step computes of one point and of 28, for the functions' contracts. Definitions only.
+use Prim.Native.Nat.{ℕ}
 use mathlib.Core.Path.{_≡_}
 use mathlib.Core.Logic.{_⊎_}
 use mathlib.Core.Bool.{true, false, cond}
@@ -7,9 +8,10 @@ use lib.ListN.{getD}
 use lib.Ieee.{Float, nan, binary64, lt, le}
 use Rattle.base.specs.Floats.{_⊕_, _⊖_, _⊗_, _⊘_, abs}
 use Rattle.base.specs.Constants.{one, halfPi, tenth}
+use Rattle.base.specs.Loops.{down}
 use Rattle.base.specs.Ranges.{Within}
 use Rattle.root.specs.Root.{squareRoot}
-use Rattle.powers.specs.Arc.{arcCore}
+use Rattle.powers.specs.Arc.{arcTerm, arcSum, arcCore}
 use Rattle.radial.specs.Radial.{radialG}
 use Rattle.lanes.specs.declared.radii.Found.{Found}
 use Rattle.lanes.specs.Factors.{All, Each}
@@ -45,6 +47,10 @@ inverted s = cond (lt one s) (one ⊘ s) s
 -- of "v/(1 + root(1 + v·v))": what the root is taken of
 abbrev pub radicand : Float → Float
 radicand v = one ⊕ v ⊗ v
+
+-- of the series at q: the steps of k - 1 down to 0 make its sum of a
+abbrev pub Begun : ℕ → Float → Float → Type 0
+Begun k q a = down (arcTerm q) k a ≡ arcSum q
 
 -- "if s > 1, r = H - r"
 unfoldable pub turned : Float → Float → Float
@@ -89,6 +95,10 @@ SmallFactors ts gs = All (λ i g. Small (getD ts i nan) → g ≡ radialG (getD 
 -- hs are the ss where the radius is at least 0.1, else the gs
 abbrev pub Chosen : List Float → List Float → List Float → List Float → Type 0
 Chosen ts ss gs hs = All (λ i h. h ≡ cond (le tenth (getD ts i nan)) (getD ss i nan) (getD gs i nan)) hs
+
+-- of each series k steps are left
+abbrev pub AllBegun : ℕ → List Float → List Float → Type 0
+AllBegun k vs gs = All (λ i a. Begun k (getD vs i nan ⊗ getD vs i nan) a) gs
 
 abbrev pub Quotients : List Float → List Float → List Float → Type 0
 Quotients ts vs gs = All (λ i g. g ≡ quotient (getD ts i nan) (getD vs i nan)) gs

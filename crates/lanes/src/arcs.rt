@@ -4,12 +4,14 @@
 // Internal: a function with a `requires` is called by proved code alone.
 ghost use mathlib.Core.Path.{_≡_};
 ghost use lib.ListN.{length};
+ghost use Rattle.base.specs.Floats.{_⊗_};
 ghost use Rattle.powers.specs.Arc.{halved};
 ghost use Rattle.radial.specs.Radial.{radialG};
 ghost use Rattle.lanes.specs.Factors.{Each};
-ghost use Rattle.lanes.specs.Stages.{Low, inverted, turned, radicand, quotient, AllLarge, AllLow, Radicands, Tangents, Halves, Quotients};
+ghost use Rattle.lanes.specs.Stages.{Low, inverted, turned, radicand, quotient, AllLarge, AllLow, Radicands, Tangents, Halves, Begun, AllBegun, Quotients};
 use crate::radii::sharpen_all;
-use powers::arc::arc_core;
+use crate::sums::begin;
+use crate::sums::ended;
 use root::lanes::near_one;
 use root::lanes::near_unit;
 use root::lanes::unit_lane;
@@ -30,19 +32,20 @@ fn turned(s: f64, a: f64) -> f64
     if s > 1.0 { h } else { a }
 }
 
-// The factor of a t of at least 0.1, v being what two halvings leave.
-fn quotient(t: f64, v: f64) -> f64
+// The factor of a t of at least 0.1, v being what two halvings leave and a its series but for the last steps.
+fn quotient(t: f64, v: f64, a: f64) -> f64
+    requires { ⌜ Begun 3 (v ⊗ v) a ⌝ }
     ensures { λ r. ⌜ r ≡ quotient t v ⌝ }
 {
-    (t - turned(t, arc_core(v))) / (t * t * t)
+    (t - turned(t, ended(v, a))) / (t * t * t)
 }
 
 // The same where t is not above 1.
-fn low_quotient(t: f64, v: f64) -> f64
-    requires { ⌜ Low t ⌝ }
+fn low_quotient(t: f64, v: f64, a: f64) -> f64
+    requires { ⌜ Low t × Begun 3 (v ⊗ v) a ⌝ }
     ensures { λ r. ⌜ r ≡ quotient t v ⌝ }
 {
-    (t - arc_core(v)) / (t * t * t)
+    (t - ended(v, a)) / (t * t * t)
 }
 
 // What the halvings start from, the radicands f of the first, and guesses for their roots, of which
@@ -145,31 +148,34 @@ fn halve_again(v: &mut [f64], radicands: &mut [f64], y: &mut [f64]) -> u64
     halve_by(radicands, y, v)
 }
 
-// The factors of the radii t, none above 1, v being what the halvings leave.
+// The factors of the radii t, none above 1, v being what the halvings leave and g their series but for the last steps.
 fn low_quotients(t: &[f64], v: &[f64], g: &mut [f64])
-    requires { ⌜ (length (now t) ≡ 28) × (length (now v) ≡ 28) × (length (now g) ≡ 28) × AllLow (now t) ⌝ }
+    requires { ⌜ (length (now t) ≡ 28) × (length (now v) ≡ 28) × (length (now g) ≡ 28) × AllLow (now t)
+        × AllBegun 3 (now v) (now g) ⌝ }
     ensures { λ _. ⌜ Quotients (now (t .entry)) (now (v .entry)) (now (g .exit)) ⌝ }
 {
     for i in 0..28usize {
-        g[i] = low_quotient(t[i], v[i]);
+        g[i] = low_quotient(t[i], v[i], g[i]);
     }
 }
 
 // The factors of any radii t.
 fn any_quotients(t: &[f64], v: &[f64], g: &mut [f64])
-    requires { ⌜ (length (now t) ≡ 28) × (length (now v) ≡ 28) × (length (now g) ≡ 28) ⌝ }
+    requires { ⌜ (length (now t) ≡ 28) × (length (now v) ≡ 28) × (length (now g) ≡ 28)
+        × AllBegun 3 (now v) (now g) ⌝ }
     ensures { λ _. ⌜ Quotients (now (t .entry)) (now (v .entry)) (now (g .exit)) ⌝ }
 {
     for i in 0..28usize {
-        g[i] = quotient(t[i], v[i]);
+        g[i] = quotient(t[i], v[i], g[i]);
     }
 }
 
-// The factors, by what `high` says of the radii.
+// The factors in g, by what `high` says of the radii.
 fn quotients(t: &[f64], high: u64, v: &[f64], g: &mut [f64])
     requires { ⌜ (length (now t) ≡ 28) × (length (now v) ≡ 28) × (length (now g) ≡ 28) × (high ≡ 0 → AllLow (now t)) ⌝ }
     ensures { λ _. ⌜ Quotients (now (t .entry)) (now (v .entry)) (now (g .exit)) ⌝ }
 {
+    begin(v, g);
     if high == 0 {
         low_quotients(t, v, g);
     } else {

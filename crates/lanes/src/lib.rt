@@ -16,6 +16,7 @@ pub mod arcs;
 pub mod mixed;
 pub mod radii;
 pub mod series;
+pub mod sums;
 
 // The factors, one by one.
 fn one_by_one(x: &[f64], sigma: f64, g: &mut [f64])

@@ -1,10 +1,11 @@
--- `any_quotients` meets its contract: a loop that sets each element. Assumes nothing.
+-- `any_quotients` meets its contract: a loop that sets each element from what stood there. Assumes nothing.
 use Prim.Native.Nat.{ℕ, _-_}
-use mathlib.Core.Path.{_≡_}
+use mathlib.Core.Path.{_≡_, subst⁻¹}
+use native.Mathlib.Nat.{le-refl}
 use lib.ListN.{getD}
 use lib.Ieee.{Float, nan}
 use Rattle.base.specs.FillLaws.{Filled, none-filled, fills}
-use Rattle.lanes.specs.Stages.{quotient}
+use Rattle.lanes.specs.Stages.{Begun, quotient}
 use Rattle.lanes.proofs.Filling.{all-filled}
 use borrow.Author.Needs.{needs}
 use Rattle.lanes.proofs.arcs.any_quotients.Statement.{statement}
@@ -15,6 +16,12 @@ Inv-loop t v g₀ i₀ g i = Filled 28 (λ (j : ℕ) (z : Float). z ≡ quotient
 
 abbrev μ-loop : tie.MeasureT-loop
 μ-loop t v g₀ i₀ g i = 28 - i
+
+begun : tie.Need-quotient-requires Inv-loop μ-loop
+begun c κs =
+    let l = c .before .before .before .before .loop in
+    let p = c .before .before .before .before .before .before .before .before .pre in
+    subst⁻¹ (Begun 3 _) (l .inv .kept (l .i) (le-refl (l .i))) (p .3 .at (l .i) (search needs))
 
 pub any-quotients-spec : {M : Type 1} → statement M
 any-quotients-spec =
@@ -27,7 +34,9 @@ any-quotients-spec =
     (λ c. search needs)
     (λ c. search needs)
     (λ c. search needs)
-    (λ c κs. search needs)
+    (λ c. search needs)
+    (λ c. search needs)
+    begun
     (λ c. search needs)
     (λ c. search needs)
     (λ c. search needs)

@@ -11,7 +11,7 @@ returns : tie.Need-returns
 returns c =
     let p = c .before in
     let t = p .args .t in
-    ap (λ (a : Float). (t ⊖ a) ⊘ (t ⊗ t ⊗ t)) (c .arc-core .ensures) ∙ low-quotient t (p .args .v) (p .pre)
+    ap (λ (a : Float). (t ⊖ a) ⊘ (t ⊗ t ⊗ t)) (c .ended .ensures) ∙ low-quotient t (p .args .v) (p .pre .0)
 
 pub low-quotient-spec : {M : Type 1} → statement M
-low-quotient-spec = tie.close (tie.spec (λ c κs. search needs) returns)
+low-quotient-spec = tie.close (tie.spec (λ c κs. c .pre .1) returns)

@@ -9,4 +9,4 @@ unfolding quotient
 returns c = cc
 
 pub quotient-spec : {M : Type 1} → statement M
-quotient-spec = tie.close (tie.spec (λ c κs. search needs) (λ c κs. search needs) returns)
+quotient-spec = tie.close (tie.spec (λ c κs. c .pre) (λ c κs. search needs) returns)

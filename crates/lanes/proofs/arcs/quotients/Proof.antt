@@ -7,13 +7,15 @@ pub quotients-spec : {M : Type 1} → statement M
 quotients-spec =
     tie.close
     (tie.spec
+    (λ c κs. search needs)
     (λ c κs. (
       search needs,
       search needs,
       search needs,
-      c .before .before .before .before .before .pre .3 (search needs),
+      c .before .before .before .before .before .before .before .before .before .pre .3 (search needs),
+      c .before .before .before .before .begin .ensures,
     ))
-    (λ c κs. search needs)
+    (λ c κs. (search needs, search needs, search needs, c .before .before .before .before .begin .ensures))
     (λ c. search needs)
     (λ c. search needs)
     (λ c. search needs)
