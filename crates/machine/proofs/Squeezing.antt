@@ -19,7 +19,7 @@ use Rattle.kernel.specs.declared.kernel.Kernel.{Kernel}
 use Rattle.pieces.specs.declared.pieces.Pieces.{Pieces}
 use Rattle.layout.specs.Layout.{coordsFrom, cornersFrom}
 use Rattle.store.specs.Squeeze.{rank, renumbered, keptTo, freedOf, squeezed}
-use Rattle.store.specs.Marks.{Below}
+use Rattle.mesh.specs.Corners.{Below}
 use Rattle.store.specs.MarkLaws.{rank-le}
 use Rattle.store.specs.SqueezeLaws.{kept-length, squeezed-length}
 use Rattle.store.specs.TriangleLaws.{same-triangle, still-below}
