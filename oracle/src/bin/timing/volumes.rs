@@ -14,7 +14,7 @@ const CENTRE: [f64; 3] = [10.0, -20.0, 30.0];
 /// Sigma, the path, and the bar by the platform's.
 type Case = (f64, &'static str, f64);
 
-const CASES: [Case; 5] = [(1e-4, "series", 0.8), (2.1e-4, "both", 1.1), (1e-3, "arc", 1.1), (4e-3, "arc", 1.1), (0.05, "arc", 1.1)];
+const CASES: [Case; 5] = [(1e-4, "series", 0.8), (2.1e-4, "both", 1.1), (1e-3, "arc", 0.9), (4e-3, "arc", 1.1), (0.05, "arc", 1.1)];
 
 /// By the next smaller mesh: "the same", read as within 5 %, and at most 1.3.
 const GROWTH: [(f64, &str); 2] = [(1.05, "1,000 faces"), (1.3, "20,000 faces")];
@@ -119,7 +119,7 @@ fn unordered(timings: &mut Timings) {
     let body = Body::shuffled();
     let place = Place { store: body.store(), body, name: "" };
     let volume = volume(timings, &place, 2e-4);
-    timings.row(row("kernel_volume, both, sigma 0.0002, 20,000 faces in no order".into(), volume.ours, volume));
+    timings.row(row("kernel_volume, both, sigma 0.0002, 20,000 faces in no order".into(), volume.ours, volume).within(1.0));
 }
 
 /// A sigma below 0 beside its negative, of which these are a volume and an advance for each case: "the same", read as within 5 %. A
