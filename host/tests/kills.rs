@@ -515,7 +515,7 @@ fn what_an_edit_writes_is_on_the_disk_before_its_head_is_moved() {
     }
 }
 
-/// A call of the system and the name of its file, from a line such as `77 fsync(5</tmp/store/head.new>) = 0`.
+/// A call of the system and the name of its file, from a line such as `77 fsync(5</store/head.new>) = 0`.
 fn traced(line: &str) -> Option<String> {
     let (call, rest) =
         line.split_whitespace().nth(1).and_then(|_| line.split_once(' '))?.1.trim().split_once('(')?;
