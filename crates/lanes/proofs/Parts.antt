@@ -8,18 +8,18 @@ use Rattle.base.specs.Constants.{one, twentyThree}
 use Rattle.base.specs.Loops.{down}
 use Rattle.base.specs.LoopLaws.{Lower}
 use Rattle.powers.specs.Arc.{arcTerm, arcSum}
-use Rattle.lanes.specs.Stages.{Begun}
+use Rattle.lanes.specs.Stages.{StepsLeft}
 
-pub all-left : (q : Float) → Begun 11 q (one ⊘ twentyThree)
+pub all-left : (q : Float) → StepsLeft 11 q (one ⊘ twentyThree)
 unfolding arcSum
 all-left q = refl
 
-pub none-left : (q a : Float) → Begun 0 q a → a ≡ arcSum q
+pub none-left : (q a : Float) → StepsLeft 0 q a → a ≡ arcSum q
 unfolding down
 none-left q a h = h
 
-pub left-at : (q a : Float) {j k : ℕ} → Lower (arcTerm q) j a (arcSum q) → k ≤ j → j ≤ k → Begun k q a
-left-at q a {j} {k} l g h = subst (λ (n : ℕ). Begun n q a) same (l .same)
+pub left-at : (q a : Float) {j k : ℕ} → Lower (arcTerm q) j a (arcSum q) → k ≤ j → j ≤ k → StepsLeft k q a
+left-at q a {j} {k} l g h = subst (λ (n : ℕ). StepsLeft n q a) same (l .same)
   where
     same : j ≡ k
     same = omega arith

@@ -48,9 +48,9 @@ inverted s = cond (lt one s) (one ⊘ s) s
 abbrev pub radicand : Float → Float
 radicand v = one ⊕ v ⊗ v
 
--- of the series at q: the steps of k - 1 down to 0 make its sum of a
-abbrev pub Begun : ℕ → Float → Float → Type 0
-Begun k q a = down (arcTerm q) k a ≡ arcSum q
+-- k steps of the series at q are left: those of k - 1 down to 0 make its sum of a
+abbrev pub StepsLeft : ℕ → Float → Float → Type 0
+StepsLeft k q a = down (arcTerm q) k a ≡ arcSum q
 
 -- "if s > 1, r = H - r"
 unfoldable pub turned : Float → Float → Float
@@ -97,8 +97,8 @@ abbrev pub Chosen : List Float → List Float → List Float → List Float → 
 Chosen ts ss gs hs = All (λ i h. h ≡ cond (le tenth (getD ts i nan)) (getD ss i nan) (getD gs i nan)) hs
 
 -- of each series k steps are left
-abbrev pub AllBegun : ℕ → List Float → List Float → Type 0
-AllBegun k vs gs = All (λ i a. Begun k (getD vs i nan ⊗ getD vs i nan) a) gs
+abbrev pub AllStepsLeft : ℕ → List Float → List Float → Type 0
+AllStepsLeft k vs gs = All (λ i a. StepsLeft k (getD vs i nan ⊗ getD vs i nan) a) gs
 
 abbrev pub Quotients : List Float → List Float → List Float → Type 0
 Quotients ts vs gs = All (λ i g. g ≡ quotient (getD ts i nan) (getD vs i nan)) gs

@@ -8,7 +8,7 @@ ghost use Rattle.base.specs.Floats.{_⊗_};
 ghost use Rattle.powers.specs.Arc.{halved};
 ghost use Rattle.radial.specs.Radial.{radialG};
 ghost use Rattle.lanes.specs.Factors.{Each};
-ghost use Rattle.lanes.specs.Stages.{Low, inverted, turned, radicand, quotient, AllLarge, AllLow, Radicands, Tangents, Halves, Begun, AllBegun, Quotients};
+ghost use Rattle.lanes.specs.Stages.{Low, inverted, turned, radicand, quotient, AllLarge, AllLow, Radicands, Tangents, Halves, StepsLeft, AllStepsLeft, Quotients};
 use crate::radii::sharpen_all;
 use crate::sums::begin;
 use crate::sums::ended;
@@ -34,7 +34,7 @@ fn turned(s: f64, a: f64) -> f64
 
 // The factor of a t of at least 0.1, v being what two halvings leave and a its series but for the last steps.
 fn quotient(t: f64, v: f64, a: f64) -> f64
-    requires { ⌜ Begun 3 (v ⊗ v) a ⌝ }
+    requires { ⌜ StepsLeft 3 (v ⊗ v) a ⌝ }
     ensures { λ r. ⌜ r ≡ quotient t v ⌝ }
 {
     (t - turned(t, ended(v, a))) / (t * t * t)
@@ -42,7 +42,7 @@ fn quotient(t: f64, v: f64, a: f64) -> f64
 
 // The same where t is not above 1.
 fn low_quotient(t: f64, v: f64, a: f64) -> f64
-    requires { ⌜ Low t × Begun 3 (v ⊗ v) a ⌝ }
+    requires { ⌜ Low t × StepsLeft 3 (v ⊗ v) a ⌝ }
     ensures { λ r. ⌜ r ≡ quotient t v ⌝ }
 {
     (t - ended(v, a)) / (t * t * t)
@@ -151,7 +151,7 @@ fn halve_again(v: &mut [f64], radicands: &mut [f64], y: &mut [f64]) -> u64
 // The factors of the radii t, none above 1, v being what the halvings leave and g their series but for the last steps.
 fn low_quotients(t: &[f64], v: &[f64], g: &mut [f64])
     requires { ⌜ (length (now t) ≡ 28) × (length (now v) ≡ 28) × (length (now g) ≡ 28) × AllLow (now t)
-        × AllBegun 3 (now v) (now g) ⌝ }
+        × AllStepsLeft 3 (now v) (now g) ⌝ }
     ensures { λ _. ⌜ Quotients (now (t .entry)) (now (v .entry)) (now (g .exit)) ⌝ }
 {
     for i in 0..28usize {
@@ -162,7 +162,7 @@ fn low_quotients(t: &[f64], v: &[f64], g: &mut [f64])
 // The factors of any radii t.
 fn any_quotients(t: &[f64], v: &[f64], g: &mut [f64])
     requires { ⌜ (length (now t) ≡ 28) × (length (now v) ≡ 28) × (length (now g) ≡ 28)
-        × AllBegun 3 (now v) (now g) ⌝ }
+        × AllStepsLeft 3 (now v) (now g) ⌝ }
     ensures { λ _. ⌜ Quotients (now (t .entry)) (now (v .entry)) (now (g .exit)) ⌝ }
 {
     for i in 0..28usize {

@@ -1,18 +1,19 @@
-// The series of the arc tangents of 28 points, its eleven steps in three loops: four, four and three. Each step of a
-// point waits for the one before. In one loop a point is so long that the processor has too few points in hand to fill
-// these waits. The functions over arrays take runs of 28 floats, as each `requires` says.
+// The series of the arc tangents of 28 points, its eleven steps in three loops: four, four and three. That is faster
+// than one loop (docs/SPEED.md). Each step of a point waits for the one before; our explanation is that in one loop the
+// processor has too few points in hand to fill these waits. The functions over arrays take runs of 28 floats, as each
+// `requires` says.
 // Internal: a function with a `requires` is called by proved code alone.
 ghost use mathlib.Core.Path.{_≡_};
 ghost use Prim.Native.Nat.{_≤_};
 ghost use lib.ListN.{length};
 ghost use Rattle.base.specs.Floats.{_⊗_};
 ghost use Rattle.powers.specs.Arc.{arcCore};
-ghost use Rattle.lanes.specs.Stages.{Begun, AllBegun};
+ghost use Rattle.lanes.specs.Stages.{StepsLeft, AllStepsLeft};
 
 // The steps of the series at q from that of from - 1 down to that of `to`, as `powers::arc` has them.
 fn steps(q: f64, a: f64, from: u32, to: u32) -> f64
-    requires { ⌜ (to ≤ from) × (from ≤ 11) × Begun from q a ⌝ }
-    ensures { λ r. ⌜ Begun to q r ⌝ }
+    requires { ⌜ (to ≤ from) × (from ≤ 11) × StepsLeft from q a ⌝ }
+    ensures { λ r. ⌜ StepsLeft to q r ⌝ }
 {
     let mut a = a;
     let mut k = from;
@@ -26,7 +27,7 @@ fn steps(q: f64, a: f64, from: u32, to: u32) -> f64
 // The first four steps.
 fn first_steps(v: &[f64], g: &mut [f64])
     requires { ⌜ (length (now v) ≡ 28) × (length (now g) ≡ 28) ⌝ }
-    ensures { λ _. ⌜ AllBegun 7 (now (v .entry)) (now (g .exit)) ⌝ }
+    ensures { λ _. ⌜ AllStepsLeft 7 (now (v .entry)) (now (g .exit)) ⌝ }
 {
     for i in 0..28usize {
         let a = v[i];
@@ -36,8 +37,8 @@ fn first_steps(v: &[f64], g: &mut [f64])
 
 // Four more.
 fn next_steps(v: &[f64], g: &mut [f64])
-    requires { ⌜ (length (now v) ≡ 28) × (length (now g) ≡ 28) × AllBegun 7 (now v) (now g) ⌝ }
-    ensures { λ _. ⌜ AllBegun 3 (now (v .entry)) (now (g .exit)) ⌝ }
+    requires { ⌜ (length (now v) ≡ 28) × (length (now g) ≡ 28) × AllStepsLeft 7 (now v) (now g) ⌝ }
+    ensures { λ _. ⌜ AllStepsLeft 3 (now (v .entry)) (now (g .exit)) ⌝ }
 {
     for i in 0..28usize {
         let a = v[i];
@@ -48,7 +49,7 @@ fn next_steps(v: &[f64], g: &mut [f64])
 // The sums in g, but for their last three steps.
 pub fn begin(v: &[f64], g: &mut [f64])
     requires { ⌜ (length (now v) ≡ 28) × (length (now g) ≡ 28) ⌝ }
-    ensures { λ _. ⌜ AllBegun 3 (now (v .entry)) (now (g .exit)) ⌝ }
+    ensures { λ _. ⌜ AllStepsLeft 3 (now (v .entry)) (now (g .exit)) ⌝ }
 {
     first_steps(v, g);
     next_steps(v, g);
@@ -56,7 +57,7 @@ pub fn begin(v: &[f64], g: &mut [f64])
 
 // Four times the arc of v, by the last three steps.
 pub fn ended(v: f64, a: f64) -> f64
-    requires { ⌜ Begun 3 (v ⊗ v) a ⌝ }
+    requires { ⌜ StepsLeft 3 (v ⊗ v) a ⌝ }
     ensures { λ r. ⌜ r ≡ arcCore v ⌝ }
 {
     4.0 * (v * steps(v * v, a, 3, 0))

@@ -106,7 +106,7 @@ class FlatPivot(Refused):
     from 0."""
 
     number = 11
-    meaning = "flat pivot: the equations have no usable pivot in some column"
+    meaning = "flat pivot: the pivot chosen in some column is at most 1e-18"
 
     def __init__(self, column: int = 0) -> None:
         super().__init__(column)
@@ -117,7 +117,7 @@ class Exponent(Refused):
     """An exponent is farther than 1e-9 from 1, where only 1 can be integrated. A NaN passes."""
 
     number = 12
-    meaning = "exponent: some exponent is not 1"
+    meaning = "exponent: some exponent is farther than 1e-9 from 1"
 
 
 class BadLine(Refused):

@@ -5,7 +5,7 @@ use native.Mathlib.Nat.{le-refl}
 use lib.ListN.{getD}
 use lib.Ieee.{Float, nan}
 use Rattle.base.specs.FillLaws.{Filled, none-filled, fills}
-use Rattle.lanes.specs.Stages.{Begun, quotient}
+use Rattle.lanes.specs.Stages.{StepsLeft, quotient}
 use Rattle.lanes.proofs.Filling.{all-filled}
 use borrow.Author.Needs.{needs}
 use Rattle.lanes.proofs.arcs.low_quotients.Statement.{statement}
@@ -22,7 +22,7 @@ begun c κs =
     let l = c .before .before .before .before .loop in
     let p = c .before .before .before .before .before .before .before .before .pre in
     let b = p .4 .at (l .i) (search needs) in
-    (p .3 .at (l .i) (search needs), subst⁻¹ (Begun 3 _) (l .inv .kept (l .i) (le-refl (l .i))) b)
+    (p .3 .at (l .i) (search needs), subst⁻¹ (StepsLeft 3 _) (l .inv .kept (l .i) (le-refl (l .i))) b)
 
 pub low-quotients-spec : {M : Type 1} → statement M
 low-quotients-spec =

@@ -4,7 +4,7 @@ use lib.ListN.{getD}
 use lib.Ieee.{Float, nan}
 use Rattle.base.specs.FillLaws.{Filled, none-filled, fills}
 use Rattle.base.specs.Floats.{_⊗_}
-use Rattle.lanes.specs.Stages.{Begun}
+use Rattle.lanes.specs.Stages.{StepsLeft}
 use Rattle.lanes.proofs.Parts.{all-left}
 use Rattle.lanes.proofs.Filling.{all-filled}
 use borrow.Author.Needs.{needs}
@@ -12,7 +12,7 @@ use Rattle.lanes.proofs.sums.first_steps.Statement.{statement}
 use Rattle.lanes.proofs.sums.first_steps.Tie as tie
 
 abbrev Inv-loop : tie.InvT-loop
-Inv-loop v g₀ i₀ g i = Filled 28 (λ (j : ℕ) (a : Float). Begun 7 (getD v j nan ⊗ getD v j nan) a) g₀ i g
+Inv-loop v g₀ i₀ g i = Filled 28 (λ (j : ℕ) (a : Float). StepsLeft 7 (getD v j nan ⊗ getD v j nan) a) g₀ i g
 
 abbrev μ-loop : tie.MeasureT-loop
 μ-loop v g₀ i₀ g i = 28 - i
