@@ -14,7 +14,7 @@ use layout::runs::{copy_floats, copy_words};
 
 // The answer of an adoption: the pieces of the place that came across and the steps that it has left; or the other
 // store is one of another body.
-#[derive(Drop)]
+#[derive(Clone, Copy)]
 pub enum Adopted {
     Taken(u32, u64),
     Another,

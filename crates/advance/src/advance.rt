@@ -12,7 +12,7 @@ use layout::left::left;
 use layout::runs::{less, word};
 
 // The answer of an advance: the faces integrated, and the steps left.
-#[derive(Drop)]
+#[derive(Clone, Copy)]
 pub enum Advanced {
     Steps { done: u64, left: u64 },
     Refused(Refusal),

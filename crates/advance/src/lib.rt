@@ -1,3 +1,4 @@
 // The call that does a store's work in portions.
+#![tactic(auto)]
 pub mod advance;
 pub mod work;

@@ -19,7 +19,7 @@ use mesh::vectors::V3;
 use volume::faces::volume_from;
 
 // Where the work on a place stands, and the steps still to spend.
-#[derive(Drop)]
+#[derive(Clone, Copy)]
 pub struct Ran {
     pub finished: usize,
     pub done: usize,

@@ -28,7 +28,7 @@ fn load(points: &[f64], from: usize, m: usize, x: &mut [f64; 64])
 }
 
 // A kernel without its exponent, which is 1. The loops over points keep these five floats at hand.
-#[derive(Drop)]
+#[derive(Clone, Copy)]
 pub struct UnitKernel {
     pub x: f64,
     pub y: f64,

@@ -1,2 +1,3 @@
 // The densities of a list of kernels along a track of points.
+#![tactic(auto)]
 pub mod along;

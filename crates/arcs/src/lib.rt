@@ -3,6 +3,7 @@
 // a time; what a step could not do is flagged. Where no radius is above 1 the halvings start from the radii as they
 // are, and no arc is turned: that path saves a division and two choices a point.
 // Internal: a function with a `requires` is called by proved code alone.
+#![tactic(auto)]
 ghost use Rattle.std.specs.Prelude.{◌≡◌, ◌≤◌, length};
 ghost use Rattle.base.specs.Floats.{◌⊗◌};
 ghost use Rattle.powers.specs.Arc.{halved};

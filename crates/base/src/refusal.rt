@@ -3,7 +3,7 @@ ghost use Rattle.std.specs.Prelude.{◌≡◌};
 ghost use Rattle.base.specs.Refusals.{number};
 
 // A refusal; 01 has trade words for those up to 13, and 02 has none.
-#[derive(Drop)]
+#[derive(Clone, Copy)]
 pub enum Refusal {
     // 1: a coordinate or index count is not a multiple of 3
     Ragged,
@@ -52,21 +52,21 @@ pub enum Refusal {
 }
 
 // What a check of a call's arguments finds: nothing, or the one refusal that is answered.
-#[derive(Drop)]
+#[derive(Clone, Copy)]
 pub enum Checked {
     Passed,
     Failed(Refusal),
 }
 
 // What a call answers whose value is a float.
-#[derive(Drop)]
+#[derive(Clone, Copy)]
 pub enum Measured {
     Value(f64),
     Refused(Refusal),
 }
 
 // What a call answers that prints into lent bytes: how many bytes.
-#[derive(Drop)]
+#[derive(Clone, Copy)]
 pub enum Printed {
     Bytes(u64),
     Refused(Refusal),

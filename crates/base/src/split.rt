@@ -4,7 +4,7 @@ ghost use Rattle.std.specs.Prelude.{◌<◌};
 ghost use Rattle.base.specs.Split.{units_at, Scaled};
 
 // A significand of 53 digits and the exponent that goes with it: sig * 2^(ex - 52) units of 2^-1074.
-#[derive(Drop)]
+#[derive(Clone, Copy)]
 pub struct Parts {
     pub sig: u64,
     pub ex: u64,

@@ -1,4 +1,5 @@
 // The program `bench`: 01's lines on standard input, an answer a line on standard output.
+#![tactic(auto)]
 ghost use Rattle.std.specs.Prelude.{◌≡◌, true, ◌≤◌, length};
 ghost use Rattle.session.specs.Session.{Small, session, idle};
 ghost use Rattle.program.specs.Bytes.{held_with, held_after};
@@ -61,7 +62,7 @@ fn say(out: &[u8], n: usize) -> bool {
 }
 
 // What is held after some bytes, and whether each answer was written.
-#[derive(Drop)]
+#[derive(Clone, Copy)]
 struct Fed {
     state: State,
     said: bool,

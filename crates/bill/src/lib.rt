@@ -1,5 +1,6 @@
 // The bill before the work: how many steps puts of these kernels can charge at most, and how many floats a
 // list of them can need. Nothing is fitted. The exported function has no `requires`.
+#![tactic(auto)]
 ghost use Rattle.std.specs.Prelude.{◌≡◌, ◌*◌, ◌≤◌, length};
 ghost use Rattle.pieces.specs.Pieces.{most_pieces};
 ghost use Rattle.bill.specs.Bill.{assumed, bill_check, bill_of};
@@ -13,7 +14,7 @@ use pieces::pieces::size_of;
 
 // The answer of a bill: the most steps that puts of the kernels charge, and the most floats that a list of
 // them needs.
-#[derive(Drop)]
+#[derive(Clone, Copy)]
 pub enum Billed {
     Due { steps: u64, floats: u64 },
     Refused(Refusal),

@@ -1,3 +1,4 @@
 // A call on the program's store, and its answer as a line.
+#![tactic(auto)]
 pub mod answer;
 pub mod call;

@@ -14,7 +14,7 @@ use base::refusal::{Checked, Refusal};
 use kernel::kernel::write_kernel;
 
 // How a file was answered: so many kernels are written; or a refusal.
-#[derive(Drop)]
+#[derive(Clone, Copy)]
 pub enum Converted {
     Written(usize),
     Refused(Refusal),

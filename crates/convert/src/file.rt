@@ -7,7 +7,7 @@ use kernel::file::{Exponent, Kilometres, exponent_or, kernel_from_file, to_metre
 use kernel::kernel::Kernel;
 
 // What a line says: a kernel's centre and sigma in kilometres, its weight, and its exponent.
-#[derive(Drop)]
+#[derive(Clone, Copy)]
 pub struct FileKernel {
     pub x: f64,
     pub y: f64,
@@ -18,7 +18,7 @@ pub struct FileKernel {
 }
 
 // Whose kernels are asked for.
-#[derive(Drop)]
+#[derive(Clone, Copy)]
 pub enum Loader {
     Native,
     Source,

@@ -11,14 +11,14 @@ use kernel::file::Exponent;
 use text::read::{read_bytes, read_float};
 
 // An exponent that was read, and the position after it.
-#[derive(Drop)]
+#[derive(Clone, Copy)]
 pub struct ReadExponent {
     pub exponent: Exponent,
     pub at: usize,
 }
 
 // A line that was read, and the position after it.
-#[derive(Drop)]
+#[derive(Clone, Copy)]
 pub struct ReadKernel {
     pub file: FileKernel,
     pub at: usize,
@@ -26,7 +26,7 @@ pub struct ReadKernel {
 
 // What the lines of a file are: how many, whether both loaders make the same kernels of them, and whether
 // all bytes are lines.
-#[derive(Drop)]
+#[derive(Clone, Copy)]
 pub struct Scan {
     pub lines: usize,
     pub same: bool,

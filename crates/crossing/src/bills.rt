@@ -9,7 +9,7 @@ use bill::Billed;
 // The number, then the most steps that puts of the kernels charge, and the most floats that a list of them
 // needs.
 #[repr(C)]
-#[derive(Drop)]
+#[derive(Clone, Copy)]
 pub struct CauchyBill {
     pub no: u32,
     pub steps: u64,

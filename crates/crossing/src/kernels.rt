@@ -15,7 +15,7 @@ use solve::Solve;
 
 // A kernel as its file has it, lengths in kilometres. The exponent is missing where `given` is 0.
 #[repr(C)]
-#[derive(Drop)]
+#[derive(Clone, Copy)]
 pub struct CauchyFileKernel {
     pub c: [f64; 3],
     pub sigma: f64,
@@ -27,7 +27,7 @@ pub struct CauchyFileKernel {
 // What the solver answers: 01's number, 0 where it is not refused; with 11 the column of the flat pivot, from 0;
 // with 0 the smallest pivot that it accepted, in absolute value.
 #[repr(C)]
-#[derive(Drop)]
+#[derive(Clone, Copy)]
 pub struct CauchySolved {
     pub no: u32,
     pub column: u32,
@@ -37,7 +37,7 @@ pub struct CauchySolved {
 // How a fit ended: the kind is 0 for kept, 1 for fitted, with the pivot, 2 for the fallback, with the column, and
 // 3 for no exponent. What a kind does not use is 0.
 #[repr(C)]
-#[derive(Drop)]
+#[derive(Clone, Copy)]
 pub struct CauchyFit {
     pub kind: u32,
     pub column: u32,
@@ -47,7 +47,7 @@ pub struct CauchyFit {
 // What a decomposition answers: 01's number, 0 where it is not refused, the count of pieces, the fit's peak
 // error and how it ended.
 #[repr(C)]
-#[derive(Drop)]
+#[derive(Clone, Copy)]
 pub struct CauchyPieces {
     pub no: u32,
     pub pieces: u64,
@@ -58,7 +58,7 @@ pub struct CauchyPieces {
 // What the decomposition of a list answers: 01's number, the counts of kernels and pieces, and the
 // greatest of the fits' peak errors.
 #[repr(C)]
-#[derive(Drop)]
+#[derive(Clone, Copy)]
 pub struct CauchyListPieces {
     pub no: u32,
     pub kernels: u64,

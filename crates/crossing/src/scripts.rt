@@ -8,7 +8,7 @@ use reader::read::Loaded;
 
 // The number, then the vertices and faces of the mesh and the lines of puts that were taken.
 #[repr(C)]
-#[derive(Drop)]
+#[derive(Clone, Copy)]
 pub struct CauchyLoaded {
     pub no: u32,
     pub verts: u32,

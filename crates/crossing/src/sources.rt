@@ -9,7 +9,7 @@ use weights::normalize::Weighed;
 
 // 01's number and how many kernels are written.
 #[repr(C)]
-#[derive(Drop)]
+#[derive(Clone, Copy)]
 pub struct CauchyKernels {
     pub no: u32,
     pub kernels: u64,

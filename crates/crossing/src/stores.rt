@@ -32,7 +32,7 @@ use track::tracks::TrackRead;
 
 // 01's number, then the vertices and faces of the mesh.
 #[repr(C)]
-#[derive(Drop)]
+#[derive(Clone, Copy)]
 pub struct CauchyOpened {
     pub no: u32,
     pub verts: u32,
@@ -41,7 +41,7 @@ pub struct CauchyOpened {
 
 // 01's number, then the kernel's pieces, the steps that they need, and how their fit ended.
 #[repr(C)]
-#[derive(Drop)]
+#[derive(Clone, Copy)]
 pub struct CauchyPlaced {
     pub no: u32,
     pub pieces: u32,
@@ -51,7 +51,7 @@ pub struct CauchyPlaced {
 
 // 01's number, then the coordinates freed.
 #[repr(C)]
-#[derive(Drop)]
+#[derive(Clone, Copy)]
 pub struct CauchySqueezed {
     pub no: u32,
     pub freed: u32,
@@ -59,7 +59,7 @@ pub struct CauchySqueezed {
 
 // 01's number, then the steps done and left.
 #[repr(C)]
-#[derive(Drop)]
+#[derive(Clone, Copy)]
 pub struct CauchySteps {
     pub no: u32,
     pub done: u64,
@@ -69,7 +69,7 @@ pub struct CauchySteps {
 // 01's number, then 1 where the other store is of the same body and 0 where it is not, the pieces of the place that
 // came across and the steps that it has left.
 #[repr(C)]
-#[derive(Drop)]
+#[derive(Clone, Copy)]
 pub struct CauchyAdopted {
     pub no: u32,
     pub same_body: u32,
@@ -178,7 +178,7 @@ pub fn adopted_of(a: Adopted) -> CauchyAdopted
 // A convention by its kind: 0 raw; 1 rho0, with the bulk density; any other is mass, with the target and
 // the bulk density.
 #[repr(C)]
-#[derive(Drop)]
+#[derive(Clone, Copy)]
 pub struct CauchyConvention {
     pub kind: u32,
     pub target: f64,
@@ -187,7 +187,7 @@ pub struct CauchyConvention {
 
 // 01's number, then the report of masses, the filled places, the pieces and the greatest error of a fit.
 #[repr(C)]
-#[derive(Drop)]
+#[derive(Clone, Copy)]
 pub struct CauchyStoreReport {
     pub no: u32,
     pub report: MassReport,
@@ -198,7 +198,7 @@ pub struct CauchyStoreReport {
 
 // The number, then the report of the places that are complete, as above, and the filled places passed over.
 #[repr(C)]
-#[derive(Drop)]
+#[derive(Clone, Copy)]
 pub struct CauchyFinished {
     pub no: u32,
     pub report: MassReport,
@@ -210,7 +210,7 @@ pub struct CauchyFinished {
 
 // 01's number, then the pieces written.
 #[repr(C)]
-#[derive(Drop)]
+#[derive(Clone, Copy)]
 pub struct CauchyListed {
     pub no: u32,
     pub pieces: u32,
@@ -218,7 +218,7 @@ pub struct CauchyListed {
 
 // The number, then the points that were written.
 #[repr(C)]
-#[derive(Drop)]
+#[derive(Clone, Copy)]
 pub struct CauchyTrack {
     pub no: u32,
     pub points: u32,
@@ -226,7 +226,7 @@ pub struct CauchyTrack {
 
 // The number, then the bytes that were written.
 #[repr(C)]
-#[derive(Drop)]
+#[derive(Clone, Copy)]
 pub struct CauchyBytes {
     pub no: u32,
     pub bytes: u64,

@@ -13,7 +13,7 @@ use mesh::vectors::V3;
 
 // 01's number and a float.
 #[repr(C)]
-#[derive(Drop)]
+#[derive(Clone, Copy)]
 pub struct CauchyValue {
     pub no: u32,
     pub value: f64,
@@ -21,7 +21,7 @@ pub struct CauchyValue {
 
 // 01's number and a point.
 #[repr(C)]
-#[derive(Drop)]
+#[derive(Clone, Copy)]
 pub struct CauchyPoint {
     pub no: u32,
     pub at: V3,
@@ -29,7 +29,7 @@ pub struct CauchyPoint {
 
 // 01's number and a report of masses.
 #[repr(C)]
-#[derive(Drop)]
+#[derive(Clone, Copy)]
 pub struct CauchyReport {
     pub no: u32,
     pub report: MassReport,

@@ -5,7 +5,7 @@ ghost use Rattle.density.specs.Conventions.{above_zero_or, bulk_of, target_of, f
 use base::floats::abs;
 
 // Raw; rho0 with a bulk density; mass with a target, then a bulk density.
-#[derive(Drop)]
+#[derive(Clone, Copy)]
 pub enum Convention {
     Raw,
     Rho0(f64),

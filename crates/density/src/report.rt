@@ -6,7 +6,7 @@ use crate::convention::{Convention, applied_scale, bulk_of, rho0_scale, target_o
 
 // The masses before and after a convention's scale, and the mesh's volume.
 #[repr(C)]
-#[derive(Drop)]
+#[derive(Clone, Copy)]
 pub struct MassReport {
     pub raw_mass: f64,
     pub rho0_scale: f64,

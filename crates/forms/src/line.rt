@@ -2,7 +2,7 @@
 use density::convention::Convention;
 
 // A call on the program's store.
-#[derive(Drop)]
+#[derive(Clone, Copy)]
 pub enum Call {
     Put {
         place: u32,
@@ -21,7 +21,7 @@ pub enum Call {
 }
 
 // A line by its form: one of an opening, or a call on the store. A line of no form is Bad.
-#[derive(Drop)]
+#[derive(Clone, Copy)]
 pub enum Line {
     Bad,
     Open { radius: f64, verts: u32, faces: u32 },

@@ -9,7 +9,7 @@ ghost use Rattle.forms.specs.Forms.{open_form, vert_form, face_form, put_start};
 use text::read::{read_bytes, read_float, read_u32};
 
 // An opening that was read, and the position after it.
-#[derive(Drop)]
+#[derive(Clone, Copy)]
 pub struct ReadOpen {
     pub radius: f64,
     pub verts: u32,
@@ -18,7 +18,7 @@ pub struct ReadOpen {
 }
 
 // A face that was read, and the position after it.
-#[derive(Drop)]
+#[derive(Clone, Copy)]
 pub struct ReadFace {
     pub a: u32,
     pub b: u32,
@@ -27,7 +27,7 @@ pub struct ReadFace {
 }
 
 // A put that was read, and the position after its exponent.
-#[derive(Drop)]
+#[derive(Clone, Copy)]
 pub struct ReadPut {
     pub place: u32,
     pub x: f64,
@@ -40,7 +40,7 @@ pub struct ReadPut {
 }
 
 // Three floats that were read, and the position after them.
-#[derive(Drop)]
+#[derive(Clone, Copy)]
 pub struct ReadThree {
     pub x: f64,
     pub y: f64,

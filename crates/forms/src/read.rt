@@ -16,14 +16,14 @@ use density::convention::Convention;
 use text::read::{read_bytes, read_float, read_u32, read_u64};
 
 // A line that was read, and the position after it.
-#[derive(Drop)]
+#[derive(Clone, Copy)]
 pub struct ReadLine {
     pub line: Line,
     pub at: usize,
 }
 
 // A convention that was read, and the position after it.
-#[derive(Drop)]
+#[derive(Clone, Copy)]
 pub struct ReadConvention {
     pub rule: Convention,
     pub at: usize,

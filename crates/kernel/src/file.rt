@@ -6,15 +6,15 @@ ghost use Rattle.kernel.specs.File.{in_metres, exponent_or, from_file};
 use crate::kernel::Kernel;
 
 // A kernel's lengths as its file has them: the centre in kilometres, sigma per kilometre.
-#[derive(Drop)]
+#[derive(Clone, Copy)]
 pub struct Kilometres(pub [f64; 3], pub f64);
 
 // A kernel's lengths as the store has them: the centre in metres, sigma per metre.
-#[derive(Drop)]
+#[derive(Clone, Copy)]
 pub struct Metres(pub [f64; 3], pub f64);
 
 // A file's exponent.
-#[derive(Drop)]
+#[derive(Clone, Copy)]
 pub enum Exponent {
     Given(f64),
     Missing,

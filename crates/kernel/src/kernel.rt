@@ -8,7 +8,7 @@ use base::refusal::{Checked, Refusal};
 
 // Centre, inverse width, weight and exponent.
 #[repr(C)]
-#[derive(Drop)]
+#[derive(Clone, Copy)]
 pub struct Kernel {
     pub c: [f64; 3],
     pub sigma: f64,

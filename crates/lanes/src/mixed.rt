@@ -15,7 +15,7 @@ use crate::series::{not_small, series_from};
 use arcs::arc_factors;
 
 // How many radii are at least 0.1; if the flag is 0 each other takes the series.
-#[derive(Drop)]
+#[derive(Clone, Copy)]
 pub struct Parted {
     pub large: usize,
     pub flag: u64,

@@ -10,7 +10,7 @@ use root::lanes::{any_lane, near};
 
 // What was found of the radii: they hold if the flag is 0, all are at least 0.1 if low is 0, and none is
 // above 1 if high is 0.
-#[derive(Drop)]
+#[derive(Clone, Copy)]
 pub struct Found {
     pub flag: u64,
     pub low: u64,

@@ -1,1 +1,3 @@
 // The machine of the store, and the theorem over every list of calls; no code.
+
+#![tactic(auto)]

@@ -13,7 +13,7 @@ use mesh::vectors::V3;
 use volume::faces::{body_volume_of, volume_of};
 
 // A point, or the refusal.
-#[derive(Drop)]
+#[derive(Clone, Copy)]
 pub enum Located {
     At(V3),
     Refused(Refusal),

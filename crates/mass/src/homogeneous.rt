@@ -9,7 +9,7 @@ use mesh::check::check_mesh;
 use volume::faces::body_volume_of;
 
 // A report, or the refusal.
-#[derive(Drop)]
+#[derive(Clone, Copy)]
 pub enum Reported {
     Report(MassReport),
     Refused(Refusal),

@@ -8,7 +8,7 @@ use crate::triangles::Triangle;
 use crate::vectors::V3;
 
 // A row of the rule: a point's barycentric coordinates at the three corners, and its weight.
-#[derive(Drop)]
+#[derive(Clone, Copy)]
 pub struct Node {
     pub a: f64,
     pub b: f64,

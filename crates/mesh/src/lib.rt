@@ -1,4 +1,5 @@
 // Meshes as lent runs: vectors, triangles, and the check of a mesh that is given to a call.
+#![tactic(auto)]
 pub mod check;
 pub mod dunavant;
 pub mod triangles;

@@ -7,7 +7,7 @@ use crate::vectors::{V3, cross, sub};
 
 // The three corners of a face, in the face's order.
 #[repr(C)]
-#[derive(Drop)]
+#[derive(Clone, Copy)]
 pub struct Triangle {
     pub a: V3,
     pub b: V3,

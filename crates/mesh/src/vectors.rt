@@ -6,7 +6,7 @@ use root::root;
 
 // A point or a vector.
 #[repr(C)]
-#[derive(Drop)]
+#[derive(Clone, Copy)]
 pub struct V3 {
     pub x: f64,
     pub y: f64,

@@ -41,7 +41,7 @@ pub fn all_printable(floats: &[f64], words: &[u32], faces: usize) -> bool
 }
 
 // How far a page is written, and the sums of its masses above and below zero.
-#[derive(Drop)]
+#[derive(Clone, Copy)]
 pub struct Sums {
     pub at: usize,
     pub plus: u64,

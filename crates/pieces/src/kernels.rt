@@ -11,7 +11,7 @@ use kernel::kernel::{Kernel, write_kernel};
 
 // How a decomposition was answered: so many pieces are written, with the fit's peak error and how it ended; or
 // a refusal.
-#[derive(Drop)]
+#[derive(Clone, Copy)]
 pub enum Decomposed {
     Written(usize, f64, Fit),
     Refused(Refusal),

@@ -13,7 +13,7 @@ use kernel::kernel::{check_list, kernel_at};
 
 // How a list was answered: so many kernels have so many pieces, which are written, with the greatest of
 // the fits' peak errors; or a refusal.
-#[derive(Drop)]
+#[derive(Clone, Copy)]
 pub enum DecomposedList {
     Written {
         kernels: usize,

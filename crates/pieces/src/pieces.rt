@@ -13,7 +13,7 @@ use kernel::kernel::Kernel;
 use powers::power::log10;
 
 // The size of a fit: how many terms and samples.
-#[derive(Drop)]
+#[derive(Clone, Copy)]
 pub struct Size {
     pub terms: usize,
     pub samples: usize,
@@ -21,7 +21,7 @@ pub struct Size {
 
 // The pieces of a kernel: the first `count` of each array, the rest +0, and the fit's peak error.
 // A piece's centre is the kernel's, its weight the kernel's times the coefficient.
-#[derive(Drop)]
+#[derive(Clone, Copy)]
 pub struct Pieces {
     pub count: usize,
     pub sigma: [f64; 16],
@@ -30,7 +30,7 @@ pub struct Pieces {
 }
 
 // The pieces of a kernel, and how their fit ended.
-#[derive(Drop)]
+#[derive(Clone, Copy)]
 pub struct Decomposition {
     pub pieces: Pieces,
     pub fit: Fit,

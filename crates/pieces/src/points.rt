@@ -9,7 +9,7 @@ ghost use Rattle.pieces.specs.Samples.{value_at};
 use powers::power::{power, ten};
 
 // What is fitted: the exponent, how many samples, and the log10 of the farthest.
-#[derive(Drop)]
+#[derive(Clone, Copy)]
 pub struct Curve {
     pub alpha: f64,
     pub samples: usize,

@@ -8,7 +8,7 @@ ghost use Rattle.powers.specs.Log.{place_of, mantissa, log_sum, log_core, log_at
 use base::split::split;
 
 // A float above zero as m * 2^(place - 1074), m from 1 up to 2.
-#[derive(Drop)]
+#[derive(Clone, Copy)]
 struct Binary {
     m: f64,
     place: u64,

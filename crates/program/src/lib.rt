@@ -1,5 +1,6 @@
 // The program `bench` but for reading and writing: a byte of its input at a time. What it holds is lent.
 // Internal: an opening under way is asked to be within the program's counts.
+#![tactic(auto)]
 ghost use Rattle.std.specs.Prelude.{◌≡◌, ◌≤◌, length};
 ghost use Rattle.session.specs.Session.{Small, session, idle};
 ghost use Rattle.program.specs.Bytes.{Held, Feeds, line_in, end_line, line_with, count_with, feed_byte, feed_end};
@@ -10,7 +11,7 @@ use session::opening::{Opening, idle};
 use session::respond::respond;
 
 // An opening under way, the bytes of the line so far (257 where they are too many), and the length of what was written.
-#[derive(Drop)]
+#[derive(Clone, Copy)]
 pub struct State {
     pub opening: Opening,
     pub count: usize,

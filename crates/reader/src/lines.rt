@@ -11,7 +11,7 @@ use forms::parts::{ReadFace, ReadOpen, ReadThree, face, opening, put_start, vert
 use text::read::{Word32, read_bytes, read_u32, skip_float};
 
 // A put, and the position after it.
-#[derive(Drop)]
+#[derive(Clone, Copy)]
 pub struct Entry {
     pub place: u32,
     pub x: f64,

@@ -25,7 +25,7 @@ use mesh::check::{FACE_LIMIT, VERTEX_LIMIT};
 use store::put::put_sound;
 
 // The answer of the reader: vertices, faces, lines of puts.
-#[derive(Drop)]
+#[derive(Clone, Copy)]
 pub enum Loaded {
     Counts(u32, u32, u64),
     Refused(Refusal),
@@ -49,7 +49,7 @@ fn check_verts(s: &[u8], at: usize, n: usize) -> usize
 }
 
 // The position after n lines of faces, and whether all corners are below v.
-#[derive(Drop)]
+#[derive(Clone, Copy)]
 struct Faces {
     at: usize,
     below: bool,
@@ -79,7 +79,7 @@ fn check_faces(s: &[u8], at: usize, n: usize, v: u32) -> Faces
 }
 
 // Whether only lines of puts follow, how many, and whether each names a place and each a layer.
-#[derive(Drop)]
+#[derive(Clone, Copy)]
 struct Puts {
     ended: bool,
     count: usize,

@@ -14,7 +14,7 @@ use readings::seen::{complete_places, seen_places};
 use readings::shared::check_seen;
 
 // The answer: a report of the places that are complete, and how many filled places it passed over.
-#[derive(Drop)]
+#[derive(Clone, Copy)]
 pub enum FinishedRead {
     Report {
         mass: MassReport,

@@ -16,7 +16,7 @@ use readings::seen::seen_places;
 use readings::shared::{by_mass, check_read, scale_of};
 
 // The answer of a list: how many pieces were written.
-#[derive(Drop)]
+#[derive(Clone, Copy)]
 pub enum ListRead {
     Pieces(u32),
     Refused(Refusal),

@@ -23,7 +23,7 @@ use readings::sums::{origin_density, raw_mass};
 use volume::faces::volume_from;
 
 // The answer of a report: the masses, the filled places, the pieces, and the greatest error.
-#[derive(Drop)]
+#[derive(Clone, Copy)]
 pub enum ReportRead {
     Report {
         mass: MassReport,
@@ -35,7 +35,7 @@ pub enum ReportRead {
 }
 
 // What a report tells of the places that it covers.
-#[derive(Drop)]
+#[derive(Clone, Copy)]
 pub struct Totals {
     pub mass: MassReport,
     pub filled: u32,

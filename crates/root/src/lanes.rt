@@ -15,7 +15,7 @@ ghost use Rattle.root.specs.Root.{square_root, Rounded};
 
 // A root, which holds where coarse is below 2^36 and far below 2^62, for `unit_lane` below 2^54. The words
 // of several lanes are or-ed and looked at once: a test of each lane's own would cost more.
-#[derive(Drop)]
+#[derive(Clone, Copy)]
 pub struct Lane {
     pub root: f64,
     pub coarse: u64,
@@ -23,7 +23,7 @@ pub struct Lane {
 }
 
 // Where a root is sought from: a significand f from 1 up to 4, and a float near 1 / √f.
-#[derive(Drop)]
+#[derive(Clone, Copy)]
 pub struct Guess {
     pub part: f64,
     pub near: f64,
@@ -31,7 +31,7 @@ pub struct Guess {
 
 // The digits of a root, of the two that are next to g, and what they rest on: `rest` is d * 2^52 without
 // g * g and `short` is g without that, both modulo 2^64, and coarse is below 2^36 where nothing was lost.
-#[derive(Drop)]
+#[derive(Clone, Copy)]
 struct Checked {
     digits: u64,
     coarse: u64,

@@ -1,5 +1,6 @@
 // The IEEE 754 square root of an f64. Its digits are found by a guess in floats, which nothing is
 // proved about, and a proved check in whole numbers; where the check fails, digit by digit.
+#![tactic(auto)]
 ghost use Rattle.std.specs.Prelude.{◌≡◌, ◌+◌, ◌*◌, ◌^◌, ◌<◌, ◌≤◌, ◌⊎◌};
 ghost use Rattle.std.specs.Float.{binary64};
 ghost use Rattle.base.specs.Split.{Scaled, units_at};
@@ -11,7 +12,7 @@ use lanes::part;
 pub mod lanes;
 
 // A whole root and what is left.
-#[derive(Drop)]
+#[derive(Clone, Copy)]
 struct Whole {
     root: u64,
     rest: u64,
@@ -145,7 +146,7 @@ fn nearest(sig: u64, odd: u64, bits: u64) -> u64
 }
 
 // A significand, its exponent, and the pattern that the guess starts from.
-#[derive(Drop)]
+#[derive(Clone, Copy)]
 struct Apart {
     sig: u64,
     ex: u64,

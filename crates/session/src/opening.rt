@@ -4,7 +4,7 @@ ghost use Rattle.session.specs.Session.{verts_due, due, idle, begun};
 
 // Its radius and counts, and how many of its vert and face lines were read. Where none of them is due, there is no
 // opening under way.
-#[derive(Drop)]
+#[derive(Clone, Copy)]
 pub struct Opening {
     pub radius: f64,
     pub verts: u32,

@@ -14,7 +14,7 @@ use calls::call::call;
 use forms::line::{Call, Line};
 
 // The opening under way after a line, and the length of what was written.
-#[derive(Drop)]
+#[derive(Clone, Copy)]
 pub struct Said {
     pub opening: Opening,
     pub wrote: usize,

@@ -8,14 +8,14 @@ use base::floats::abs;
 
 // How an elimination ended: with a reduced matrix and its smallest accepted pivot, in absolute value; or at
 // the column of a flat pivot, from 0.
-#[derive(Drop)]
+#[derive(Clone, Copy)]
 pub enum Elimination {
     Reduced(f64),
     Flat(u32),
 }
 
 // A pivot candidate: its row, and its absolute value.
-#[derive(Drop)]
+#[derive(Clone, Copy)]
 pub struct Pivot {
     pub row: usize,
     pub value: f64,

@@ -1,5 +1,6 @@
 // The linear solver of 01, "Solve": Gauss-Jordan elimination of at most 16 rows, with a choice of
 // pivot. The exported `solve_linear_system` has no `requires`.
+#![tactic(auto)]
 pub mod eliminate;
 pub mod matrix;
 pub mod runs;
@@ -14,7 +15,7 @@ use base::refusal::Refusal;
 
 // How a system was answered: its solution is written, with the smallest accepted pivot in absolute value; or
 // a pivot is flat, which is refusal 11, in the column told, from 0; or another refusal.
-#[derive(Drop)]
+#[derive(Clone, Copy)]
 pub enum Solve {
     Solved(f64),
     Flat(u32),

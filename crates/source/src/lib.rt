@@ -1,3 +1,4 @@
 // Source density.rs, with its own order of operations: density and volumes.
+#![tactic(auto)]
 pub mod density;
 pub mod volume;

@@ -11,7 +11,7 @@ use layout::check::check_store;
 use layout::offsets::{COORDS, CORNERS};
 
 // The answer of a squeeze: how many coordinates were freed.
-#[derive(Drop)]
+#[derive(Clone, Copy)]
 pub enum Squeezed {
     Freed(u32),
     Refused(Refusal),

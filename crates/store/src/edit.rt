@@ -11,7 +11,7 @@ use layout::offsets::{KERNEL, KERNEL_SIZE, PIECE, PIECES_SIZE, STATE, WEIGHT, WI
 use layout::runs::{zero_floats, zero_words};
 
 // The answer of an edit.
-#[derive(Drop)]
+#[derive(Clone, Copy)]
 pub enum Edited {
     Done,
     Refused(Refusal),

@@ -12,7 +12,7 @@ use layout::runs::{copy_floats, copy_words, zero_floats, zero_words};
 use mesh::check::check_mesh;
 
 // The answer of an opening: vertices and faces.
-#[derive(Drop)]
+#[derive(Clone, Copy)]
 pub enum Opened {
     Mesh(u32, u32),
     Refused(Refusal),

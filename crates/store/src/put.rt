@@ -17,7 +17,7 @@ use pieces::fit::Fit;
 use pieces::pieces::{Pieces, decompose};
 
 // The answer of a put: the kernel's pieces, the steps that they need, and how their fit ended.
-#[derive(Drop)]
+#[derive(Clone, Copy)]
 pub enum Placed {
     Needs(u32, u32, Fit),
     Refused(Refusal),

@@ -1,4 +1,5 @@
 // The stored arguments of the program test_volumes, from the tables that oracle/ writes.
+#![tactic(auto)]
 pub mod lists;
 pub mod meshes;
 mod tables;

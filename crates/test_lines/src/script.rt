@@ -25,7 +25,7 @@ fn longer(n: u64, b: u8) -> u64 {
 
 // A call as its line has it: the first and the third letter of its name; its words by their places, n1 the number that
 // word 1 is and x2 the float that word 2 is; the layer of a put and the set of layers of a reading.
-#[derive(Drop)]
+#[derive(Clone, Copy)]
 pub struct Line {
     pub first: u8,
     pub third: u8,

@@ -4,6 +4,7 @@
 // writes is held to the file stdout beside src/, which the proved code did not make: it is what the
 // original's own text answers with the second transcription of 01's powers, as `cargo run --release --bin
 // stored pieces` in oracle/ writes it; `.. pieces --table` writes the tables.
+#![tactic(auto)]
 mod files;
 mod fits;
 mod lines;

@@ -1,6 +1,7 @@
 // Dunavant's rule as the code has it: its figures beside the 15 decimals printed in 1985, and the
 // moments of degree 0 to 5 beside the exact ones.
 // Internal: a function with a `requires` is called by proved code alone.
+#![tactic(auto)]
 ghost use Rattle.std.specs.Prelude.{◌≤◌};
 
 use base::floats::abs;

@@ -4,6 +4,7 @@
 // is held to the file stdout beside src/, which the proved code did not make: it is what the original's
 // own text answers with the second transcription of 01's powers, as `cargo run --release --bin stored
 // volumes` in oracle/ writes it; `.. volumes --table` writes the tables.
+#![tactic(auto)]
 mod lines;
 mod lists;
 mod meshes;

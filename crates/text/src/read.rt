@@ -5,21 +5,21 @@ ghost use Rattle.text.specs.Text.{rest, got, literal, digit, pattern, float, dec
 ghost use Rattle.text.specs.TextLaws.{hexes};
 
 // A number of 32 bits that was read, and the position after it.
-#[derive(Drop)]
+#[derive(Clone, Copy)]
 pub struct Word32 {
     pub val: u32,
     pub at: usize,
 }
 
 // A number of 64 bits that was read, and the position after it.
-#[derive(Drop)]
+#[derive(Clone, Copy)]
 pub struct Word64 {
     pub val: u64,
     pub at: usize,
 }
 
 // A float that was read, and the position after it.
-#[derive(Drop)]
+#[derive(Clone, Copy)]
 pub struct Real {
     pub val: f64,
     pub at: usize,

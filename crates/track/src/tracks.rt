@@ -19,7 +19,7 @@ use readings::shared::{by_mass, check_read, scale_of};
 use readings::sums::density_sum;
 
 // The answer of a track: how many points were written.
-#[derive(Drop)]
+#[derive(Clone, Copy)]
 pub enum TrackRead {
     Points(u32),
     Refused(Refusal),

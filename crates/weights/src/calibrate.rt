@@ -13,7 +13,7 @@ use mesh::vectors::{V3, norm};
 use source::volume::signed_volume;
 
 // The mean density that a mesh is to have, where one is given.
-#[derive(Drop)]
+#[derive(Clone, Copy)]
 pub enum Mean {
     Given(f64),
     Missing,

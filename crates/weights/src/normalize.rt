@@ -12,14 +12,14 @@ use kernel::kernel::{Kernel, kernel_at, write_kernel};
 use source::volume::volume_of;
 
 // How a list of kernels was answered: the kernels are written, or a refusal.
-#[derive(Drop)]
+#[derive(Clone, Copy)]
 pub enum Weighed {
     Written,
     Refused(Refusal),
 }
 
 // Whether kernels are taken as they are given, or stretched with their mesh.
-#[derive(Drop)]
+#[derive(Clone, Copy)]
 pub enum Stretch {
     Not,
     By(f64),

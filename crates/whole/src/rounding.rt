@@ -8,7 +8,7 @@ use base::floats::{abs, is_negative};
 use base::split::split;
 
 // A whole number by its sign and magnitude.
-#[derive(Drop)]
+#[derive(Clone, Copy)]
 pub struct Whole {
     pub minus: bool,
     pub size: u64,

@@ -1,4 +1,5 @@
 // The writer: opening, vertices, faces, puts by rising place. Too few bytes are refused before the first is written.
+#![tactic(auto)]
 ghost use Rattle.std.specs.Prelude.{◌≡◌, ℕ, ◌+◌, ◌*◌, ◌<◌, ◌≤◌, length};
 ghost use Rattle.base.specs.Answers.{printed_as, printout};
 ghost use Rattle.layout.specs.Runs.{write};
@@ -52,7 +53,7 @@ fn write_face(out: &mut [u8], at: usize, a: u32, b: u32, c: u32) -> usize
 }
 
 // A kernel as the store keeps it.
-#[derive(Drop)]
+#[derive(Clone, Copy)]
 struct Kept {
     x: f64,
     y: f64,
