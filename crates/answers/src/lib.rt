@@ -2,6 +2,7 @@
 // after it, and leaves all other words as they were. These functions are internal (each has a `requires`): a line wants
 // room for 256 bytes from its position, and takes 255 at most.
 #![tactic(auto)]
+
 ghost use Rattle.std.specs.Prelude.{◌++◌, ◌+◌, ◌≤◌, length};
 ghost use Rattle.text.specs.Print.{Wrote, decimal_text};
 ghost use Rattle.text.specs.Form.{end, print, three, ◌&◌};

@@ -4,6 +4,7 @@
 // are, and no arc is turned: that path saves a division and two choices a point.
 // Internal: a function with a `requires` is called by proved code alone.
 #![tactic(auto)]
+
 ghost use Rattle.std.specs.Prelude.{◌≡◌, ◌≤◌, length};
 ghost use Rattle.base.specs.Floats.{◌⊗◌};
 ghost use Rattle.powers.specs.Arc.{halved};

@@ -1,5 +1,6 @@
 // The program `bench`: 01's lines on standard input, an answer a line on standard output.
 #![tactic(auto)]
+
 ghost use Rattle.std.specs.Prelude.{◌≡◌, true, ◌≤◌, length};
 ghost use Rattle.session.specs.Session.{Small, session, idle};
 ghost use Rattle.program.specs.Bytes.{held_with, held_after};

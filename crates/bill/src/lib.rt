@@ -1,6 +1,7 @@
 // The bill before the work: how many steps puts of these kernels can charge at most, and how many floats a
 // list of them can need. Nothing is fitted. The exported function has no `requires`.
 #![tactic(auto)]
+
 ghost use Rattle.std.specs.Prelude.{◌≡◌, ◌*◌, ◌≤◌, length};
 ghost use Rattle.pieces.specs.Pieces.{most_pieces};
 ghost use Rattle.bill.specs.Bill.{assumed, bill_check, bill_of};

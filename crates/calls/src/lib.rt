@@ -1,4 +1,5 @@
 // A call on the program's store, and its answer as a line.
 #![tactic(auto)]
+
 pub mod answer;
 pub mod call;

@@ -1,5 +1,6 @@
 // The C interface: every function that libcauchy.a exports. None has a `requires`.
 #![tactic(auto)]
+
 pub mod bills;
 pub mod files;
 pub mod kernels;

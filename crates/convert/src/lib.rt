@@ -2,6 +2,7 @@
 // the native loader makes them, as the source's does, or strictly, where both agree. The exported call,
 // `convert`, has no `requires`.
 #![tactic(auto)]
+
 pub mod convert;
 pub mod file;
 pub mod lines;

@@ -3,6 +3,7 @@
 // points are done one by one. Internal: the steps take runs of 28 floats, and what `factors` leaves in its
 // scratch arrays is not said.
 #![tactic(auto)]
+
 ghost use Rattle.std.specs.Prelude.{◌≡◌, length};
 ghost use Rattle.radial.specs.Radial.{radial_g};
 ghost use Rattle.arcs.specs.Stages.{AllLarge, AllLow};

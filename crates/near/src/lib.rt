@@ -1,4 +1,5 @@
 // Of the faces of a mesh, those that have a corner near a range.
 #![tactic(auto)]
+
 pub mod list;
 pub mod spans;

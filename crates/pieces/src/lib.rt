@@ -1,6 +1,7 @@
 // The pieces of a kernel: itself where its exponent is near 1, else a fit by kernels of exponent 1.
 // What users call, `decompose`, `decompose_into` and `decompose_list`, has no `requires`.
 #![tactic(auto)]
+
 pub mod error;
 pub mod fit;
 pub mod kernels;

@@ -1,6 +1,7 @@
 // The program `bench` but for reading and writing: a byte of its input at a time. What it holds is lent.
 // Internal: an opening under way is asked to be within the program's counts.
 #![tactic(auto)]
+
 ghost use Rattle.std.specs.Prelude.{◌≡◌, ◌≤◌, length};
 ghost use Rattle.session.specs.Session.{Small, session, idle};
 ghost use Rattle.program.specs.Bytes.{Held, Feeds, line_in, end_line, line_with, count_with, feed_byte, feed_end};

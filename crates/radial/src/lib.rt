@@ -1,5 +1,6 @@
 // The radial factor of the field whose divergence is the kernel. No function here has a `requires`.
 #![tactic(auto)]
+
 ghost use Rattle.std.specs.Prelude.{◌≡◌};
 ghost use Rattle.radial.specs.Radial.{radial_gSeries, radial_g};
 

@@ -2,6 +2,7 @@
 // their pieces, the sums and counts over them, and the scale of a convention. The call at a point has no `requires`,
 // and nothing here changes the store.
 #![tactic(auto)]
+
 pub mod at_point;
 pub mod counts;
 pub mod held;

@@ -1,6 +1,7 @@
 // The IEEE 754 square root of an f64. Its digits are found by a guess in floats, which nothing is
 // proved about, and a proved check in whole numbers; where the check fails, digit by digit.
 #![tactic(auto)]
+
 ghost use Rattle.std.specs.Prelude.{◌≡◌, ◌+◌, ◌*◌, ◌^◌, ◌<◌, ◌≤◌, ◌⊎◌};
 ghost use Rattle.std.specs.Float.{binary64};
 ghost use Rattle.base.specs.Split.{Scaled, units_at};

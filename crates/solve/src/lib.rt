@@ -1,6 +1,7 @@
 // The linear solver of 01, "Solve": Gauss-Jordan elimination of at most 16 rows, with a choice of
 // pivot. The exported `solve_linear_system` has no `requires`.
 #![tactic(auto)]
+
 pub mod eliminate;
 pub mod matrix;
 pub mod runs;

@@ -5,6 +5,7 @@
 // original's own text answers with the second transcription of 01's powers, as `cargo run --release --bin
 // stored pieces` in oracle/ writes it; `.. pieces --table` writes the tables.
 #![tactic(auto)]
+
 mod files;
 mod fits;
 mod lines;

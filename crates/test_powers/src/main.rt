@@ -3,6 +3,7 @@
 // stdout beside src/, which the proved code did not make: oracle/ works 01's steps a second time,
 // and `cargo run --release --bin vectors` there writes that file, with `-- --tables` the tables.
 #![tactic(auto)]
+
 use base::floats::{from_pattern, to_pattern};
 use libc::STDOUT_FILENO;
 use powers::arc::arc;

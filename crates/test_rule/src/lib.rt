@@ -2,6 +2,7 @@
 // moments of degree 0 to 5 beside the exact ones.
 // Internal: a function with a `requires` is called by proved code alone.
 #![tactic(auto)]
+
 ghost use Rattle.std.specs.Prelude.{◌≤◌};
 
 use base::floats::abs;

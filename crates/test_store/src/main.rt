@@ -6,6 +6,7 @@
 // --release --bin stored history` in oracle/ writes it. Every number that these calls can give is there but 2, whose
 // mesh of 25 MB no program's stack holds; the comparison of the store in oracle/ has it.
 #![tactic(auto)]
+
 mod body;
 mod edits;
 mod reads;

@@ -5,6 +5,7 @@
 // own text answers with the second transcription of 01's powers, as `cargo run --release --bin stored
 // volumes` in oracle/ writes it; `.. volumes --table` writes the tables.
 #![tactic(auto)]
+
 mod lines;
 mod lists;
 mod meshes;

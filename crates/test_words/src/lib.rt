@@ -1,5 +1,6 @@
 // The words of a line that the test programs write.
 #![tactic(auto)]
+
 use base::floats::to_pattern;
 use base::refusal::{Refusal, refusal_number};
 use libc::STDOUT_FILENO;

@@ -1,5 +1,6 @@
 // The writer: opening, vertices, faces, puts by rising place. Too few bytes are refused before the first is written.
 #![tactic(auto)]
+
 ghost use Rattle.std.specs.Prelude.{◌≡◌, ℕ, ◌+◌, ◌*◌, ◌<◌, ◌≤◌, length};
 ghost use Rattle.base.specs.Answers.{printed_as, printout};
 ghost use Rattle.layout.specs.Runs.{write};

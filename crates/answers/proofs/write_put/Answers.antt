@@ -1,0 +1,17 @@
+-- The tokens, written one after the other. Assumes nothing.
+use mathlib.Core.Path.{◌≡◌}
+use Prim.Native.Nat.{◌+◌, ◌≤◌}
+use native.Mathlib.Omega.{arith}
+use Rattle.text.specs.WriteLaws.{then}
+use Rattle.answers.proofs.write_put.Goals as goal
+
+pub returns : goal.returns
+returns c =
+    let l0 : c.write_number-a.result ≤ c.args.at + 5 + 20 = c.write_number-a.ensures.upper_bound in
+    let l1 : c.write_number-b.result ≤ c.write_number-a.result + 9 + 20 = c.write_number-b.ensures.upper_bound in
+    let l2 : c.write_number-c.result ≤ c.write_number-b.result + 9 + 20 = c.write_number-c.ensures.upper_bound in
+    let l3 : c.write_bytes.result ≡ c.write_number-c.result + 2 = c.write_bytes.ensures.next in record {
+      upper_bound = omega (arith, l0, l1, l2, l3);
+      wrote = then c.write_number-a.ensures.wrote
+          (then c.write_number-b.ensures.wrote (then c.write_number-c.ensures.wrote c.write_bytes.ensures));
+    }

@@ -1,0 +1,21 @@
+-- The answer's line, or the refusal's. Assumes nothing.
+use Rattle.text.specs.WriteLaws.{then}
+use Rattle.calls.specs.Texts.{clear_text}
+use Rattle.calls.proofs.Answers.{answering, clear-done, clear-refused}
+use Rattle.calls.proofs.answer.answer_clear.Goals as goal
+
+pub returns-in-Done : goal.returns-in-Done
+returns-in-Done c =
+    let place = c.args.place in (
+      c.newline.ensures.upper_bound,
+      answering (clear_text place) (clear-done place c.in-Done.is) c.clear.ensures
+          (then c.write_clear-at.ensures.wrote c.newline.ensures.wrote),
+    )
+
+pub returns-in-Refused : goal.returns-in-Refused
+returns-in-Refused c =
+    let place = c.args.place in (
+      c.answer_no.ensures.upper_bound,
+      answering (clear_text place) (clear-refused place c.in-Refused.is) c.clear.ensures
+          c.answer_no.ensures.wrote,
+    )

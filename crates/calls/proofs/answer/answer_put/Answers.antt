@@ -1,0 +1,20 @@
+-- The answer's line, or the refusal's. Assumes nothing.
+use Rattle.text.specs.WriteLaws.{then}
+use Rattle.calls.specs.Texts.{put_text}
+use Rattle.calls.proofs.Answers.{answering, put_done, put_refused}
+use Rattle.calls.proofs.answer.answer_put.Goals as goal
+
+pub returns-in-Needs : goal.returns-in-Needs
+returns-in-Needs c =
+    let place = c.args.place in (
+      c.newline.ensures.upper_bound,
+      answering (put_text place) (put_done place c.in-Needs.is) c.put.ensures
+          (then c.write_put-at.ensures.wrote c.newline.ensures.wrote),
+    )
+
+pub returns-in-Refused : goal.returns-in-Refused
+returns-in-Refused c =
+    let place = c.args.place in (
+      c.answer_no.ensures.upper_bound,
+      answering (put_text place) (put_refused place c.in-Refused.is) c.put.ensures c.answer_no.ensures.wrote,
+    )

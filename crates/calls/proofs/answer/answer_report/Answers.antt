@@ -1,0 +1,18 @@
+-- The answer's line, or the refusal's. Assumes nothing.
+use Rattle.text.specs.WriteLaws.{then}
+use Rattle.calls.specs.Texts.{report_text}
+use Rattle.calls.proofs.Answers.{reading, report_done, report_refused}
+use Rattle.calls.proofs.answer.answer_report.Goals as goal
+
+pub returns-in-Report : goal.returns-in-Report
+returns-in-Report c = (
+  c.newline.ensures.upper_bound,
+  reading report_text (report_done c.in-Report.is) c.report.ensures
+      (then c.write_report-at.ensures.wrote c.newline.ensures.wrote),
+)
+
+pub returns-in-Refused : goal.returns-in-Refused
+returns-in-Refused c = (
+  c.answer_no.ensures.upper_bound,
+  reading report_text (report_refused c.in-Refused.is) c.report.ensures c.answer_no.ensures.wrote,
+)

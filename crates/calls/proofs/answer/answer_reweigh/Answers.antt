@@ -1,0 +1,21 @@
+-- The answer's line, or the refusal's. Assumes nothing.
+use Rattle.text.specs.WriteLaws.{then}
+use Rattle.calls.specs.Texts.{reweigh_text}
+use Rattle.calls.proofs.Answers.{answering, reweigh_done, reweigh_refused}
+use Rattle.calls.proofs.answer.answer_reweigh.Goals as goal
+
+pub returns-in-Done : goal.returns-in-Done
+returns-in-Done c =
+    let place = c.args.place in (
+      c.newline.ensures.upper_bound,
+      answering (reweigh_text place) (reweigh_done place c.in-Done.is) c.reweigh.ensures
+          (then c.write_reweigh-at.ensures.wrote c.newline.ensures.wrote),
+    )
+
+pub returns-in-Refused : goal.returns-in-Refused
+returns-in-Refused c =
+    let place = c.args.place in (
+      c.answer_no.ensures.upper_bound,
+      answering (reweigh_text place) (reweigh_refused place c.in-Refused.is) c.reweigh.ensures
+          c.answer_no.ensures.wrote,
+    )

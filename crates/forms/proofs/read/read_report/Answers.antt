@@ -1,0 +1,15 @@
+-- The tokens of the form, one after the other. Assumes nothing.
+use mathlib.Core.Path.{◌∙◌}
+use Rattle.text.specs.Text.{bytes, literal}
+use Rattle.text.specs.Form.{end, map, read}
+use Rattle.forms.specs.Forms.{convention, to_convention}
+use Rattle.forms.specs.declared.line.Call.TheVariants.{Report}
+use Rattle.forms.specs.declared.line.Line.TheVariants.{OnStore}
+use Rattle.forms.proofs.read.read_report.Goals as goal
+
+pub returns : goal.returns
+returns c =
+    let k· = c.read_bytes.ensures in
+    let k = c.read_convention-c.ensures ∙ (λ i. map to_convention (read (convention end) (k· i))) in
+    let e = c.read_bytes-2.ensures ∙ (λ i. literal (bytes ")") (k i).text) in
+    (λ i. record { val = OnStore (Report (k i).val); text = e i })

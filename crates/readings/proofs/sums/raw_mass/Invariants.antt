@@ -1,0 +1,13 @@
+use mathlib.Core.Path.{◌≡◌}
+use Prim.Native.Nat.{◌-◌, ◌≤◌}
+use Rattle.base.specs.Floats.{+0}
+use Rattle.layout.specs.Layout.{width}
+use Rattle.readings.specs.Readings.{held_all_lem}
+use Rattle.readings.specs.Folds.{fold, mass_step}
+use Rattle.readings.proofs.sums.raw_mass.Given as goal
+
+abbrev pub invariant-loop-i : goal.invariant-loop-i
+invariant-loop-i l = (l.i ≤ 32) × (l.total ≡ fold (mass_step) (held_all_lem width l.floats l.words l.i) +0)
+
+abbrev pub decreases-loop-i : goal.decreases-loop-i
+decreases-loop-i l = 32 - l.i

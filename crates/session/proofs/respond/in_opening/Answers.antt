@@ -1,0 +1,30 @@
+-- A vert or a face line; any other gives up the opening. Assumes nothing.
+use mathlib.Core.Path.{◌∙◌}
+use Rattle.session.specs.Session.{session}
+use Rattle.session.proofs.Lines.{saying, small_as, small-idle}
+use Rattle.session.proofs.Taken.{no_mesh_lem}
+use borrow.Author.Rules.{rules}
+use Rattle.session.proofs.respond.in_opening.Goals as goal
+
+pub face_line-requires : goal.face_line-requires
+face_line-requires c =
+    let p = c.requires in record { fact_1 = p.fact_1; fact_2 = p.fact_2; fact_3 = search rules }
+
+pub returns-in-Vert : goal.returns-in-Vert
+returns-in-Vert c =
+    rw c.in-Vert.is c.vert_line.ensures
+
+pub returns-in-Face : goal.returns-in-Face
+returns-in-Face c =
+    rw c.in-Face.is c.face_line.ensures
+
+pub returns-in_default : goal.returns-in_default
+returns-in_default c =
+    let a = c.args in
+    let s = session a.o a.floats.now a.words.now a.coords.now a.corners.now in
+    let e = c.refuse.ensures in
+    let u = e.opening_value.0 ∙ c.idle.ensures in (
+      (small_as u small-idle, e.opening_value.1),
+      saying (no_mesh_lem s a.l c.in_default.keys3)
+          (λ i. session (u i) a.floats.now a.words.now a.coords.now a.corners.now) e.wrote,
+    )

@@ -1,0 +1,32 @@
+-- The opening is begun where its counts are the program's. Assumes nothing.
+use lib.Dec.{leb}
+use borrow.Author.Tests.{leb-true}
+use Rattle.layout.specs.SoundLaws.{both}
+use Rattle.session.specs.Session.{vert_bound, face_bound, session}
+use Rattle.session.proofs.Lines.{saying, small_as}
+use Rattle.session.proofs.Taken.{opening_begun, opening_over}
+use Rattle.session.proofs.respond.open_line.Goals as goal
+
+pub settle-requires : goal.settle-requires
+settle-requires c =
+    let a = c.args in
+    let b = both (leb a.verts vert_bound) (leb a.faces face_bound) c.if-taken.true in record { small = small_as c.begun-p.ensures (leb-true a.verts vert_bound b.0, leb-true a.faces face_bound b.1); in_bounds = c.requires.in_bounds }
+
+pub returns-then-taken : goal.returns-then-taken
+returns-then-taken c =
+    let a = c.args in
+    let s = session a.o a.floats.now a.words.now a.coords.now a.corners.now in
+    let e = c.settle.ensures in
+    let h = c.if-taken.true in
+    (e.small_2, saying (opening_begun s a.radius a.verts a.faces h c.begun-p.ensures) e.does.0 e.does.1)
+
+pub returns : goal.returns
+returns c =
+    let a = c.args in
+    let s = session a.o a.floats.now a.words.now a.coords.now a.corners.now in
+    let e = c.refuse.ensures in
+    let u = c.refuse.ensures.opening_value.0 in record {
+      small_2 = (small_as u c.requires.small, e.opening_value.1);
+      does = saying (opening_over s a.radius a.verts a.faces c.if-taken.false)
+          (λ i. session (u i) a.floats.now a.words.now a.coords.now a.corners.now) e.wrote;
+    }

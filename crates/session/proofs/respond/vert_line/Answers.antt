@@ -1,0 +1,36 @@
+-- A vertex is kept where one is due; else the opening is given up. Assumes nothing.
+use mathlib.Core.Path.{sym, ◌∙◌}
+use Rattle.session.specs.Session.{session}
+use Rattle.session.proofs.Lines.{saying, small_as, small-idle}
+use Rattle.session.proofs.Taken.{vert_kept, vert_late}
+use borrow.Author.Rules.{rules}
+use Rattle.session.proofs.respond.vert_line.Goals as goal
+
+pub add_vert-p-requires : goal.add_vert-p-requires
+add_vert-p-requires c =
+    (c.requires.fact_1, sym c.verts_due.ensures ∙ c.if-verts_due.true)
+
+pub settle-requires : goal.settle-requires
+settle-requires c =
+    let p = c.requires in record { small = small_as c.add_vert-p.ensures.value p.fact_1; in_bounds = (search rules, p.fact_2) }
+
+pub returns-then-verts_due : goal.returns-then-verts_due
+returns-then-verts_due c =
+    let a = c.args in
+    let s = session a.o a.floats.now a.words.now a.coords.now a.corners.now in
+    let v = c.add_vert-p.ensures in
+    let e = c.settle.ensures in
+    let h = sym c.verts_due.ensures ∙ c.if-verts_due.true in
+    (e.small_2, saying (vert_kept s a.x a.y a.z h v.value v.coords_after) e.does.0 e.does.1)
+
+pub returns : goal.returns
+returns c =
+    let a = c.args in
+    let s = session a.o a.floats.now a.words.now a.coords.now a.corners.now in
+    let e = c.refuse.ensures in
+    let u = e.opening_value.0 ∙ c.idle.ensures in
+    let h = sym c.verts_due.ensures ∙ c.if-verts_due.false in record {
+      small = (small_as u small-idle, e.opening_value.1);
+      does = saying (vert_late s a.x a.y a.z h)
+          (λ i. session (u i) a.floats.now a.words.now a.coords.now a.corners.now) e.wrote;
+    }

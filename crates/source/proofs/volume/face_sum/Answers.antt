@@ -1,0 +1,16 @@
+-- `face_sum` meets its contract: a counting loop over the seven points. Assumes nothing.
+use mathlib.Core.Path.{refl}
+use borrow.Author.Rules.{rules}
+use Rattle.base.specs.LoopLaws.{from_zero, goes, ended}
+use Rattle.source.specs.Volumes.{face_sum}
+use Rattle.source.proofs.volume.face_sum.Goals as goal
+
+pub loop-i-init : goal.loop-i-init
+unfolding face_sum
+loop-i-init c = from_zero refl
+
+pub loop-i-preserved : goal.loop-i-preserved
+loop-i-preserved c = goes c.loop-i.invariant (search rules) (cc)
+
+pub returns : goal.returns
+returns c = search (ended, rules)

@@ -1,0 +1,10 @@
+use Prim.Native.Nat.{◌-◌}
+use Rattle.base.specs.LoopLaws.{Left}
+use Rattle.volume.specs.Volume.{flux_step, face_sum}
+use Rattle.volume.proofs.faces.face_sum.Given as goal
+
+abbrev pub invariant-loop-i : goal.invariant-loop-i
+invariant-loop-i l = Left (flux_step l.t l.c l.sigma) 7 l.i l.sum (face_sum l.t l.c l.sigma l.sum-2)
+
+abbrev pub decreases-loop-i : goal.decreases-loop-i
+decreases-loop-i l = 7 - l.i
