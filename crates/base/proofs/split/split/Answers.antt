@@ -1,6 +1,5 @@
-use borrow.Author.Rules.{rules}
 use mathlib.Core.Path.{◌≡◌}
-use Prim.Native.Nat.{ℕ, ◌%◌, ◌^◌, ◌≤◌}
+use Prim.Native.Nat.{ℕ, ◌/◌, ◌%◌, ◌^◌, ◌≤◌, ◌<◌}
 use native.Mathlib.Omega.{arith}
 use lib.Bits.{bit_and, and_mask}
 use lib.Count.{count_leading_zeros}
@@ -10,37 +9,27 @@ use Rattle.base.proofs.split.split.Goals as goal
 masked : (b : ℕ) → bit_and b 4503599627370495 ≡ b % 2 ^ 52
 masked b = and_mask b 52
 
-zeros : (c : tie.Then1)
-    → (11 ≤ count_leading_zeros 64 (bit_and c.before.args.b 4503599627370495))
-    × (count_leading_zeros 64 (bit_and c.before.args.b 4503599627370495) ≤ 63)
-zeros c =
-    let b = c.before.args.b in
-    let d = low-digits b c.before.requires.0 c.if1.true in
-    rw masked (zeros-from (b % 2 ^ 52) d.0 d.1)
+zeros : (b : ℕ)
+    → 0 < b
+    → b / 2 ^ 52 ≡ 0
+    → (11 ≤ count_leading_zeros 64 (bit_and b 4503599627370495))
+    × (count_leading_zeros 64 (bit_and b 4503599627370495) ≤ 63)
+zeros b p e = let d = low-digits b p e in rw masked (zeros-from (b % 2 ^ 52) d.0 d.1)
 
 pub overflow_cast-up : goal.overflow_cast-up
-overflow_cast-up c = omega (arith, zeros c)
+overflow_cast-up c = omega (arith, zeros c.args.b c.requires.0 c.if-field-eq0.true)
 
--- src/lib.rt:27:18
 pub overflow_sub-up : goal.overflow_sub-up
-overflow_sub-up c = omega (arith, zeros c)
+overflow_sub-up c = omega (arith, zeros c.args.b c.requires.0 c.if-field-eq0.true)
 
--- src/lib.rt:29:18
 pub overflow_shl-result : goal.overflow_shl-result
-overflow_shl-result c = omega (arith, zeros c)
+overflow_shl-result c = omega (arith, zeros c.args.b c.requires.0 c.if-field-eq0.true)
 
--- src/lib.rt:30:17
 pub overflow_sub-result : goal.overflow_sub-result
-overflow_sub-result c = omega (arith, zeros c)
+overflow_sub-result c = omega (arith, zeros c.args.b c.requires.0 c.if-field-eq0.true)
 
--- src/lib.rt:35:17
-pub overflow_add-result : goal.overflow_add-result
-overflow_add-result c = search rules
-
--- src/lib.rt:20:1
 pub returns-then-field-eq0 : goal.returns-then-field-eq0
 returns-then-field-eq0 c = rw masked (split-low c.args.b c.requires.0 c.if-field-eq0.true)
 
--- src/lib.rt:20:1
 pub returns-else-field-eq0 : goal.returns-else-field-eq0
 returns-else-field-eq0 c = rw masked (split-high c.args.b c.requires.1 c.if-field-eq0.false)
