@@ -80,6 +80,41 @@ def strip_parens(text):
     return text
 
 
+def signatures():
+    """For each function of the sources by the end of its path: its parameters by `&mut` in order, and its clauses' names."""
+    out = {}
+    for folder, dirs, files in os.walk("crates"):
+        dirs[:] = [d for d in dirs if d != "out"]
+        for name in files:
+            if not name.endswith(".rt"):
+                continue
+            path = os.path.join(folder, name)
+            parts = path.split(os.sep)
+            module = [parts[1]] + [p for p in parts[3:-1]] + ([] if name in ("lib.rt", "main.rt", "mod.rt") else [name[:-3]])
+            text = re.sub(r"(?m)//.*$", "", open(path, encoding="utf-8").read())
+            for m in re.finditer(r"\bfn (\w+)(?:<[^>]*>)?\(([^)]*)\)([^{;]*)", text):
+                head = text[m.start(3) :]
+                labels, at = {"requires": [], "ensures": []}, m.start(3)
+                # clauses: each with its braces, until the body's brace
+                pos = m.end(2) + 1
+                while True:
+                    c = re.compile(r"[^{};]*?\b(requires|ensures)\*? ?(\w+)? ?\{").match(text, pos)
+                    if not c:
+                        break
+                    labels[c.group(1)].append(c.group(2))
+                    depth, k = 1, c.end()
+                    while depth and k < len(text):
+                        depth += (text[k] == "{") - (text[k] == "}")
+                        k += 1
+                    pos = k
+                muts = [p.split(":")[0].strip().removeprefix("mut ").strip() for p in m.group(2).split(",") if re.search(r":\s*&(?:'\w+ )?mut\b", p)]
+                out["::".join(module + [m.group(1)])] = (muts, labels)
+    return out
+
+
+SIGNATURES = signatures()
+
+
 class Places:
     def __init__(self, entry):
         self.at, self.arms, self.clauses = {}, {}, {}
@@ -123,11 +158,19 @@ class Places:
                     return ".".join([arm[0], field, *rest[len(old) :]])
         if self.clauses[at] and rest and rest[0] == "ensures":
             rest = ["ensures", *clause(self.clauses[at], rest[1:])]
+        callee = self.at[at][2]
+        if len(rest) > 1 and rest[0] == "new" and rest[1].isdigit() and callee in SIGNATURES:
+            muts = SIGNATURES[callee][0]
+            if int(rest[1]) < len(muts):
+                rest = ["new", muts[int(rest[1])], *rest[2:]]
+        rest = ["type_inv" if r == "type-inv" else r for r in rest]
         return ".".join([new, *rest])
 
 
 def clause(fields, path):
     """A path into clauses that were nested pairs, by their names."""
+    if len(fields) == 1 and (not path or path[0] != fields[0]):
+        return [fields[0], *path]
     if not path or not path[0].isdigit():
         return path
     n, path = len(fields), list(path)
@@ -249,7 +292,7 @@ def turn_body(body, place, places, todo, first="c"):
         pos = m.end()
     if places.guessed:
         todo.append("by name alone: " + ", ".join(places.guessed))
-    return "".join(out)
+    return re.sub(r"not-(?:true|false) _ (c\.\S*if-not)", r"\1", "".join(out))
 
 
 def turn(crate, path, entry, where):
@@ -270,6 +313,7 @@ def turn(crate, path, entry, where):
         else:
             declared.append((comments, "\n".join(code)))
     places = Places(entry)
+    own = [n for n in SIGNATURES.get("::".join([crate, *path.split(".")]), ([], {"ensures": []}))[1]["ensures"] if n]
     needs = {}
     for i, (old, new) in enumerate(entry["needs"]):
         needs.setdefault(norm(old), (new, entry["asked_at"][i][0]))
@@ -337,8 +381,9 @@ def turn(crate, path, entry, where):
             b = turn_body(rest_code[h.end() :], place, places, todo, binders[0] if binders else "c")
             if re.search(r"κs", b):
                 todo.append(f"{new}: κs is used")
-            if new in entry["asked"]:
-                b = as_record(b, entry["asked"][new]) or b
+            fields = entry["asked"].get(new) or (own if new.startswith("returns") and len(own) > 1 else None)
+            if fields:
+                b = as_record(b, fields) or b
             answers.append((comments, f"pub {new} : goal.{new}\n" + (unf.group(1) + "\n" if unf else "") + f"{new} {' '.join(binders)} ={b}"))
             done.add(name)
             continue
@@ -369,8 +414,9 @@ def turn(crate, path, entry, where):
             if TRIVIAL.match(b.strip()):
                 continue
             b = turn_body(b, entry["asked_at"][i][0], places, todo, binders[0])
-            if new in entry["asked"]:
-                b = (as_record(b, entry["asked"][new]) or b).strip()
+            fields = entry["asked"].get(new) or (own if new.startswith("returns") and len(own) > 1 else None)
+            if fields:
+                b = (as_record(b, fields) or b).strip()
             answers.append(([], f"pub {new} : goal.{new}\n{new} {' '.join(binders)} =\n    {b}" if "\n" in b else f"pub {new} : goal.{new}\n{new} {' '.join(binders)} = {b}"))
     return heads, uses, helpers, invariants, answers, todo
 

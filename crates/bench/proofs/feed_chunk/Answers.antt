@@ -7,7 +7,7 @@ use Rattle.bench.proofs.feed_chunk.Goals as goal
 
 -- after an answer that was not written nothing is promised of what is held
 pub returns-then-not-say : goal.returns-then-not-say
-returns-then-not-say c = (search rules, λ e. absurd (false≢true e))
+returns-then-not-say c = record { small_2 = search rules; count_after = (λ e. absurd (false≢true e)) }
 
 pub loop-i-preserved : goal.loop-i-preserved
 loop-i-preserved c = (

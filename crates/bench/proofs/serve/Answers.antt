@@ -4,7 +4,6 @@
 use mathlib.Core.Path.{sym}
 use native.Mathlib.Omega.{arith}
 use borrow.Author.Rules.{rules}
-use borrow.Author.Tests.{not-false}
 use Rattle.program.proofs.Reached.{at_start, many_more}
 use Rattle.bench.proofs.serve.Goals as goal
 
@@ -20,7 +19,7 @@ loop-turns-preserved c = (
   search rules,
   search rules,
   many_more c.read-got.new.1.0 c.count-n.result
-      (c.feed_chunk-fed.ensures.count_after (not-false _ c.if-not-fed.false))
+      (c.feed_chunk-fed.ensures.count_after (c.if-not-fed.false))
       c.loop-turns.invariant.2,
 )
 

@@ -33,7 +33,7 @@ returns-in-Reduced c =
 
 pub returns-in-Flat : goal.returns-in-Flat
 returns-in-Flat c =
-    refuses _ _ _ _ c.eliminate-end.new.0 _
+    refuses _ _ _ _ c.eliminate-end.new.m _
     c.if-n-gt16.false
     c.if-cells-n.false
     c.if-answer-n.false

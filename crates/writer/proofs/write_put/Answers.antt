@@ -25,7 +25,7 @@ returns c =
     let l4 : w4.result ≡ w3.result + 9 + decimal_length a.layer = w4.ensures.value in
     let l5 : w5.result ≡ w4.result + 3 = w5.ensures.next in record {
       value = omega (arith, w0.ensures.value, l1, l2, l3, l4, l5);
-      wrote = subst (λ (t : List ℕ). Wrote a.out.now a.at t w5.result w5.new.0)
+      wrote = subst (λ (t : List ℕ). Wrote a.out.now a.at t w5.result w5.new.out)
           (put_text_lem a.place k.x k.y k.z k.sigma k.w k.alpha a.layer)
           (then {u = centre_text a.place k.x k.y k.z} w0.ensures.wrote
           (then w1.ensures.wrote

@@ -26,7 +26,7 @@ pub returns : goal.returns
 returns c =
     let a = c.args in
     let w = c.write_put in
-    subst (λ (t : List ℕ). Wrote a.out.now a.at t w.result w.new.0)
+    subst (λ (t : List ℕ). Wrote a.out.now a.at t w.result w.new.out)
     (ap (print put_line) (c.kept_at.ensures (layer_of width a.words.now a.i))
     ∙ sym (row_filled width a.floats.now a.words.now a.i c.if-words-i-eq0.false))
     w.ensures.wrote

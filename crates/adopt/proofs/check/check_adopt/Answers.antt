@@ -68,5 +68,5 @@ pub bounds-other_words-other_place : goal.bounds-other_words-other_place
 bounds-other_words-other_place c =
     let l = on c.long_enough.ensures c.long_enough-2.ensures c.if-not-long.false in
     let a = c.args in
-    let h = both (ltb a.place place_limit) (ltb a.other_place place_limit) (not-false _ c.if-not-there.false) in
+    let h = both (ltb a.place place_limit) (ltb a.other_place place_limit) (c.if-not-there.false) in
     omega (arith, ltb-true a.other_place place_limit h.1, long-both _ _ _ _ l)

@@ -24,7 +24,7 @@ pub returns-in-Passed : goal.returns-in-Passed
 unfolding advance_step
 returns-in-Passed c =
     let a = c.args in
-    let e : standing c.run_places-rest.new.0 c.run_places-rest.new.1.0 c.run_places-rest.result
+    let e : standing c.run_places-rest.new.floats c.run_places-rest.new.words.0 c.run_places-rest.result
     ≡ spent_all width a.floats.now a.words.now a.budget
     = rw (c.word-verts.ensures, c.word-faces.ensures) at c.run_places-rest.ensures in
     let l : c.left-total.result ≡ left_of width a.words.now (faces_of a.words.now) place_limit

@@ -23,12 +23,12 @@ loop-r-init c =
 pub returns-then-r-eq0 : goal.returns-then-r-eq0
 returns-then-r-eq0 c =
     let a = c.args in
-    let l = c.loop-r in (
-      stopped a.floats.now a.words.now a.verts a.faces a.i a.count a.start.finished
+    let l = c.loop-r in record {
+      fact_1 = stopped a.floats.now a.words.now a.verts a.faces a.i a.count a.start.finished
           a.start.done a.start.budget l.floats l.r.finished l.r.done l.r.budget l.invariant
-          (rw c.if-r-eq0.true (and-false (ltb l.r.finished a.count))),
-      omega (arith, l.invariant),
-    )
+          (rw c.if-r-eq0.true (and-false (ltb l.r.finished a.count)));
+      fact_2 = omega (arith, l.invariant);
+    }
 
 pub run_piece-r-requires : goal.run_piece-r-requires
 run_piece-r-requires c =

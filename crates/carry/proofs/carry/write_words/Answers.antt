@@ -19,7 +19,7 @@ returns c =
     let u = c.args.words.now in
     let w = c.args.old-words.now in
     let n : corners_from old_width + 3 * faces_of w - corners_from old_width ≡ 3 * faces_of w = omega arith in
-    let e : c.copy_words.new.0 ≡ write r.new.0 130 (corners_of old_width w)
+    let e : c.copy_words.new.words ≡ write r.new.words 130 (corners_of old_width w)
     = rw n at c.copy_words.ensures in
     let l : length (corners_of old_width w) ≡ 3 * faces_of w
     = length-take-le (3 * faces_of w) (drop 98 w) (rw length-drop (omega arith)) in

@@ -9,8 +9,7 @@ use Rattle.convert.proofs.lines.scan_lines.Goals as goal
 pub returns-then-lines-s : goal.returns-then-lines-s
 returns-then-lines-s c =
     let l = c.loop-at in
-    let f = found_many _ _ l.invariant c.if-lines-s.true in
-    (f.lines, (f.agree, not-ended _ l.at c.loop-at-test.true ∙ sym (ap ended f.text)))
+    let f = found_many _ _ l.invariant c.if-lines-s.true in record { lines_value = f.lines; same_value = f.agree; ended_value = not-ended _ l.at c.loop-at-test.true ∙ sym (ap ended f.text) }
 
 pub loop-at-preserved : goal.loop-at-preserved
 loop-at-preserved c =

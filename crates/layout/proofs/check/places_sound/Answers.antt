@@ -7,7 +7,6 @@ use Rattle.base.specs.Loops.{every}
 use Rattle.base.specs.LoopLaws.{every-not}
 use Rattle.layout.specs.HidingLaws.{rows_apart}
 use Rattle.layout.specs.Soundness.{place_sound_at}
-use borrow.Author.Tests.{not-true, not-false}
 use Rattle.layout.proofs.check.places_sound.Goals as goal
 
 pub loop-i-init : goal.loop-i-init
@@ -25,14 +24,14 @@ returns-then-not-record_sound c =
     let l = c.loop-i in
     sym
     (every-not (place_sound_at a.q a.words.now) 32 l.i (omega arith)
-    (sym c.record_sound.ensures ∙ not-true _ c.if-not-record_sound.true))
+    (sym c.record_sound.ensures ∙ c.if-not-record_sound.true))
 
 pub loop-i-preserved : goal.loop-i-preserved
 unfolding every
 loop-i-preserved c = (
   omega arith,
   rw (add-one, c.loop-i.invariant.1)
-      (sym c.record_sound.ensures ∙ not-false _ c.if-not-record_sound.false),
+      (sym c.record_sound.ensures ∙ c.if-not-record_sound.false),
 )
 
 pub returns : goal.returns

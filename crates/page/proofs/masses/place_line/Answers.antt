@@ -9,8 +9,7 @@ pub returns-then-status-eq0 : goal.returns-then-status-eq0
 returns-then-status-eq0 c =
     let a = c.args in
     let e = c.if-status-eq0.true in
-    let n = none-count a.floats.now a.i a.status e in
-    ((omega (arith, n), none_written _ _ _ e), (none_total _ _ _ e _, omega arith, omega arith))
+    let n = none-count a.floats.now a.i a.status e in record { at_value = (omega (arith, n), none_written _ _ _ e); less_value = (none_total _ _ _ e _, omega arith, omega arith) }
 
 pub rounded-v-requires : goal.rounded-v-requires
 rounded-v-requires c =

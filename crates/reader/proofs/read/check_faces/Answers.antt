@@ -20,16 +20,16 @@ returns-then-p-s c =
     let a = c.args in
     let l = c.loop-i in
     let m = a.n - (l.i + 1) in
-    let p = c.read_face-p in (
-      rest-past a.s.now ∙ sym (from_lost face_line m)
+    let p = c.read_face-p in record {
+      at_value = rest-past a.s.now ∙ sym (from_lost face_line m)
           ∙ (λ j. (lines_from face_line m (sym (rest_out a.s.now p.result.at c.if-p-s.true) j)).text)
           ∙ sym
           (ap (λ (g : Got (List (Vals face_line))). g.text)
           (from_more face_line a.n l.i (rest a.s.now l.k) (rest a.s.now p.result.at)
           (p.result.a & p.result.b & p.result.c & tt) c.loop-i-test.true p.ensures))
-          ∙ l.invariant.1,
-      λ h. absurd (omega arith),
-    )
+          ∙ l.invariant.1;
+      below_value = (λ h. absurd (omega arith));
+    }
 
 pub loop-i-preserved : goal.loop-i-preserved
 loop-i-preserved c =

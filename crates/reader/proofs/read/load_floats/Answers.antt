@@ -20,7 +20,7 @@ returns c =
     let xs = coords_in (lines_from vert_line a.n t).val in record {
       result_value = l.ensures.result_value;
       floats_after = l.ensures.floats_after
-          ∙ sets-write xs z.new.0 1761 (omega (arith, coords_count a.n t, simp length-set at z.auto.0))
+          ∙ sets-write xs z.new.floats 1761 (omega (arith, coords_count a.n t, simp length-set at z.auto.0))
           ∙ rw (z.ensures, sets-write (a.radius ∷ []) a.floats.now 0 (omega arith))
           (laid a.floats.now (a.radius ∷ []) (replicate 1760 +0) xs 1761 refl
           (omega (arith, coords_count a.n t)));

@@ -67,7 +67,7 @@ loop-i-preserved c =
     put_step_lem width l.floats l.words q.0
     (kernel q.1.0 q.1.1.0 q.1.1.1.0 q.1.1.1.1.0 q.1.1.1.1.1.0 q.1.1.1.1.1.1.0)
     q.1.1.1.1.1.1.1.0) in
-    let m = puts_turn width v vs l.floats l.words (placed u.result) u.new.0 u.new.1.0 g in (
+    let m = puts_turn width v vs l.floats l.words (placed u.result) u.new.floats u.new.words.0 g in (
       omega arith,
       omega arith,
       omega arith,

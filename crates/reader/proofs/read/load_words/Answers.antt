@@ -19,7 +19,7 @@ returns c =
     let xs = corners_in (lines_from face_line a.faces t).val in record {
       result_value = l.ensures.result_value;
       words_after = l.ensures.words_after
-          ∙ sets-write xs z.new.0 130 (omega (arith, corners_count a.faces t, simp length-set at z.auto.0))
+          ∙ sets-write xs z.new.words 130 (omega (arith, corners_count a.faces t, simp length-set at z.auto.0))
           ∙ rw (z.ensures, sets-write (a.verts ∷ a.faces ∷ []) a.words.now 0 (omega arith))
           (laid a.words.now (a.verts ∷ a.faces ∷ []) (replicate 128 0) xs 130 refl
           (omega (arith, corners_count a.faces t)));

@@ -10,7 +10,7 @@ loop-j-preserved c =
     let l = c.loop-j in (
       omega arith,
       piece_listed a.out.now a.at a.s a.floats.now a.i l.j l.out
-          c.write_six.new.0 l.invariant.1 (omega arith)
+          c.write_six.new.floats l.invariant.1 (omega arith)
           (rw c.rescaled_at-k.ensures at c.write_six.ensures),
     )
 

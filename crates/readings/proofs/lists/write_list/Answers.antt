@@ -46,7 +46,7 @@ loop-i-preserved c =
       omega arith,
       omega (arith, c.pieces-count.ensures, l.invariant.1),
       place_listed a.out.now a.s width a.floats.now a.words.now l.i l.out
-          c.place_list.new.0 l.invariant.2 (omega (arith, c.requires.fact_3))
+          c.place_list.new.out l.invariant.2 (omega (arith, c.requires.fact_3))
           (rw (l.invariant.1, c.pieces-count.ensures) at c.place_list.ensures),
     )
 

@@ -1,7 +1,6 @@
 -- `readings::shared::check_read` meets its contract. Assumes nothing.
 use mathlib.Core.Path.{sym, ◌∙◌}
 use native.Mathlib.Omega.{arith}
-use borrow.Author.Tests.{not-true, not-false}
 use Rattle.layout.specs.Layout.{width}
 use Rattle.readings.specs.ReadLaws.{check_fine, check_failed, check_idle, check_work}
 use Rattle.readings.proofs.shared.check_read.Goals as goal
@@ -10,7 +9,7 @@ use Rattle.readings.proofs.shared.check_read.Goals as goal
 pub returns-then-not-needs : goal.returns-then-not-needs
 returns-then-not-needs c =
     check_idle width _ _ _ c.check_seen.ensures _ c.in-Passed.is
-    (not-true _ c.if-not-needs.true)
+    (c.if-not-needs.true)
 
 -- 4, 5 or 16
 pub returns-in-Failed : goal.returns-in-Failed
@@ -19,13 +18,13 @@ returns-in-Failed c = check_failed width _ _ _ c.check_seen.ensures _ _ c.in-Fai
 pub returns-then-unfinished : goal.returns-then-unfinished
 returns-then-unfinished c =
     check_work width _ _ _ c.check_seen.ensures _ _ _ c.in-Passed.is
-    (not-false _ c.if-not-needs.false) c.word.ensures
+    (c.if-not-needs.false) c.word.ensures
     (sym c.if-unfinished.true ∙ c.unfinished.ensures)
 
 pub returns-else-unfinished : goal.returns-else-unfinished
 returns-else-unfinished c =
     check_work width _ _ _ c.check_seen.ensures _ _ _ c.in-Passed.is
-    (not-false _ c.if-not-needs.false) c.word.ensures
+    (c.if-not-needs.false) c.word.ensures
     (sym c.if-unfinished.false ∙ c.unfinished.ensures)
 
 pub word-requires : goal.word-requires

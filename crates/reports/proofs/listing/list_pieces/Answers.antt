@@ -13,7 +13,7 @@ returns-then-count-out c =
     rw (← c.scale_of-s.ensures)
     (listing_in c.scale_of-s.result h a.out.now c.count_pieces-count.result
     (c.count_pieces-count.ensures.0 ∙ sym (all_length width a.floats.now a.words.now 32))
-    c.write_list.new.0 c.if-count-out.true c.write_list.ensures)
+    c.write_list.new.out c.if-count-out.true c.write_list.ensures)
 
 pub returns-else-count-out : goal.returns-else-count-out
 returns-else-count-out c =

@@ -11,4 +11,4 @@ returns c z =
     let a = c.wrapping_add_u64 in
     let b = c.wrapping_add_u64-2 in
     let m = or_most a.result b.result in
-    (small a.result _ _ a.ensures m.0 z, small b.result _ _ b.ensures m.1 z)
+    (small a.result _ _ a.ensures.value m.0 z, small b.result _ _ b.ensures.value m.1 z)

@@ -27,7 +27,7 @@ returns c =
     let a = c.wrapping_sub_u64-a in
     let b' = c.wrapping_add_u64 in
     let m = or_most a.result b'.result in record {
-      bound = (least g w.result c.requires.0, most g w.result c.requires.1 w.type-inv, r.type-inv, w.type-inv, w.ensures);
+      bound = (least g w.result c.requires.0, most g w.result c.requires.1 w.type_inv, r.type_inv, w.type_inv, w.ensures.value);
       rounded = (λ x y z.
           sound
           record {
@@ -35,15 +35,15 @@ returns c =
             hh_most = q.0;
             hl_most = q.1;
             ll_most = q.2;
-            b_most = b.type-inv;
-            r_most = r.type-inv;
-            w_most = w.type-inv;
-            a_is = a.ensures;
-            b_is = b.ensures;
-            r_is = r.ensures;
-            w_is = w.ensures;
+            b_most = b.type_inv;
+            r_most = r.type_inv;
+            w_most = w.type_inv;
+            a_is = a.ensures.value;
+            b_is = b.ensures.value;
+            r_is = r.ensures.value;
+            w_is = w.ensures.value;
             a_small = lt_of_le_of_lt m.0 x;
-            b_small = subst (λ (n : ℕ). n < 2 ^ 36) b'.ensures (lt_of_le_of_lt m.1 x);
+            b_small = subst (λ (n : ℕ). n < 2 ^ 36) b'.ensures.value (lt_of_le_of_lt m.1 x);
             r_near = y;
             w_near = z;
             k_most = omega arith;
@@ -67,5 +67,5 @@ overflow_add-result c =
       fits =
           lt_of_le_of_lt
           (most c.args.g c.wrapping_sub_u64-short.result
-          c.requires.1 c.wrapping_sub_u64-short.type-inv) (lit< tt);
+          c.requires.1 c.wrapping_sub_u64-short.type_inv) (lit< tt);
     }

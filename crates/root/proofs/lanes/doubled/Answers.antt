@@ -10,4 +10,4 @@ overflow_add-result c = omega (arith, and_le_l c.args.sig c.wrapping_sub_u64.res
 pub returns : goal.returns
 returns c =
     double c.args.sig c.args.odd c.wrapping_sub_u64.result c.requires.0
-    c.requires.1 c.wrapping_sub_u64.type-inv c.wrapping_sub_u64.ensures
+    c.requires.1 c.wrapping_sub_u64.type_inv c.wrapping_sub_u64.ensures.value

@@ -15,7 +15,7 @@ returns c =
       unit_within a.result.digits e.0 e.1,
       λ y z.
           let k = near-enough g.result a.result.rest a.result.short g.ensures.0 g.ensures.1 e.2
-          e.3 e.4 (subst (λ (n : ℕ). n < 2 ^ 54) w.ensures z) in
+          e.3 e.4 (subst (λ (n : ℕ). n < 2 ^ 54) w.ensures.value z) in
           unit_root c.args.f a.result.digits (subst T (sym c.well_formed.0.1) tt) c.requires
           (a.ensures.rounded y k.0 k.1),
     )

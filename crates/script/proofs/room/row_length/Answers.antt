@@ -9,8 +9,7 @@ use Rattle.script.proofs.room.row_length.Goals as goal
 
 pub returns-then-words-i-eq0 : goal.returns-then-words-i-eq0
 returns-then-words-i-eq0 c =
-    let a = c.args in
-    (omega arith, λ fs. sym (ap length (row_empty width fs a.words.now a.i c.if-words-i-eq0.true)))
+    let a = c.args in record { upper_bound = omega arith; value = (λ fs. sym (ap length (row_empty width fs a.words.now a.i c.if-words-i-eq0.true))) }
 
 pub returns : goal.returns
 returns c =

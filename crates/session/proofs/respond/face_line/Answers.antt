@@ -12,11 +12,11 @@ returns-then-verts_due c =
     let s = session a.o a.floats.now a.words.now a.coords.now a.corners.now in
     let e = c.refuse.ensures in
     let u = e.opening_value.0 ∙ c.idle.ensures in
-    let h = sym c.verts_due.ensures ∙ c.if-verts_due.true in (
-      (small_as u small-idle, e.opening_value.1),
-      saying (face_early s a.a a.b a.c h)
-          (λ i. session (u i) a.floats.now a.words.now a.coords.now a.corners.now) e.wrote,
-    )
+    let h = sym c.verts_due.ensures ∙ c.if-verts_due.true in record {
+      small = (small_as u small-idle, e.opening_value.1);
+      does = saying (face_early s a.a a.b a.c h)
+          (λ i. session (u i) a.floats.now a.words.now a.coords.now a.corners.now) e.wrote;
+    }
 
 pub add_face-p-requires : goal.add_face-p-requires
 add_face-p-requires c =

@@ -23,8 +23,8 @@ returns-in_default c =
     let a = c.args in
     let s = session a.o a.floats.now a.words.now a.coords.now a.corners.now in
     let e = c.refuse.ensures in
-    let u = e.opening_value.0 ∙ c.idle.ensures in (
-      (small_as u small-idle, e.opening_value.1),
-      saying (no_mesh_lem s a.l c.in_default.keys3)
-          (λ i. session (u i) a.floats.now a.words.now a.coords.now a.corners.now) e.wrote,
-    )
+    let u = e.opening_value.0 ∙ c.idle.ensures in record {
+      small = (small_as u small-idle, e.opening_value.1);
+      does = saying (no_mesh_lem s a.l c.in_default.keys3)
+          (λ i. session (u i) a.floats.now a.words.now a.coords.now a.corners.now) e.wrote;
+    }

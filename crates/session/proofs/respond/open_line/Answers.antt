@@ -17,8 +17,7 @@ returns-then-taken c =
     let a = c.args in
     let s = session a.o a.floats.now a.words.now a.coords.now a.corners.now in
     let e = c.settle.ensures in
-    let h = c.if-taken.true in
-    (e.small_2, saying (opening_begun s a.radius a.verts a.faces h c.begun-p.ensures) e.does.0 e.does.1)
+    let h = c.if-taken.true in record { small_2 = e.small_2; does = saying (opening_begun s a.radius a.verts a.faces h c.begun-p.ensures) e.does.0 e.does.1 }
 
 pub returns : goal.returns
 returns c =

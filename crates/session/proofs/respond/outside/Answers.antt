@@ -17,8 +17,8 @@ returns-in_default c =
     let a = c.args in
     let s = session a.o a.floats.now a.words.now a.coords.now a.corners.now in
     let e = c.refuse.ensures in
-    let u = c.refuse.ensures.opening_value.0 in (
-      (small_as u c.requires.small, e.opening_value.1),
-      saying (no_call s a.l c.in_default.keys3)
-          (λ i. session (u i) a.floats.now a.words.now a.coords.now a.corners.now) e.wrote,
-    )
+    let u = c.refuse.ensures.opening_value.0 in record {
+      small_2 = (small_as u c.requires.small, e.opening_value.1);
+      does = saying (no_call s a.l c.in_default.keys3)
+          (λ i. session (u i) a.floats.now a.words.now a.coords.now a.corners.now) e.wrote;
+    }

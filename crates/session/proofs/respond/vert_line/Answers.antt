@@ -20,8 +20,7 @@ returns-then-verts_due c =
     let s = session a.o a.floats.now a.words.now a.coords.now a.corners.now in
     let v = c.add_vert-p.ensures in
     let e = c.settle.ensures in
-    let h = sym c.verts_due.ensures ∙ c.if-verts_due.true in
-    (e.small_2, saying (vert_kept s a.x a.y a.z h v.value v.coords_after) e.does.0 e.does.1)
+    let h = sym c.verts_due.ensures ∙ c.if-verts_due.true in record { small = e.small_2; does = saying (vert_kept s a.x a.y a.z h v.value v.coords_after) e.does.0 e.does.1 }
 
 pub returns : goal.returns
 returns c =

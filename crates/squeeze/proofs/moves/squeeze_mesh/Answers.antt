@@ -15,7 +15,7 @@ returns c =
     c.mark.ensures in (
       q.0,
       c.zero_floats.ensures
-          ∙ zeroed c.args.corners.now c.args.xyz.now g.new.0 c.args.verts g.result q.0
+          ∙ zeroed c.args.corners.now c.args.xyz.now g.new.xyz c.args.verts g.result q.0
           g.ensures.0 (g.auto.0 ∙ c.requires.coords) q.1,
       c.renumber.ensures,
     )

@@ -10,4 +10,4 @@ unfolding decimal_text
 returns c =
     let a = c.args in
     let w = c.write_digits in
-    let e = c.decimal_length.ensures.0 in record { value = omega (arith, e, w.ensures.value); wrote = subst (λ (k : ℕ). Wrote a.out.now a.at (digits 10 k a.n) w.result w.new.0) e w.ensures.wrote }
+    let e = c.decimal_length.ensures.0 in record { value = omega (arith, e, w.ensures.value); wrote = subst (λ (k : ℕ). Wrote a.out.now a.at (digits 10 k a.n) w.result w.new.out) e w.ensures.wrote }

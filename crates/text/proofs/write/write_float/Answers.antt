@@ -9,6 +9,6 @@ returns c =
     let a = c.args in
     let w = c.write_pattern in record {
       value = refl;
-      wrote = subst (λ (n : ℕ). Wrote a.out.now a.at (pattern_text n) (a.at + 16) w.new.0)
+      wrote = subst (λ (n : ℕ). Wrote a.out.now a.at (pattern_text n) (a.at + 16) w.new.out)
           c.to_pattern.ensures w.ensures;
     }
