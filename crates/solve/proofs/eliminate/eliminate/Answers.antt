@@ -3,7 +3,6 @@
 use borrow.Author.Rules.{rules}
 use Prim.Native.Nat.{◌<◌}
 use mathlib.Core.Path.{refl, sym, ap, ◌∙◌}
-use mathlib.Core.Logic.{⊎_elim}
 use native.Mathlib.Omega.{arith}
 use lib.Ieee.{le}
 use Rattle.base.specs.Constants.{flat_limit}
@@ -13,6 +12,7 @@ use Rattle.solve.specs.declared.eliminate.Pivot.{Pivot}
 use Rattle.solve.specs.Elimination.{pivot_of, flat, eliminated}
 use Rattle.solve.proofs.Columns.{better-below, stops, passes}
 use Rattle.solve.proofs.eliminate.eliminate.Goals as goal
+use Rattle.solve.proofs.eliminate.eliminate.Goals.{else-columns-test, then-columns-test+then-row-n+then-best}
 
 pub columns-init : goal.columns-init
 unfolding eliminated
@@ -51,22 +51,27 @@ columns-preserved c = (
 -- after the loop: every column was done, or the break of a flat pivot, which has set `stop` below n
 pub returns-then-stop-n : goal.returns-then-stop-n
 returns-then-stop-n c =
-    let a = c.columns in
-    ⊎_elim (λ w. ended a.invariant.0 w.0.left) (λ w. absurd (omega (arith, w.7, w.0.taken, c.if-stop-n.true)))
-    c.columns-test.branch
+    elim c.columns-test.branch [
+      | else-columns-test w ↦ ended c.columns.invariant.0 w.columns-test.false
+      | then-columns-test+then-row-n+then-best w ↦
+          absurd (omega (arith, w.stop-is, w.columns-test.true, c.if-stop-n.true))
+    ]
 
 -- the column where it stopped is one of the n, which are few
 pub overflow_cast-column : goal.overflow_cast-column
 overflow_cast-column c =
-    ⊎_elim (λ w. absurd (c.if-stop-n.false (w.1 ∙ c.columns.invariant.1)))
-    (λ w. omega (arith, w.7, w.0.taken))
-    c.columns-test.branch
+    elim c.columns-test.branch [
+      | else-columns-test w ↦ absurd (c.if-stop-n.false (w.stop-is ∙ c.columns.invariant.1))
+      | then-columns-test+then-row-n+then-best w ↦ omega (arith, w.stop-is, w.columns-test.true)
+    ]
 
 pub returns-else-stop-n : goal.returns-else-stop-n
 returns-else-stop-n c =
     let a = c.columns in
-    ⊎_elim (λ w. absurd (c.if-stop-n.false (w.1 ∙ a.invariant.1)))
-    (λ w. ap flat w.7
-    ∙ stops a.invariant.0 w.0.taken
-    (ap (λ (p : Pivot). le p.value flat_limit) (sym (ended w.3.inv.0 (search rules))) ∙ w.6.taken))
-    c.columns-test.branch
+    elim c.columns-test.branch [
+      | else-columns-test w ↦ absurd (c.if-stop-n.false (w.stop-is ∙ a.invariant.1))
+      | then-columns-test+then-row-n+then-best w ↦
+          ap flat w.stop-is
+          ∙ stops a.invariant.0 w.columns-test.true
+          (ap (λ (p : Pivot). le p.value flat_limit) (sym (ended w.pivots.invariant.0 (search rules))) ∙ w.if-best.true)
+    ]
