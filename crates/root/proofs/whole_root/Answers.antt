@@ -1,7 +1,8 @@
 -- `root::whole_root` meets its contract: `Turn` of `Steps.antt` is the loop's invariant. Assumes nothing.
-use Rattle.std.proofs.Common.{◌≡◌, ℕ, ◌≤◌, subst, ⊎_elim, arith}
+use Rattle.std.proofs.Common.{◌≡◌, ℕ, ◌≤◌, subst, arith}
 use Rattle.root.proofs.Steps.{Turn, root_small, next_one, next-zero, first_turn, last_turn}
 use Rattle.root.proofs.whole_root.Goals as goal
+use Rattle.root.proofs.whole_root.Goals.{then-trial-brought, else-trial-brought}
 
 all_done : (i : ℕ) → i ≤ 54 → 54 ≤ i → i ≡ 54
 all_done i h k = omega arith
@@ -10,8 +11,10 @@ pub loop-i-preserved : goal.loop-i-preserved
 loop-i-preserved c =
     let t = c.loop-i.invariant in
     let m = c.loop-i-test.true in
-    ⊎_elim (λ w. rw (w.1, w.2) (next_one t m w.0.taken)) (λ w. rw (w.1, w.2) (next-zero t m w.0.left))
-    c.if-trial-brought.branch
+    elim c.if-trial-brought.branch [
+      | then-trial-brought w ↦ rw (w.root-is, w.rest-is) (next_one t m w.if-trial-brought.true)
+      | else-trial-brought w ↦ rw (w.root-is, w.rest-is) (next-zero t m w.if-trial-brought.false)
+    ]
 
 pub loop-i-init : goal.loop-i-init
 loop-i-init c = first_turn c.args.d c.requires
