@@ -22,4 +22,6 @@ returns c =
     rw (← nan_test _, c.if-y.false, c.if-y-2.false, c.if-y-3.false) c.exp_at.ensures
 
 pub exp_at-requires : goal.exp_at-requires
-exp_at-requires c = bounds c.args.y c.if-y.false c.if-y-2.false c.if-y-3.false
+exp_at-requires c =
+    let b = bounds c.args.y c.if-y.false c.if-y-2.false c.if-y-3.false in
+    record { fact_1 = b.0; fact_2 = b.1 }

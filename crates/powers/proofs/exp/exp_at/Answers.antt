@@ -20,7 +20,7 @@ returns-then-x c =
 pub truncating_f64_to_u64-c-requires : goal.truncating_f64_to_u64-c-requires
 truncating_f64_to_u64-c-requires c =
     let p = part_of c.args.w c.requires.fact_1 c.requires.fact_2 c.if-x.false in
-    (p.above, p.below)
+    record { lower_bound = p.above; upper_bound = p.below }
 
 pub scale_up-requires : goal.scale_up-requires
 scale_up-requires c =

@@ -8,7 +8,7 @@ use Rattle.powers.proofs.exp.raised.Goals as goal
 pub truncating_f64_to_u64-t-requires : goal.truncating_f64_to_u64-t-requires
 truncating_f64_to_u64-t-requires c =
     let k = small c.args.x c.requires.fact_1 c.requires.fact_2 in
-    (above-minus c.args.x k, below_top c.args.x k)
+    record { lower_bound = above-minus c.args.x k; upper_bound = below_top c.args.x k }
 
 pub overflow_add-result : goal.overflow_add-result
 overflow_add-result c =

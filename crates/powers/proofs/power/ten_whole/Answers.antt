@@ -1,13 +1,14 @@
 -- `powers::power::ten_whole` meets its contract. Assumes nothing.
-use Rattle.std.proofs.Common.{◌≡◌, false, refl, ◌∙◌, inl, inr}
+use Rattle.std.proofs.Common.{◌≡◌, false, refl, ◌∙◌}
 use Rattle.powers.specs.Power.{small_whole, ten_to}
 use Rattle.powers.proofs.SmallWholes.{cut_of, not-small, tested}
 use Rattle.powers.proofs.power.ten_whole.Goals as goal
+use Rattle.powers.proofs.power.ten_whole.Goals.{then-size+else-size-nearest_u64_to_f64, else-size}
 
 pub truncating_f64_to_u64-k-requires : goal.truncating_f64_to_u64-k-requires
 truncating_f64_to_u64-k-requires c =
     let k = cut_of c.args.y (rw (← c.abs-size.ensures) c.if-size.true) in
-    rw c.abs-size.ensures (k.above, k.below)
+    rw c.abs-size.ensures (record { lower_bound = k.above; upper_bound = k.below })
 
 pub whole_ten-p-requires : goal.whole_ten-p-requires
 whole_ten-p-requires c =
@@ -35,8 +36,9 @@ pub returns : goal.returns
 unfolding ten_to
 returns c =
     let e : small_whole c.args.y ≡ false = elim c.if-size.branch [
-      | inl g ↦ (tested c.args.y _ _ _ c.abs-size.ensures g.1.ensures g.2.ensures g.0.taken).1
-          ∙ g.3.left
-      | inr g ↦ not-small c.args.y (rw (← c.abs-size.ensures) g.left)
+      | then-size+else-size-nearest_u64_to_f64 w ↦ (tested c.args.y _ _ _ c.abs-size.ensures
+          w.truncating_f64_to_u64-k.ensures w.nearest_u64_to_f64.ensures w.if-size.true).1
+          ∙ w.if-size-nearest_u64_to_f64.false
+      | else-size w ↦ not-small c.args.y (rw (← c.abs-size.ensures) w.if-size.false)
     ] in
     rw e c.ten_steps.ensures
