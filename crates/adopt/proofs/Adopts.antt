@@ -1,10 +1,10 @@
 -- What an adoption that is not refused was given. Assumes nothing.
 use mathlib.Core.Path.{◌≡◌, refl, sym, ◌∙◌}
-use mathlib.Core.Bool.{Bool, true, false, not, ◌&&◌, cond}
+use mathlib.Core.Bool.{Bool, true, false, ◌&&◌, cond}
 use mathlib.Core.List.{List}
 use Prim.Native.Nat.{ℕ, ◌+◌, ◌*◌, ◌≤◌, ◌<◌}
 use native.Mathlib.Omega.{arith}
-use borrow.Author.Tests.{not-true, not-false, ltb-true}
+use borrow.Author.Tests.{ltb-true}
 use lib.Dec.{ltb, eqb}
 use lib.ListN.{length}
 use lib.Ieee.{Float}
@@ -17,11 +17,11 @@ use Rattle.layout.specs.SoundLaws.{Fine, fine, both, long_words}
 use Rattle.adopt.specs.Adopt.{adopt_check}
 
 -- two tests that code makes together
-pub on : {a b x y : Bool} → a ≡ x → b ≡ y → not (a && b) ≡ false → (x && y) ≡ true
-on {a} {b} e f h = rw (← e, ← f) (not-false (a && b) h)
+pub on : {a b x y : Bool} → a ≡ x → b ≡ y → (a && b) ≡ true → (x && y) ≡ true
+on e f h = rw (← e, ← f) h
 
-pub off : {a b x y : Bool} → a ≡ x → b ≡ y → not (a && b) ≡ true → (x && y) ≡ false
-off {a} {b} e f h = rw (← e, ← f) (not-true (a && b) h)
+pub off : {a b x y : Bool} → a ≡ x → b ≡ y → (a && b) ≡ false → (x && y) ≡ false
+off e f h = rw (← e, ← f) h
 
 module _ (fs : List Float) (ws : List ℕ) (gs : List Float) (us : List ℕ) where
   -- both stores are long enough

@@ -1,10 +1,10 @@
 -- Two stores whose radii and counts agree: what is left to compare, as the code lends it. Assumes nothing.
 use mathlib.Core.Path.{◌≡◌, refl}
-use mathlib.Core.Bool.{Bool, false, not, ◌&&◌}
+use mathlib.Core.Bool.{Bool, true, ◌&&◌}
 use mathlib.Core.List.{List}
 use Prim.Native.Nat.{ℕ, ◌+◌, ◌*◌, ◌-◌}
 use native.Mathlib.Nat.{add-sub_cancel_left}
-use borrow.Author.Tests.{not-false, eqb-true}
+use borrow.Author.Tests.{eqb-true}
 use lib.Dec.{eqb}
 use lib.ListN.{take, drop}
 use lib.Ieee.{Float}
@@ -16,10 +16,10 @@ use Rattle.adopt.specs.Adopt.{same_body_lem}
 abbrev pub counts_same_lem : List ℕ → List ℕ → Bool
 counts_same_lem ws us = eqb (verts_of ws) (verts_of us) && eqb (faces_of ws) (faces_of us)
 
-pub same-counts : (ws us : List ℕ) → not (counts_same_lem ws us) ≡ false
+pub same-counts : (ws us : List ℕ) → counts_same_lem ws us ≡ true
     → (verts_of ws ≡ verts_of us) × (faces_of ws ≡ faces_of us)
 same-counts ws us h =
-    let p = both (eqb (verts_of ws) (verts_of us)) (eqb (faces_of ws) (faces_of us)) (not-false (counts_same_lem ws us) h) in
+    let p = both (eqb (verts_of ws) (verts_of us)) (eqb (faces_of ws) (faces_of us)) h in
     (eqb-true (verts_of ws) (verts_of us) p.0, eqb-true (faces_of ws) (faces_of us) p.1)
 
 module _ (fs gs : List Float) (ws us : List ℕ) where
@@ -30,8 +30,8 @@ module _ (fs gs : List Float) (ws us : List ℕ) where
   abbrev corners : List ℕ → List ℕ
   corners ks = take (corners_from width + 3 * faces_of ws - corners_from width) (drop (corners_from width) ks)
 
-  pub the_rest-same : {r : Bool} (a b : Bool) → r ≡ same_float (radius_of fs) (radius_of gs) → not r ≡ false
-      → not (counts_same_lem ws us) ≡ false
+  pub the_rest-same : {r : Bool} (a b : Bool) → r ≡ same_float (radius_of fs) (radius_of gs) → r ≡ true
+      → counts_same_lem ws us ≡ true
       → a ≡ same_floats (coords fs) (coords gs) → b ≡ same_words (corners ws) (corners us)
       → (a && b) ≡ same_body_lem width fs ws gs us
   unfolding same_body_lem
@@ -43,8 +43,8 @@ module _ (fs gs : List Float) (ws us : List ℕ) where
         add-sub_cancel_left coords_from (3 * verts_of ws),
         add-sub_cancel_left (corners_from width) (3 * faces_of ws),
         ← er,
-        not-false r hr,
-        not-false (counts_same_lem ws us) hc,
+        hr,
+        hc,
         ← m.0,
         ← m.1,
       ) refl

@@ -1,7 +1,7 @@
 -- Many hands, a call of ours, beyond 02 (docs/DECISIONS.md): a filled place of another store of the same body comes
 -- into a place of this one. This store's runs are fs and ws, its place is i; the other's runs are gs and us, its place
 -- is j; there are q words to a place. Definitions only.
-use Rattle.std.specs.Prelude.{Bool, ◌&&◌, cond, List, [], ◌∷◌, ℕ, ◌*◌, ◌-◌, ltb, eqb, take, drop, Float}
+use Rattle.std.specs.Prelude.{Bool, ◌&&◌, cond, List, [], ◌∷◌, ℕ, ◌-◌, ltb, eqb, take, drop, Float}
 use Rattle.base.specs.Answers.{Answer, counted}
 use Rattle.base.specs.declared.refusal.Refusal.TheVariants.{ShortStore, Unsound, NoPlace, Vacant}
 use Rattle.base.specs.declared.refusal.Checked.{Checked}

@@ -52,7 +52,7 @@ left_at-left-requires c =
     let p = adopt_passes _ _ _ _ _ _
     c.check_adopt.ensures
     c.in-Passed.is in
-    (p.there.places, p.from)
+    record { fact_1 = p.there.places; fact_2 = p.from }
 
 pub take_floats-requires : goal.take_floats-requires
 take_floats-requires c =
@@ -80,4 +80,4 @@ overflow_cast-result c =
     )
 
 pub overflow_cast-other_words : goal.overflow_cast-other_words
-overflow_cast-other_words c = omega (arith, c.shared_slice_known-then-same_body-2-1.given 1)
+overflow_cast-other_words c = omega (arith, c.type_inv.other_words 1)

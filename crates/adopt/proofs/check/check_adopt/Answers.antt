@@ -1,9 +1,8 @@
 -- `adopt::check::check_adopt` meets its contract. Assumes nothing.
 use mathlib.Core.Path.{refl}
 use native.Mathlib.Omega.{arith}
-use mathlib.Core.Bool.{◌&&◌}
 use lib.Dec.{ltb}
-use borrow.Author.Tests.{not-true, not-false, eq-eqb, ne_eqb, ltb-true}
+use borrow.Author.Tests.{eq-eqb, ne_eqb, ltb-true}
 use Rattle.layout.specs.Layout.{place_limit}
 use Rattle.layout.specs.SoundLaws.{both}
 use Rattle.adopt.specs.Adopt.{adopt_check}
@@ -29,7 +28,7 @@ returns-then-not-there c =
     rw (
       on c.long_enough.ensures c.long_enough-2.ensures c.if-not-long.false,
       on c.words_sound.ensures c.words_sound-2.ensures c.if-not-sound.false,
-      not-true (ltb a.place place_limit && ltb a.other_place place_limit) c.if-not-there.true,
+      c.if-not-there.true,
     ) refl
 
 pub returns-then-other_words-other_place-eq0 : goal.returns-then-other_words-other_place-eq0
@@ -39,7 +38,7 @@ returns-then-other_words-other_place-eq0 c =
     rw (
       on c.long_enough.ensures c.long_enough-2.ensures c.if-not-long.false,
       on c.words_sound.ensures c.words_sound-2.ensures c.if-not-sound.false,
-      not-false (ltb a.place place_limit && ltb a.other_place place_limit) c.if-not-there.false,
+      c.if-not-there.false,
       eq-eqb _ _ c.if-other_words-other_place-eq0.true,
     ) refl
 
@@ -50,7 +49,7 @@ returns c =
     rw (
       on c.long_enough.ensures c.long_enough-2.ensures c.if-not-long.false,
       on c.words_sound.ensures c.words_sound-2.ensures c.if-not-sound.false,
-      not-false (ltb a.place place_limit && ltb a.other_place place_limit) c.if-not-there.false,
+      c.if-not-there.false,
       ne_eqb _ _ c.if-other_words-other_place-eq0.false,
     ) refl
 

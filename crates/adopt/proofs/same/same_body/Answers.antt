@@ -1,10 +1,8 @@
 -- `adopt::same::same_body` meets its contract. Assumes nothing.
 use mathlib.Core.Path.{refl, sym, ◌∙◌}
 use mathlib.Core.Bool.{true, false}
-use native.Mathlib.Omega.{arith}
-use borrow.Author.Tests.{not-true}
 use Rattle.adopt.specs.Adopt.{same_body_lem}
-use Rattle.adopt.proofs.Bodies.{counts_same_lem, same-counts, the_rest-same}
+use Rattle.adopt.proofs.Bodies.{the_rest-same}
 use Rattle.adopt.proofs.same.same_body.Goals as goal
 
 pub returns-then-not-same_float : goal.returns-then-not-same_float
@@ -14,11 +12,7 @@ returns-then-not-same_float c = rw (sym c.same_float.ensures ∙ c.if-not-same_f
 pub returns-then-not-counts : goal.returns-then-not-counts
 unfolding same_body_lem
 returns-then-not-counts c =
-    let a = c.args in
-    rw (
-      sym c.same_float.ensures ∙ c.if-not-same_float.false,
-      not-true (counts_same_lem a.words.now a.other-words.now) c.if-not-counts.true,
-    ) refl
+    rw (sym c.same_float.ensures ∙ c.if-not-same_float.false, c.if-not-counts.true) refl
 
 pub returns-then-not-same_floats : goal.returns-then-not-same_floats
 returns-then-not-same_floats c =
@@ -29,19 +23,3 @@ pub returns : goal.returns
 returns c =
     the_rest-same _ _ _ _ true _ c.same_float.ensures c.if-not-same_float.false c.if-not-counts.false
     (sym (c.if-not-same_floats.false) ∙ c.same_floats.ensures) c.same_words.ensures
-
-part-same-floats-end-2 : tie.Need-slice-bounds-same-floats-end-2
-part-same-floats-end-2 c =
-    let n = c.before.before in
-    let a = n.before.before.before.before.before.before.before.before.before.before.before.before.before.args in
-    omega (arith, same-counts a.words.now a.other-words.now n.if2.false)
-
--- TODO no goal of this name
-
-part-same-words-end-2 : tie.Need-slice-bounds-same-words-end-2
-part-same-words-end-2 c =
-    let n = c.before.before.before.before.before.before.before in
-    let a = n.before.before.before.before.before.before.before.before.before.before.before.before.before.args in
-    omega (arith, same-counts a.words.now a.other-words.now n.if2.false)
-
--- TODO no goal of this name

@@ -7,15 +7,24 @@ use Rattle.closed.proofs.gather.gather.Goals as goal
 pub take_faces-batch-requires : goal.take_faces-batch-requires
 take_faces-batch-requires c =
     let l = c.loop-from in
-    let p = c.requires in (
-      (omega arith, l.invariant.3, omega arith, p.fact_1, l.invariant.1),
-      (p.fact_2, (p.fact_3, l.invariant.5)),
-    )
+    let p = c.requires in
+    record {
+      fact_1 = (omega arith, l.invariant.3, omega arith, p.fact_1, l.invariant.1);
+      fact_2 = p.fact_2;
+      fact_3 = p.fact_3;
+      fact_4 = l.invariant.5;
+    }
 
 pub take_faces-requires : goal.take_faces-requires
 take_faces-requires c =
     let l = c.loop-from in
-    let p = c.requires in record { fact_1 = (omega arith, l.invariant.3, omega arith, p.fact_1, l.invariant.1); fact_2 = p.fact_2; fact_3 = p.fact_3; fact_4 = l.invariant.5 }
+    let p = c.requires in
+    record {
+      fact_1 = (omega arith, l.invariant.3, omega arith, p.fact_1, l.invariant.1);
+      fact_2 = p.fact_2;
+      fact_3 = p.fact_3;
+      fact_4 = l.invariant.5;
+    }
 
 pub loop-from-preserved : goal.loop-from-preserved
 loop-from-preserved c =

@@ -13,8 +13,4 @@ returns c =
 
 pub overflow_mul-end : goal.overflow_mul-end
 overflow_mul-end c =
-    omega (
-      arith,
-      c.slice_known-3-1.given
-          (c.args.batch.count / 2),
-    )
+    omega (arith, c.order.type_inv.words (c.args.batch.count / 2))

@@ -29,7 +29,7 @@ list_near-near-requires c =
 pub make_room-room-requires : goal.make_room-room-requires
 make_room-room-requires c =
     let p = c.requires in
-    (omega (arith, c.list_near-near.ensures.0, p.fact_1.0), p.fact_4.sound)
+    record { fact_1 = omega (arith, c.list_near-near.ensures.0, p.fact_1.0); fact_2 = p.fact_4.sound }
 
 pub loop-k-init : goal.loop-k-init
 loop-k-init c =

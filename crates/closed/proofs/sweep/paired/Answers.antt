@@ -15,7 +15,7 @@ returns-then-x-ne0 c = (
 )
 
 pub overflow_add-x : goal.overflow_add-x
-overflow_add-x c = omega (arith, c.shared_slice_known-in-loop-i-1.given c.loop-i.i)
+overflow_add-x c = omega (arith, c.type_inv.words c.loop-i.i)
 
 pub returns-then-y-x : goal.returns-then-y-x
 returns-then-y-x c = (

@@ -8,16 +8,13 @@ use Rattle.closed.proofs.sweep.sweep.Goals as goal
 
 pub gather-batch-requires : goal.gather-batch-requires
 gather-batch-requires c =
-    let n = c.next_range-empty.ensures in (
-      omega arith,
-      (
-        c.requires.fact_2,
-        (
-          c.summarize.ensures,
-          gathered_none n.0 n.3 c.loop-low.invariant.2 (omega (arith, n.2)) n.1,
-        ),
-      ),
-    )
+    let n = c.next_range-empty.ensures in
+    record {
+      fact_1 = omega arith;
+      fact_2 = c.requires.fact_2;
+      fact_3 = c.summarize.ensures;
+      fact_4 = gathered_none n.0 n.3 c.loop-low.invariant.2 (omega (arith, n.2)) n.1;
+    }
 
 pub order-requires : goal.order-requires
 order-requires c =

@@ -8,4 +8,4 @@ vertex-requires c =
     c.requires.fact_1.corner c.args.k c.requires.fact_2
 
 pub overflow_cast-faces : goal.overflow_cast-faces
-overflow_cast-faces c = omega (arith, c.shared_slice_known-3-1.given c.args.k)
+overflow_cast-faces c = omega (arith, c.type_inv.faces c.args.k)
