@@ -6,54 +6,57 @@ ghost use Rattle.session.specs.Session.{Small, session, idle};
 ghost use Rattle.program.specs.Bytes.{held_with, held_after};
 ghost use Rattle.program.specs.Bench.{held_at_first, Reached};
 
-use libc::{EAGAIN, EINTR, STDIN_FILENO, STDOUT_FILENO};
 use program::State;
+use std::io::{self, ErrorKind, Read};
+use std::thread;
+use std::time::{Clock, Duration};
 
 // Whether a call that failed is to be made again: a signal interrupted it, or its file is one that is never
-// waited for. The kit has no call that waits for such a file, so others run first.
-fn again() -> bool {
-    let error = os::errno();
-    if error == EAGAIN {
-        libc::sched_yield();
+// waited for. The library has no call that waits for such a file, so others run first.
+fn again(rt: &impl Clock, error: &io::Error) -> bool {
+    let kind = error.kind();
+    if kind == ErrorKind::WouldBlock {
+        thread::sleep(rt, Duration::ZERO);
         return true;
     }
-    error == EINTR
+    kind == ErrorKind::Interrupted
 }
 
 // Whether a read that answered `got` was the last: the input ended or cannot be read.
-fn ended(got: isize) -> bool {
-    if got < 0 {
-        return !again();
+fn ended(rt: &impl Clock, got: &io::Result<usize>) -> bool {
+    match got {
+        Ok(n) => *n == 0,
+        Err(error) => !again(rt, error),
     }
-    got == 0
 }
 
 // Writes some of these bytes, and answers how many; 0 where none can be written.
-fn write_some(bytes: &[u8]) -> usize
+fn write_some(rt: &(impl Print + Clock), bytes: &[u8]) -> usize
     ensures { result ≤ length bytes.now }
 {
     let mut turns = u64::MAX;
     while turns > 0 {
         turns -= 1;
-        let put = libc::write(STDOUT_FILENO, bytes);
-        if put >= 0 {
-            return io::count(put, bytes);
-        }
-        if !again() {
-            return 0;
+        match rt.write_some(bytes) {
+            Ok(put) => return put,
+            Err(error) => {
+                if !again(rt, &error) {
+                    return 0;
+                }
+            }
         }
     }
     0
 }
 
 // Writes the first `n` bytes of `out`; false where they cannot be written.
-fn say(out: &[u8], n: usize) -> bool {
+fn say(rt: &(impl Print + Clock), out: &[u8], n: usize) -> bool {
     if n > out.len() {
         return false;
     }
     let mut done: usize = 0;
     while done < n {
-        let more = write_some(&out[done..n]);
+        let more = write_some(rt, &out[done..n]);
         if more == 0 {
             return false;
         }
@@ -72,6 +75,7 @@ struct Fed {
 // The first `n` bytes of a chunk, each answer written where its line ends. After an answer that was not written none
 // is. What is held is what some bytes left of the store of zeros, and stays so.
 fn feed_chunk(
+    rt: &(impl Print + Clock),
     st: State,
     chunk: &[u8; 4096],
     n: usize,
@@ -100,7 +104,7 @@ fn feed_chunk(
     let mut i = 0;
     while i < n {
         state = program::feed(state, chunk[i], line, floats, words, coords, corners, out);
-        if !say(out, state.wrote) {
+        if !say(rt, out, state.wrote) {
             return Fed { state, said: false };
         }
         i += 1;
@@ -110,6 +114,7 @@ fn feed_chunk(
 
 // The end of the input, and its answer if it has one.
 fn finish(
+    rt: &(impl Print + Clock),
     st: State,
     line: &[u8; 256],
     floats: &mut [f64; 3261],
@@ -124,12 +129,13 @@ fn finish(
         st.count) }
 {
     let last = program::end(st, line, floats, words, coords, corners, out);
-    say(out, last.wrote);
+    say(rt, out, last.wrote);
 }
 
 // Reads the input to its end and answers its lines, from the store of zeros on. After an answer that was not written
 // nothing is read.
 fn serve(
+    rt: &(impl Input + Print + Clock),
     line: &mut [u8; 256],
     floats: &mut [f64; 3261],
     words: &mut [u32; 3130],
@@ -140,26 +146,27 @@ fn serve(
     requires { held_with (session idle floats.old words.old coords.old corners.old) line.old 0
         ≡ held_at_first }
 {
-    let mut chunk = io::buffer();
+    let mut chunk = [0u8; 4096];
+    let mut input = rt.reader();
     let mut st = program::start();
     let mut turns = u64::MAX;
     while turns > 0 {
         turns -= 1;
-        let got = libc::read(STDIN_FILENO, &mut chunk);
-        if ended(got) {
+        let got = input.read(&mut chunk);
+        if ended(rt, &got) {
             break;
         }
-        let n = io::count(got, &chunk);
-        let fed = feed_chunk(st, &chunk, n, line, floats, words, coords, corners, out);
+        let n = got.unwrap_or(0);
+        let fed = feed_chunk(rt, st, &chunk, n, line, floats, words, coords, corners, out);
         if !fed.said {
             return;
         }
         st = fed.state;
     }
-    finish(st, line, floats, words, coords, corners, out);
+    finish(rt, st, line, floats, words, coords, corners, out);
 }
 
-fn main() {
+fn main(rt: HostRuntime) {
     let mut line = [0u8; 256];
     let mut floats = [0.0f64; 3261];
     let mut words = [0u32; 3130];
@@ -167,6 +174,7 @@ fn main() {
     let mut corners = [0u32; 3000];
     let mut out = [0u8; 512];
     serve(
+        &rt,
         &mut line,
         &mut floats,
         &mut words,

@@ -10,67 +10,75 @@ use pieces::fit::Fit;
 use reports::listing::ListRead;
 use reports::reports::ReportRead;
 use squeeze::squeeze::Squeezed;
+use std::io;
 use store::edit::Edited;
 use store::open::Opened;
 use store::put::Placed;
 use track::tracks::TrackRead;
 
-pub fn say_opened(o: Opened) {
+pub fn say_opened(rt: &impl Print, o: Opened) -> io::Result<()> {
     match o {
-        Opened::Mesh(verts, faces) => say_counts(MESH, verts as u64, faces as u64),
-        Opened::Refused(r) => say_refused(r),
+        Opened::Mesh(verts, faces) => say_counts(rt, MESH, verts as u64, faces as u64),
+        Opened::Refused(r) => say_refused(rt, r),
     }
 }
 
-fn say_fit(fit: Fit) {
+fn say_fit(rt: &impl Print, fit: Fit) -> io::Result<()> {
     match fit {
-        Fit::Kept => say_counts(KEPT, 0, 0),
-        Fit::Fitted(pivot) => say_float(FITTED, pivot),
-        Fit::Fallback(column) => say_counts(FALLBACK, column as u64, 0),
-        Fit::NoExponent => say_counts(NO_EXPONENT, 0, 0),
+        Fit::Kept => say_counts(rt, KEPT, 0, 0),
+        Fit::Fitted(pivot) => say_float(rt, FITTED, pivot),
+        Fit::Fallback(column) => say_counts(rt, FALLBACK, column as u64, 0),
+        Fit::NoExponent => say_counts(rt, NO_EXPONENT, 0, 0),
     }
 }
 
-pub fn say_placed(p: Placed) {
+pub fn say_placed(rt: &impl Print, p: Placed) -> io::Result<()> {
     match p {
         Placed::Needs(pieces, need, fit) => {
-            say_counts(NEEDS, pieces as u64, need as u64);
-            say_fit(fit);
+            say_counts(rt, NEEDS, pieces as u64, need as u64)?;
+            say_fit(rt, fit)
         }
-        Placed::Refused(r) => say_refused(r),
+        Placed::Refused(r) => say_refused(rt, r),
     }
 }
 
-pub fn say_edited(e: Edited) {
+pub fn say_edited(rt: &impl Print, e: Edited) -> io::Result<()> {
     match e {
-        Edited::Done => {}
-        Edited::Refused(r) => say_refused(r),
+        Edited::Done => Ok(()),
+        Edited::Refused(r) => say_refused(rt, r),
     }
 }
 
-pub fn say_advanced(a: Advanced) {
+pub fn say_advanced(rt: &impl Print, a: Advanced) -> io::Result<()> {
     match a {
-        Advanced::Steps { done, left } => say_counts(STEPS, done, left),
-        Advanced::Refused(r) => say_refused(r),
+        Advanced::Steps { done, left } => say_counts(rt, STEPS, done, left),
+        Advanced::Refused(r) => say_refused(rt, r),
     }
 }
 
-pub fn say_squeezed(s: Squeezed) {
+pub fn say_squeezed(rt: &impl Print, s: Squeezed) -> io::Result<()> {
     match s {
-        Squeezed::Freed(n) => say_counts(FREED, n as u64, 0),
-        Squeezed::Refused(r) => say_refused(r),
+        Squeezed::Freed(n) => say_counts(rt, FREED, n as u64, 0),
+        Squeezed::Refused(r) => say_refused(rt, r),
     }
 }
 
-pub fn say_measured(m: Measured) {
+pub fn say_measured(rt: &impl Print, m: Measured) -> io::Result<()> {
     match m {
-        Measured::Value(x) => say_float(VALUE, x),
-        Measured::Refused(r) => say_refused(r),
+        Measured::Value(x) => say_float(rt, VALUE, x),
+        Measured::Refused(r) => say_refused(rt, r),
     }
 }
 
-fn say_masses(mass: MassReport, filled: u32, pieces: u32, error: f64) {
+fn say_masses(
+    rt: &impl Print,
+    mass: MassReport,
+    filled: u32,
+    pieces: u32,
+    error: f64,
+) -> io::Result<()> {
     say(
+        rt,
         MASSES,
         [filled as u64, pieces as u64],
         [
@@ -83,38 +91,38 @@ fn say_masses(mass: MassReport, filled: u32, pieces: u32, error: f64) {
             mass.volume,
             error,
         ],
-    );
+    )
 }
 
-pub fn say_reported(d: ReportRead) {
+pub fn say_reported(rt: &impl Print, d: ReportRead) -> io::Result<()> {
     match d {
         ReportRead::Report {
             mass,
             filled,
             pieces,
             error,
-        } => say_masses(mass, filled, pieces, error),
-        ReportRead::Refused(r) => say_refused(r),
+        } => say_masses(rt, mass, filled, pieces, error),
+        ReportRead::Refused(r) => say_refused(rt, r),
     }
 }
 
-pub fn say_listed(l: ListRead) {
+pub fn say_listed(rt: &impl Print, l: ListRead) -> io::Result<()> {
     match l {
-        ListRead::Pieces(n) => say_counts(PIECES, n as u64, 0),
-        ListRead::Refused(r) => say_refused(r),
+        ListRead::Pieces(n) => say_counts(rt, PIECES, n as u64, 0),
+        ListRead::Refused(r) => say_refused(rt, r),
     }
 }
 
-pub fn say_tracked(t: TrackRead) {
+pub fn say_tracked(rt: &impl Print, t: TrackRead) -> io::Result<()> {
     match t {
-        TrackRead::Points(n) => say_counts(POINTS, n as u64, 0),
-        TrackRead::Refused(r) => say_refused(r),
+        TrackRead::Points(n) => say_counts(rt, POINTS, n as u64, 0),
+        TrackRead::Refused(r) => say_refused(rt, r),
     }
 }
 
-pub fn say_paged(p: Printed) {
+pub fn say_paged(rt: &impl Print, p: Printed) -> io::Result<()> {
     match p {
-        Printed::Bytes(n) => say_counts(BYTES, n, 0),
-        Printed::Refused(r) => say_refused(r),
+        Printed::Bytes(n) => say_counts(rt, BYTES, n, 0),
+        Printed::Refused(r) => say_refused(rt, r),
     }
 }

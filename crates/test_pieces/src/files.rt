@@ -4,6 +4,7 @@ ghost use Rattle.std.specs.Prelude.{◌<◌};
 use crate::tables::{FILES, GIVEN};
 use base::floats::from_pattern;
 use kernel::file::{Exponent, Kilometres, kernel_from_file};
+use std::io;
 use test_words::{put_call, put_end, put_float};
 
 // Float j of file kernel i.
@@ -22,7 +23,7 @@ fn file_exponent(i: usize) -> Exponent
     Exponent::Missing
 }
 
-fn put_file(i: usize)
+fn put_file(rt: &impl Print, i: usize) -> io::Result<()>
     requires { i < 15 }
 {
     let lengths = Kilometres(
@@ -35,19 +36,20 @@ fn put_file(i: usize)
         file_exponent(i),
         file_float(i, 6),
     );
-    put_call(b"file", i);
-    put_float(k.c[0]);
-    put_float(k.c[1]);
-    put_float(k.c[2]);
-    put_float(k.sigma);
-    put_float(k.w);
-    put_float(k.alpha);
-    put_end();
+    put_call(rt, b"file", i)?;
+    put_float(rt, k.c[0])?;
+    put_float(rt, k.c[1])?;
+    put_float(rt, k.c[2])?;
+    put_float(rt, k.sigma)?;
+    put_float(rt, k.w)?;
+    put_float(rt, k.alpha)?;
+    put_end(rt)
 }
 
 // All file kernels.
-pub fn put_files() {
+pub fn put_files(rt: &impl Print) -> io::Result<()> {
     for i in 0..15usize {
-        put_file(i);
+        put_file(rt, i)?;
     }
+    Ok(())
 }

@@ -4,32 +4,33 @@ use crate::lines::put_end_of_fit;
 use crate::tables::FITS;
 use base::floats::from_pattern;
 use kernel::kernel::Kernel;
-use libc::STDOUT_FILENO;
 use pieces::pieces::{Pieces, decompose};
+use std::io;
 use test_words::{put_bits, put_end, put_float, put_number};
 
 // Writes the line of one piece.
-fn put_piece(sigma: f64, coefficient: f64) {
-    io::write_all(STDOUT_FILENO, b"piece");
-    put_float(sigma);
-    put_float(coefficient);
-    put_end();
+fn put_piece(rt: &impl Print, sigma: f64, coefficient: f64) -> io::Result<()> {
+    print!(rt; "piece")?;
+    put_float(rt, sigma)?;
+    put_float(rt, coefficient)?;
+    put_end(rt)
 }
 
 // Writes the lines of the pieces.
-fn put_pieces(p: Pieces) {
+fn put_pieces(rt: &impl Print, p: Pieces) -> io::Result<()> {
     let count = p.count;
     let sigma = p.sigma;
     let coefficient = p.coefficient;
     for i in 0..16 {
         if i < count {
-            put_piece(sigma[i], coefficient[i]);
+            put_piece(rt, sigma[i], coefficient[i])?;
         }
     }
+    Ok(())
 }
 
 // Writes the lines of the fit of these bits.
-fn put_fit(sigma: u64, alpha: u64, radius: u64) {
+fn put_fit(rt: &impl Print, sigma: u64, alpha: u64, radius: u64) -> io::Result<()> {
     let k = Kernel {
         c: [0.0; 3],
         sigma: from_pattern(sigma),
@@ -39,20 +40,21 @@ fn put_fit(sigma: u64, alpha: u64, radius: u64) {
     let d = decompose(k, from_pattern(radius));
     let p = d.pieces;
     let fit = d.fit;
-    io::write_all(STDOUT_FILENO, b"fit");
-    put_bits(sigma);
-    put_bits(alpha);
-    put_bits(radius);
-    put_number(p.count as u64);
-    put_float(p.error);
-    put_end_of_fit(fit);
-    put_end();
-    put_pieces(p);
+    print!(rt; "fit")?;
+    put_bits(rt, sigma)?;
+    put_bits(rt, alpha)?;
+    put_bits(rt, radius)?;
+    put_number(rt, p.count as u64)?;
+    put_float(rt, p.error)?;
+    put_end_of_fit(rt, fit)?;
+    put_end(rt)?;
+    put_pieces(rt, p)
 }
 
 // All the fits.
-pub fn put_fits() {
+pub fn put_fits(rt: &impl Print) -> io::Result<()> {
     for i in 0..FITS.len() / 3 {
-        put_fit(FITS[3 * i], FITS[3 * i + 1], FITS[3 * i + 2]);
+        put_fit(rt, FITS[3 * i], FITS[3 * i + 1], FITS[3 * i + 2])?;
     }
+    Ok(())
 }

@@ -1,43 +1,45 @@
 // The parts of a line.
 ghost use Rattle.std.specs.Prelude.{◌≤◌};
 
-use libc::STDOUT_FILENO;
 use pieces::fit::Fit;
+use std::io;
 use test_words::{put_call, put_end, put_float, put_number};
 
 // Writes a call's name, its row in the tables, how many floats it is given, and how many are lent to it.
-pub fn put_sizes(name: &[u8], row: usize, count: usize, room: usize) {
-    put_call(name, row);
-    put_number(count as u64);
-    put_number(room as u64);
+pub fn put_sizes(
+    rt: &impl Print,
+    name: &[u8],
+    row: usize,
+    count: usize,
+    room: usize,
+) -> io::Result<()> {
+    put_call(rt, name, row)?;
+    put_number(rt, count as u64)?;
+    put_number(rt, room as u64)
 }
 
 // Writes how a fit ended.
-pub fn put_end_of_fit(fit: Fit) {
+pub fn put_end_of_fit(rt: &impl Print, fit: Fit) -> io::Result<()> {
     match fit {
-        Fit::Kept => {
-            io::write_all(STDOUT_FILENO, b" kept");
-        }
+        Fit::Kept => print!(rt; " kept"),
         Fit::Fitted(pivot) => {
-            io::write_all(STDOUT_FILENO, b" fitted");
-            put_float(pivot);
+            print!(rt; " fitted")?;
+            put_float(rt, pivot)
         }
         Fit::Fallback(column) => {
-            io::write_all(STDOUT_FILENO, b" fallback");
-            put_number(column as u64);
+            print!(rt; " fallback")?;
+            put_number(rt, column as u64)
         }
-        Fit::NoExponent => {
-            io::write_all(STDOUT_FILENO, b" no-exponent");
-        }
+        Fit::NoExponent => print!(rt; " no-exponent"),
     }
 }
 
 // Writes the words of a run, and ends the line.
-pub fn put_run(words: &[f64]) {
+pub fn put_run(rt: &impl Print, words: &[f64]) -> io::Result<()> {
     for i in 0..words.len() {
-        put_float(words[i]);
+        put_float(rt, words[i])?;
     }
-    put_end();
+    put_end(rt)
 }
 
 // n, or the most that there can be.

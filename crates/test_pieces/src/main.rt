@@ -13,11 +13,13 @@ mod systems;
 mod tables;
 mod written;
 
-fn main() {
-    fits::put_fits();
-    systems::put_systems();
-    systems::put_all_grown();
-    files::put_files();
-    written::put_all_into();
-    written::put_lists();
+use std::io;
+
+fn main(rt: HostRuntime) -> io::Result<()> {
+    fits::put_fits(&rt)?;
+    systems::put_systems(&rt)?;
+    systems::put_all_grown(&rt)?;
+    files::put_files(&rt)?;
+    written::put_all_into(&rt)?;
+    written::put_lists(&rt)
 }

@@ -8,24 +8,25 @@ use crate::tables::{SYSTEM_CELLS, SYSTEM_SIZES};
 use base::floats::from_pattern;
 use base::refusal::Refusal;
 use solve::{Solve, solve_linear_system};
+use std::io;
 use test_words::{put_float, put_number, put_refusal};
 
 // Ends the line of a system.
-fn put_solved(n: usize, cells: &[f64], answer: &mut [f64]) {
-    put_number(n as u64);
+fn put_solved(rt: &impl Print, n: usize, cells: &[f64], answer: &mut [f64]) -> io::Result<()> {
+    put_number(rt, n as u64)?;
     let told = solve_linear_system(n, cells, answer);
     match told {
         Solve::Solved(pivot) => {
-            put_number(0);
-            put_float(pivot);
+            put_number(rt, 0)?;
+            put_float(rt, pivot)?;
         }
         Solve::Flat(column) => {
-            put_refusal(Refusal::FlatPivot);
-            put_number(column as u64);
+            put_refusal(rt, Refusal::FlatPivot)?;
+            put_number(rt, column as u64)?;
         }
-        Solve::Refused(refusal) => put_refusal(refusal),
+        Solve::Refused(refusal) => put_refusal(rt, refusal)?,
     }
-    put_run(answer);
+    put_run(rt, answer)
 }
 
 // The cells of system i.
@@ -54,22 +55,28 @@ fn answer_room(i: usize) -> usize
     at_most(SYSTEM_SIZES[3 * i + 2], 17)
 }
 
-fn put_system(i: usize)
+fn put_system(rt: &impl Print, i: usize) -> io::Result<()>
     requires { i < 42 }
 {
     let cells = load_cells(i);
     let count = cell_count(i);
     let room = answer_room(i);
-    put_sizes(b"solve", i, count, room);
+    put_sizes(rt, b"solve", i, count, room)?;
     let mut answer = [7.0; 17];
-    put_solved(SYSTEM_SIZES[3 * i], &cells[..count], &mut answer[..room]);
+    put_solved(
+        rt,
+        SYSTEM_SIZES[3 * i],
+        &cells[..count],
+        &mut answer[..room],
+    )
 }
 
 // The systems of the table.
-pub fn put_systems() {
+pub fn put_systems(rt: &impl Print) -> io::Result<()> {
     for i in 0..42usize {
-        put_system(i);
+        put_system(rt, i)?;
     }
+    Ok(())
 }
 
 // The cells of the systems that grow: 1, 1/2, 1/3 and so on.
@@ -82,20 +89,21 @@ fn reciprocals() -> [f64; 306] {
 }
 
 // The system of n rows, `count` cells in all.
-fn put_grown(n: usize, count: usize)
+fn put_grown(rt: &impl Print, n: usize, count: usize) -> io::Result<()>
     requires { count ≤ 306 }
 {
     let cells = reciprocals();
-    put_sizes(b"grown", n, count, 17);
+    put_sizes(rt, b"grown", n, count, 17)?;
     let mut answer = [7.0; 17];
-    put_solved(n, &cells[..count], &mut answer);
+    put_solved(rt, n, &cells[..count], &mut answer)
 }
 
 // A system of each size, and one that is too large.
-pub fn put_all_grown() {
+pub fn put_all_grown(rt: &impl Print) -> io::Result<()> {
     let mut count = 0;
     for n in 0..18usize {
-        put_grown(n, at_most(count, 306));
+        put_grown(rt, n, at_most(count, 306))?;
         count += 2 * (n + 1);
     }
+    Ok(())
 }

@@ -9,21 +9,22 @@ use base::floats::from_pattern;
 use kernel::kernel::Kernel;
 use pieces::kernels::{Decomposed, decompose_into};
 use pieces::lists::{DecomposedList, decompose_list};
+use std::io;
 use test_words::{put_float, put_number, put_refusal};
 
 // Ends the line of one kernel's pieces.
-fn put_decomposed(k: Kernel, radius: f64, out: &mut [f64]) {
+fn put_decomposed(rt: &impl Print, k: Kernel, radius: f64, out: &mut [f64]) -> io::Result<()> {
     let told = decompose_into(k, radius, out);
     match told {
         Decomposed::Written(pieces, error, fit) => {
-            put_number(0);
-            put_number(pieces as u64);
-            put_float(error);
-            put_end_of_fit(fit);
+            put_number(rt, 0)?;
+            put_number(rt, pieces as u64)?;
+            put_float(rt, error)?;
+            put_end_of_fit(rt, fit)?;
         }
-        Decomposed::Refused(refusal) => put_refusal(refusal),
+        Decomposed::Refused(refusal) => put_refusal(rt, refusal)?,
     }
-    put_run(out);
+    put_run(rt, out)
 }
 
 // Kernel i of the table.
@@ -38,25 +39,26 @@ fn load_kernel(i: usize) -> Kernel
     }
 }
 
-fn put_into(i: usize)
+fn put_into(rt: &impl Print, i: usize) -> io::Result<()>
     requires { i < 12 }
 {
     let k = load_kernel(i);
     let room = at_most(INTO_ROOM[i], 98);
-    put_sizes(b"into", i, 6, room);
+    put_sizes(rt, b"into", i, 6, room)?;
     let mut out = [7.0; 98];
-    put_decomposed(k, from_pattern(INTO[4 * i + 3]), &mut out[..room]);
+    put_decomposed(rt, k, from_pattern(INTO[4 * i + 3]), &mut out[..room])
 }
 
 // The pieces of each kernel of the table.
-pub fn put_all_into() {
+pub fn put_all_into(rt: &impl Print) -> io::Result<()> {
     for i in 0..12usize {
-        put_into(i);
+        put_into(rt, i)?;
     }
+    Ok(())
 }
 
 // Ends the line of a list's pieces.
-fn put_listed(kernels: &[f64], radius: f64, out: &mut [f64]) {
+fn put_listed(rt: &impl Print, kernels: &[f64], radius: f64, out: &mut [f64]) -> io::Result<()> {
     let told = decompose_list(kernels, radius, out);
     match told {
         DecomposedList::Written {
@@ -64,14 +66,14 @@ fn put_listed(kernels: &[f64], radius: f64, out: &mut [f64]) {
             pieces,
             error,
         } => {
-            put_number(0);
-            put_number(kernels as u64);
-            put_number(pieces as u64);
-            put_float(error);
+            put_number(rt, 0)?;
+            put_number(rt, kernels as u64)?;
+            put_number(rt, pieces as u64)?;
+            put_float(rt, error)?;
         }
-        DecomposedList::Refused(refusal) => put_refusal(refusal),
+        DecomposedList::Refused(refusal) => put_refusal(rt, refusal)?,
     }
-    put_run(out);
+    put_run(rt, out)
 }
 
 // The floats of list i.
@@ -100,24 +102,26 @@ fn list_room(i: usize) -> usize
     at_most(LIST_SIZES[2 * i + 1], 192)
 }
 
-fn put_list(i: usize)
+fn put_list(rt: &impl Print, i: usize) -> io::Result<()>
     requires { i < 13 }
 {
     let list = load_list(i);
     let count = list_count(i);
     let room = list_room(i);
-    put_sizes(b"list", i, count, room);
+    put_sizes(rt, b"list", i, count, room)?;
     let mut out = [7.0; 192];
     put_listed(
+        rt,
         &list[..count],
         from_pattern(LISTS[19 * i + 18]),
         &mut out[..room],
-    );
+    )
 }
 
 // The pieces of each list of the table.
-pub fn put_lists() {
+pub fn put_lists(rt: &impl Print) -> io::Result<()> {
     for i in 0..13usize {
-        put_list(i);
+        put_list(rt, i)?;
     }
+    Ok(())
 }

@@ -5,12 +5,12 @@
 #![tactic(auto)]
 
 use base::floats::{from_pattern, to_pattern};
-use libc::STDOUT_FILENO;
 use powers::arc::arc;
 use powers::exp::exp;
 use powers::log::log;
 use powers::power::{log10, power, ten};
 use root::root;
+use std::io;
 
 const ARGUMENTS: [u64; 161] = [
     0x0000_0000_0000_0000, // +0
@@ -370,54 +370,55 @@ const PAIRS: [u64; 190] = [
 ];
 
 // Writes a space and the 16 digits of bits.
-fn put(bits: u64) {
-    io::write_all(STDOUT_FILENO, b" ");
-    io::print_hex(STDOUT_FILENO, bits, 16);
+fn put(rt: &impl Print, bits: u64) -> io::Result<()> {
+    print!(rt; " {bits:016x}")
 }
 
 // Writes the line of a function of one argument.
-fn put_line(name: &[u8], argument: u64, answer: f64) {
-    io::write_all(STDOUT_FILENO, name);
-    put(argument);
-    put(to_pattern(answer));
-    io::write_all(STDOUT_FILENO, b"\n");
+fn put_line(rt: &impl Print, name: &[u8], argument: u64, answer: f64) -> io::Result<()> {
+    rt.write_all(name)?;
+    put(rt, argument)?;
+    put(rt, to_pattern(answer))?;
+    print!(rt; "\n")
 }
 
 // Writes the lines of the six functions of one argument.
-fn put_six(argument: u64) {
+fn put_six(rt: &impl Print, argument: u64) -> io::Result<()> {
     let x = from_pattern(argument);
-    put_line(b"root", argument, root(x));
-    put_line(b"arc", argument, arc(x));
-    put_line(b"log", argument, log(x));
-    put_line(b"exp", argument, exp(x));
-    put_line(b"ten", argument, ten(x));
-    put_line(b"log10", argument, log10(x));
+    put_line(rt, b"root", argument, root(x))?;
+    put_line(rt, b"arc", argument, arc(x))?;
+    put_line(rt, b"log", argument, log(x))?;
+    put_line(rt, b"exp", argument, exp(x))?;
+    put_line(rt, b"ten", argument, ten(x))?;
+    put_line(rt, b"log10", argument, log10(x))
 }
 
 // Writes the line of the power b to the y.
-fn put_power(b: u64, y: u64) {
-    io::write_all(STDOUT_FILENO, b"power");
-    put(b);
-    put(y);
-    put(to_pattern(power(from_pattern(b), from_pattern(y))));
-    io::write_all(STDOUT_FILENO, b"\n");
+fn put_power(rt: &impl Print, b: u64, y: u64) -> io::Result<()> {
+    print!(rt; "power")?;
+    put(rt, b)?;
+    put(rt, y)?;
+    put(rt, to_pattern(power(from_pattern(b), from_pattern(y))))?;
+    print!(rt; "\n")
 }
 
 // The six functions over all the arguments.
-fn put_arguments() {
+fn put_arguments(rt: &impl Print) -> io::Result<()> {
     for i in 0..ARGUMENTS.len() {
-        put_six(ARGUMENTS[i]);
+        put_six(rt, ARGUMENTS[i])?;
     }
+    Ok(())
 }
 
 // The power over all the pairs.
-fn put_pairs() {
+fn put_pairs(rt: &impl Print) -> io::Result<()> {
     for i in 0..PAIRS.len() / 2 {
-        put_power(PAIRS[2 * i], PAIRS[2 * i + 1]);
+        put_power(rt, PAIRS[2 * i], PAIRS[2 * i + 1])?;
     }
+    Ok(())
 }
 
-fn main() {
-    put_arguments();
-    put_pairs();
+fn main(rt: HostRuntime) -> io::Result<()> {
+    put_arguments(&rt)?;
+    put_pairs(&rt)
 }

@@ -6,46 +6,46 @@
 ghost use Rattle.std.specs.Prelude.{◌≤◌};
 
 use base::floats::abs;
-use libc::STDOUT_FILENO;
 use mesh::dunavant::{
     INNER_ONE, INNER_TWO, INNER_WEIGHT, MIDDLE_WEIGHT, Node, OUTER_ONE, OUTER_TWO, OUTER_WEIGHT,
     THIRD, node_at, point_of,
 };
 use mesh::triangles::Triangle;
 use mesh::vectors::V3;
+use std::io;
 use test_words::{put_end, put_float, put_number};
 
 // Ends a line: whether a difference is at most so much.
-fn put_verdict(off: f64, most: f64) {
+fn put_verdict(rt: &impl Print, off: f64, most: f64) -> io::Result<()> {
     if abs(off) <= most {
-        io::write_all(STDOUT_FILENO, b" ok");
+        print!(rt; " ok")?;
     } else {
-        io::write_all(STDOUT_FILENO, b" off");
+        print!(rt; " off")?;
     }
-    put_end();
+    put_end(rt)
 }
 
 // Writes a figure and how far it lies from the printed one, in units of the 15th decimal; half of one
 // is what the printing has lost.
-fn put_figure(name: &[u8], x: f64, printed: f64) {
+fn put_figure(rt: &impl Print, name: &[u8], x: f64, printed: f64) -> io::Result<()> {
     let off = x * 1e15 - printed;
-    io::write_all(STDOUT_FILENO, b"dunavant ");
-    io::write_all(STDOUT_FILENO, name);
-    put_float(x);
-    put_float(off);
-    put_verdict(off, 0.5);
+    print!(rt; "dunavant ")?;
+    rt.write_all(name)?;
+    put_float(rt, x)?;
+    put_float(rt, off)?;
+    put_verdict(rt, off, 0.5)
 }
 
 // The weights and the corners' shares.
-pub fn put_figures() {
-    put_figure(b"middle-weight", MIDDLE_WEIGHT, 225000000000000.0);
-    put_figure(b"inner-weight", INNER_WEIGHT, 132394152788506.0);
-    put_figure(b"outer-weight", OUTER_WEIGHT, 125939180544827.0);
-    put_figure(b"third", THIRD, 333333333333333.0);
-    put_figure(b"inner-one", INNER_ONE, 59715871789770.0);
-    put_figure(b"inner-two", INNER_TWO, 470142064105115.0);
-    put_figure(b"outer-one", OUTER_ONE, 797426985353087.0);
-    put_figure(b"outer-two", OUTER_TWO, 101286507323456.0);
+pub fn put_figures(rt: &impl Print) -> io::Result<()> {
+    put_figure(rt, b"middle-weight", MIDDLE_WEIGHT, 225000000000000.0)?;
+    put_figure(rt, b"inner-weight", INNER_WEIGHT, 132394152788506.0)?;
+    put_figure(rt, b"outer-weight", OUTER_WEIGHT, 125939180544827.0)?;
+    put_figure(rt, b"third", THIRD, 333333333333333.0)?;
+    put_figure(rt, b"inner-one", INNER_ONE, 59715871789770.0)?;
+    put_figure(rt, b"inner-two", INNER_TWO, 470142064105115.0)?;
+    put_figure(rt, b"outer-one", OUTER_ONE, 797426985353087.0)?;
+    put_figure(rt, b"outer-two", OUTER_TWO, 101286507323456.0)
 }
 
 // x to the power n, as a product.
@@ -99,31 +99,33 @@ fn moment(i: u32, j: u32) -> f64 {
 }
 
 // Writes a moment beside the exact mean, 2·i!·j!/(i+j+2)!, and whether they differ by at most 1e-15.
-fn put_moment(i: u32, degree: u32)
+fn put_moment(rt: &impl Print, i: u32, degree: u32) -> io::Result<()>
     requires { (i ≤ degree) × (degree ≤ 5) }
 {
     let j = degree - i;
     let sum = moment(i, j);
     let exact = 2.0 * factorial(i) * factorial(j) / factorial(degree + 2);
-    io::write_all(STDOUT_FILENO, b"moment");
-    put_number(i as u64);
-    put_number(j as u64);
-    put_float(sum);
-    put_float(exact);
-    put_verdict(sum - exact, 1e-15);
+    print!(rt; "moment")?;
+    put_number(rt, i as u64)?;
+    put_number(rt, j as u64)?;
+    put_float(rt, sum)?;
+    put_float(rt, exact)?;
+    put_verdict(rt, sum - exact, 1e-15)
 }
 
-fn put_degree(degree: u32)
+fn put_degree(rt: &impl Print, degree: u32) -> io::Result<()>
     requires { degree ≤ 5 }
 {
     for i in 0..degree + 1 {
-        put_moment(i, degree);
+        put_moment(rt, i, degree)?;
     }
+    Ok(())
 }
 
 // The moments of degree 0 to 5, of which the rule has all.
-pub fn put_moments() {
+pub fn put_moments(rt: &impl Print) -> io::Result<()> {
     for degree in 0..6u32 {
-        put_degree(degree);
+        put_degree(rt, degree)?;
     }
+    Ok(())
 }

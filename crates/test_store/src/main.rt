@@ -7,6 +7,8 @@
 // mesh of 25 MB no program's stack holds; the comparison of the store in oracle/ has it.
 #![tactic(auto)]
 
+ghost use Rattle.std.specs.Prelude.{◌≤◌, length, IfOk};
+
 mod body;
 mod edits;
 mod reads;
@@ -15,17 +17,30 @@ use crate::edits::{
     Floats, Words, run_advance, run_clear, run_open, run_put, run_reweigh, run_squeeze, run_write,
 };
 use crate::reads::{run_density, run_list, run_page, run_report, run_track};
-use libc::{STDIN_FILENO, STDOUT_FILENO};
+use std::io::{self, Read};
 use test_lines::line::say_runs;
 use test_lines::script::{Line, convention, line_of, next};
 
 // A call that reads, by the third letter of its name.
-fn read(floats: &[f64], words: &[u32], c: Line) {
+fn read(rt: &impl Print, floats: &[f64], words: &[u32], c: Line) -> io::Result<()> {
     let third = c.third;
     match third {
-        b'n' => run_density(floats, words, convention(c.n2, c.n3, c.x2, c.x3), c.layers),
-        b'p' => run_report(floats, words, convention(c.n2, c.n3, c.x2, c.x3), c.layers),
+        b'n' => run_density(
+            rt,
+            floats,
+            words,
+            convention(c.n2, c.n3, c.x2, c.x3),
+            c.layers,
+        ),
+        b'p' => run_report(
+            rt,
+            floats,
+            words,
+            convention(c.n2, c.n3, c.x2, c.x3),
+            c.layers,
+        ),
         b's' => run_list(
+            rt,
             floats,
             words,
             convention(c.n3, c.n4, c.x3, c.x4),
@@ -33,6 +48,7 @@ fn read(floats: &[f64], words: &[u32], c: Line) {
             c.n1 as usize,
         ),
         b'a' => run_track(
+            rt,
             floats,
             words,
             convention(c.n4, c.n5, c.x4, c.x5),
@@ -40,22 +56,23 @@ fn read(floats: &[f64], words: &[u32], c: Line) {
             c.n1 as usize,
             c.n2 as usize,
         ),
-        _ => run_page(floats, words, c.n1 as usize),
+        _ => run_page(rt, floats, words, c.n1 as usize),
     }
 }
 
 // A call by the third letter of its name, which is another for each but `open` and `clear`.
-fn call(floats: &mut Floats, words: &mut Words, c: Line) {
+fn call(rt: &impl Print, floats: &mut Floats, words: &mut Words, c: Line) -> io::Result<()> {
     let third = c.third;
     match third {
         b'e' => {
             if c.first == b'o' {
-                run_open(floats, words, c.n1 as usize, 0, c.n2 as usize, c.x3);
+                run_open(rt, floats, words, c.n1 as usize, 0, c.n2 as usize, c.x3)
             } else {
-                run_clear(floats, words, c.n1);
+                run_clear(rt, floats, words, c.n1)
             }
         }
         b'c' => run_open(
+            rt,
             floats,
             words,
             c.n1 as usize,
@@ -63,43 +80,62 @@ fn call(floats: &mut Floats, words: &mut Words, c: Line) {
             c.n3 as usize,
             c.x4,
         ),
-        b't' => run_put(floats, words, c.n1, c.x2, c.x3, c.x4, c.layer),
-        b'v' => run_advance(floats, words, c.n1),
-        b'u' => run_squeeze(floats, words),
-        b'i' => run_write(words, c.n1 as usize, c.n2),
-        b'w' => run_reweigh(floats, words, c.n1, c.x2),
-        _ => read(floats, words, c),
+        b't' => run_put(rt, floats, words, c.n1, c.x2, c.x3, c.x4, c.layer),
+        b'v' => run_advance(rt, floats, words, c.n1),
+        b'u' => run_squeeze(rt, floats, words),
+        b'i' => {
+            run_write(words, c.n1 as usize, c.n2);
+            Ok(())
+        }
+        b'w' => run_reweigh(rt, floats, words, c.n1, c.x2),
+        _ => read(rt, floats, words, c),
     }
 }
 
 // A line of the script: a call, of which the part before the colon is written, or nothing.
-fn run_line(floats: &mut Floats, words: &mut Words, s: &[u8]) {
+fn run_line(rt: &impl Print, floats: &mut Floats, words: &mut Words, s: &[u8]) -> io::Result<()> {
     if s.len() < 3 {
-        return;
+        return Ok(());
     }
     if s[0] == b'#' {
-        return;
+        return Ok(());
     }
     let colon = next(s, 0, b':');
-    io::write_all(STDOUT_FILENO, &s[0..colon]);
-    call(floats, words, line_of(s));
-    say_runs(floats, words);
+    rt.write_all(&s[0..colon])?;
+    call(rt, floats, words, line_of(s))?;
+    say_runs(rt, floats, words)
 }
 
 // The lines of the script, in order.
-fn play(floats: &mut Floats, words: &mut Words, script: &[u8]) {
+fn play(rt: &impl Print, floats: &mut Floats, words: &mut Words, script: &[u8]) -> io::Result<()> {
     let mut at = 0;
     while at < script.len() {
         let end = next(script, at, 10);
-        run_line(floats, words, &script[at..end]);
+        run_line(rt, floats, words, &script[at..end])?;
         at = end + 1;
     }
+    Ok(())
 }
 
-fn main() {
+// Reads until `script` is full or the input ends, and answers how many bytes it put at its start.
+fn read_script(input: &mut impl Read, script: &mut [u8]) -> io::Result<usize>
+    ensures { IfOk result (λ n. n ≤ length script.new) }
+{
+    let mut done = 0;
+    while done < script.len() {
+        let n = input.read(&mut script[done..])?;
+        if n == 0 {
+            break;
+        }
+        done += n;
+    }
+    Ok(done)
+}
+
+fn main(rt: HostRuntime) -> io::Result<()> {
     let mut floats = [1.5; 1787];
     let mut words: Words = [9; 167];
-    let mut script = io::large_buffer();
-    let n = io::read_full(STDIN_FILENO, &mut script);
-    play(&mut floats, &mut words, &script[0..n]);
+    let mut script = [0u8; 65536];
+    let n = read_script(&mut rt.stdin(), &mut script)?;
+    play(&rt, &mut floats, &mut words, &script[0..n])
 }

@@ -5,37 +5,40 @@ ghost use Rattle.std.specs.Prelude.{◌<◌};
 use crate::lines::{put_measured, put_pair};
 use density::densitize::densitize;
 use source::density::density_at;
+use std::io;
 use test_arguments::lists::{list_length, load_list, place};
 
 // Writes the density of a list at place p, native and source.
-fn put_densities(k: usize, p: usize, list: &[f64])
+fn put_densities(rt: &impl Print, k: usize, p: usize, list: &[f64]) -> io::Result<()>
     requires { p < 10 }
 {
     let x = place(p);
-    put_pair(b"density", k, p);
-    put_measured(densitize(list, [x.x, x.y, x.z]));
-    put_pair(b"source-density", k, p);
-    put_measured(density_at(list, x));
+    put_pair(rt, b"density", k, p)?;
+    put_measured(rt, densitize(list, [x.x, x.y, x.z]))?;
+    put_pair(rt, b"source-density", k, p)?;
+    put_measured(rt, density_at(list, x))
 }
 
 // Writes the densities of a list at every place.
-fn put_places(k: usize, list: &[f64]) {
+fn put_places(rt: &impl Print, k: usize, list: &[f64]) -> io::Result<()> {
     for p in 0..10usize {
-        put_densities(k, p, list);
+        put_densities(rt, k, p, list)?;
     }
+    Ok(())
 }
 
-fn put_list(k: usize)
+fn put_list(rt: &impl Print, k: usize) -> io::Result<()>
     requires { k < 12 }
 {
     let list = load_list(k);
     let n = list_length(k);
-    put_places(k, &list[..n]);
+    put_places(rt, k, &list[..n])
 }
 
 // The densities of all lists.
-pub fn put_lists() {
+pub fn put_lists(rt: &impl Print) -> io::Result<()> {
     for k in 0..12usize {
-        put_list(k);
+        put_list(rt, k)?;
     }
+    Ok(())
 }

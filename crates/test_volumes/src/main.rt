@@ -11,10 +11,12 @@ mod lists;
 mod meshes;
 mod radii;
 
-fn main() {
-    meshes::put_meshes();
-    lists::put_lists();
-    radii::put_radii();
-    test_rule::put_figures();
-    test_rule::put_moments();
+use std::io;
+
+fn main(rt: HostRuntime) -> io::Result<()> {
+    meshes::put_meshes(&rt)?;
+    lists::put_lists(&rt)?;
+    radii::put_radii(&rt)?;
+    test_rule::put_figures(&rt)?;
+    test_rule::put_moments(&rt)
 }

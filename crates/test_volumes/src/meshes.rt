@@ -5,6 +5,7 @@ use crate::lines::{put_located, put_measured, put_outcome, put_pair, put_reporte
 use mass::calls::{body_volume, kernel_field_mass, kernel_volume, volume_centroid};
 use mass::homogeneous::homogeneous;
 use source::volume::mesh_enclosed_volume;
+use std::io;
 use test_arguments::lists::{list_length, load_list, place, value, width};
 use test_arguments::meshes::{coordinate_count, corner_count, load_coordinates, load_corners};
 use test_words::put_call;
@@ -12,27 +13,32 @@ use weights::calibrate::{Mean, calibrate_kernels};
 use weights::normalize::normalize_kernels;
 
 // Writes the volume of the kernel at place p, native and source.
-fn put_volumes(m: usize, p: usize, xyz: &[f64], faces: &[u32])
+fn put_volumes(rt: &impl Print, m: usize, p: usize, xyz: &[f64], faces: &[u32]) -> io::Result<()>
     requires { p < 10 }
 {
-    put_pair(b"volume", m, p);
-    put_measured(kernel_volume(xyz, faces, place(p), width(p)));
-    put_pair(b"source-volume", m, p);
-    put_measured(source::volume::kernel_volume(xyz, faces, place(p), width(p)));
+    put_pair(rt, b"volume", m, p)?;
+    put_measured(rt, kernel_volume(xyz, faces, place(p), width(p)))?;
+    put_pair(rt, b"source-volume", m, p)?;
+    put_measured(
+        rt,
+        source::volume::kernel_volume(xyz, faces, place(p), width(p)),
+    )
 }
 
-fn put_places(m: usize, xyz: &[f64], faces: &[u32]) {
+fn put_places(rt: &impl Print, m: usize, xyz: &[f64], faces: &[u32]) -> io::Result<()> {
     for p in 0..10usize {
-        put_volumes(m, p, xyz, faces);
+        put_volumes(rt, m, p, xyz, faces)?;
     }
+    Ok(())
 }
 
 // Writes the reports of the mesh with every value as its density.
-fn put_reports(m: usize, xyz: &[f64], faces: &[u32]) {
+fn put_reports(rt: &impl Print, m: usize, xyz: &[f64], faces: &[u32]) -> io::Result<()> {
     for b in 0..9usize {
-        put_pair(b"homogeneous", m, b);
-        put_reported(homogeneous(value(b), xyz, faces));
+        put_pair(rt, b"homogeneous", m, b)?;
+        put_reported(rt, homogeneous(value(b), xyz, faces))?;
     }
+    Ok(())
 }
 
 // The mean density of a calibration: missing where the numbers of mesh and list are both odd or both even.
@@ -46,67 +52,76 @@ fn mean_of(m: usize, k: usize) -> Mean
 }
 
 // Writes the mass of a list, then the list normalized and calibrated.
-fn put_weights(m: usize, k: usize, xyz: &[f64], faces: &[u32], list: &[f64])
+fn put_weights(
+    rt: &impl Print,
+    m: usize,
+    k: usize,
+    xyz: &[f64],
+    faces: &[u32],
+    list: &[f64],
+) -> io::Result<()>
     requires { (m < 18) × (k < 12) }
 {
-    put_pair(b"mass", m, k);
-    put_measured(kernel_field_mass(xyz, faces, list));
+    put_pair(rt, b"mass", m, k)?;
+    put_measured(rt, kernel_field_mass(xyz, faces, list))?;
     let mut run = [7.0; 12];
-    put_pair(b"source-normalize", m, k);
+    put_pair(rt, b"source-normalize", m, k)?;
     let normalized = normalize_kernels(xyz, faces, list, value((m + k) % 9), &mut run);
-    put_outcome(normalized, run);
+    put_outcome(rt, normalized, run)?;
     let mut other = [7.0; 12];
-    put_pair(b"source-calibrate", m, k);
+    put_pair(rt, b"source-calibrate", m, k)?;
     let total = value((m + 2 * k) % 9);
     let calibrated = calibrate_kernels(xyz, faces, list, mean_of(m, k), total, &mut other);
-    put_outcome(calibrated, other);
+    put_outcome(rt, calibrated, other)
 }
 
-fn put_list(m: usize, k: usize, xyz: &[f64], faces: &[u32])
+fn put_list(rt: &impl Print, m: usize, k: usize, xyz: &[f64], faces: &[u32]) -> io::Result<()>
     requires fact_1 { m < 18 }
     requires fact_2 { k < 12 }
 {
     let list = load_list(k);
     let n = list_length(k);
-    put_weights(m, k, xyz, faces, &list[..n]);
+    put_weights(rt, m, k, xyz, faces, &list[..n])
 }
 
-fn put_lists(m: usize, xyz: &[f64], faces: &[u32])
+fn put_lists(rt: &impl Print, m: usize, xyz: &[f64], faces: &[u32]) -> io::Result<()>
     requires { m < 18 }
 {
     for k in 0..12usize {
-        put_list(m, k, xyz, faces);
+        put_list(rt, m, k, xyz, faces)?;
     }
+    Ok(())
 }
 
 // Writes all lines of a mesh.
-fn put_answers(m: usize, xyz: &[f64], faces: &[u32])
+fn put_answers(rt: &impl Print, m: usize, xyz: &[f64], faces: &[u32]) -> io::Result<()>
     requires { m < 18 }
 {
-    put_call(b"body", m);
-    put_measured(body_volume(xyz, faces));
-    put_call(b"centroid", m);
-    put_located(volume_centroid(xyz, faces));
-    put_call(b"source-enclosed", m);
-    put_measured(mesh_enclosed_volume(xyz, faces));
-    put_places(m, xyz, faces);
-    put_reports(m, xyz, faces);
-    put_lists(m, xyz, faces);
+    put_call(rt, b"body", m)?;
+    put_measured(rt, body_volume(xyz, faces))?;
+    put_call(rt, b"centroid", m)?;
+    put_located(rt, volume_centroid(xyz, faces))?;
+    put_call(rt, b"source-enclosed", m)?;
+    put_measured(rt, mesh_enclosed_volume(xyz, faces))?;
+    put_places(rt, m, xyz, faces)?;
+    put_reports(rt, m, xyz, faces)?;
+    put_lists(rt, m, xyz, faces)
 }
 
-fn put_mesh(m: usize)
+fn put_mesh(rt: &impl Print, m: usize) -> io::Result<()>
     requires { m < 18 }
 {
     let xyz = load_coordinates(m);
     let faces = load_corners(m);
     let coordinates = coordinate_count(m);
     let corners = corner_count(m);
-    put_answers(m, &xyz[..coordinates], &faces[..corners]);
+    put_answers(rt, m, &xyz[..coordinates], &faces[..corners])
 }
 
 // The lines of all meshes.
-pub fn put_meshes() {
+pub fn put_meshes(rt: &impl Print) -> io::Result<()> {
     for m in 0..18usize {
-        put_mesh(m);
+        put_mesh(rt, m)?;
     }
+    Ok(())
 }

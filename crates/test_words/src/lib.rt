@@ -3,36 +3,34 @@
 
 use base::floats::to_pattern;
 use base::refusal::{Refusal, refusal_number};
-use libc::STDOUT_FILENO;
+use std::io;
 
 // Writes a space and a number.
-pub fn put_number(n: u64) {
-    io::write_all(STDOUT_FILENO, b" ");
-    io::print_decimal(STDOUT_FILENO, n);
+pub fn put_number(rt: &impl Print, n: u64) -> io::Result<()> {
+    print!(rt; " {n}")
 }
 
 // Writes a space and the 16 digits of bits.
-pub fn put_bits(bits: u64) {
-    io::write_all(STDOUT_FILENO, b" ");
-    io::print_hex(STDOUT_FILENO, bits, 16);
+pub fn put_bits(rt: &impl Print, bits: u64) -> io::Result<()> {
+    print!(rt; " {bits:016x}")
 }
 
 // Writes a space and the 16 digits of a float's bits.
-pub fn put_float(x: f64) {
-    put_bits(to_pattern(x));
+pub fn put_float(rt: &impl Print, x: f64) -> io::Result<()> {
+    put_bits(rt, to_pattern(x))
 }
 
-pub fn put_end() {
-    io::write_all(STDOUT_FILENO, b"\n");
+pub fn put_end(rt: &impl Print) -> io::Result<()> {
+    print!(rt; "\n")
 }
 
 // Writes a call's name and the number of its argument, or of its row, in the tables.
-pub fn put_call(name: &[u8], a: usize) {
-    io::write_all(STDOUT_FILENO, name);
-    put_number(a as u64);
+pub fn put_call(rt: &impl Print, name: &[u8], a: usize) -> io::Result<()> {
+    rt.write_all(name)?;
+    put_number(rt, a as u64)
 }
 
 // Writes 01's number of a refusal.
-pub fn put_refusal(refusal: Refusal) {
-    put_number(refusal_number(refusal) as u64);
+pub fn put_refusal(rt: &impl Print, refusal: Refusal) -> io::Result<()> {
+    put_number(rt, refusal_number(refusal) as u64)
 }
