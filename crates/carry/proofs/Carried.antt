@@ -1,6 +1,6 @@
 -- What a carry that is not refused was given, and the places' records one after another. Assumes nothing.
 use mathlib.Core.Path.{◌≡◌, refl, sym, ◌∙◌}
-use mathlib.Core.Bool.{Bool, true, false, ◌&&◌, cond}
+use mathlib.Core.Bool.{Bool, true, false}
 use mathlib.Core.List.{List, [], ◌∷◌}
 use Prim.Native.Nat.{ℕ, zero, suc, ◌+◌, ◌*◌, ◌≤◌, ◌<◌}
 use native.Mathlib.Nat.{mul-suc}
@@ -10,8 +10,7 @@ use lib.Dec.{leb}
 use lib.ListN.{length, set, length-set, length-append}
 use lib.Ieee.{Float}
 use borrow.Author.Tests.{leb-true}
-use Rattle.base.specs.declared.refusal.Refusal.TheVariants.{ShortStore, Unsound}
-use Rattle.base.specs.declared.refusal.Checked.TheVariants.{Passed, Failed}
+use Rattle.base.specs.declared.refusal.Checked.TheVariants.{Passed}
 use Rattle.layout.specs.Layout.{width, place_limit, coords_from, corners_from, verts_of, faces_of, status_of, finished_of, done_of}
 use Rattle.layout.specs.Runs.{write}
 use Rattle.layout.specs.RunLaws.{sets-write, write-more, write-none}

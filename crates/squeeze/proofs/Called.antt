@@ -8,7 +8,6 @@ use lib.Seq.{get_or-take, get_or-drop, length-take-le}
 use lib.Ieee.{Float}
 use Rattle.base.specs.Answers.{counted}
 use Rattle.base.specs.declared.refusal.Checked.TheVariants.{Passed}
-use Rattle.layout.specs.Runs.{write}
 use Rattle.layout.specs.RunLaws.{length_part}
 use Rattle.layout.specs.Layout.{width, coords_from, corners_from, verts_of, faces_of}
 use Rattle.layout.specs.Soundness.{store_check}

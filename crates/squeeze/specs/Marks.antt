@@ -1,10 +1,10 @@
 -- Marks and ranks as the code keeps them in local arrays: internal, no part of what a caller must believe. Definitions
 -- only.
-use Rattle.std.specs.Prelude.{◌≡◌, cond, List, ◌++◌, ℕ, zero, suc, ◌+◌, ◌*◌, ◌/◌, ◌%◌, ◌^◌, ◌≤◌, ◌<◌, length, get_or, take, drop, Float}
+use Rattle.std.specs.Prelude.{◌≡◌, cond, List, ℕ, zero, suc, ◌+◌, ◌*◌, ◌/◌, ◌%◌, ◌^◌, ◌≤◌, ◌<◌, length, get_or, Float}
 use Rattle.std.specs.Int.Count.{ones}
 use Rattle.mesh.specs.Checks.{vertex_limit}
 use Rattle.mesh.specs.Corners.{Below}
-use Rattle.squeeze.specs.Squeeze.{used, rank, kept_to}
+use Rattle.squeeze.specs.Squeeze.{used}
 
 -- the words of an array of marks, 32 vertices to each
 abbrev pub word_limit : ℕ

@@ -1,15 +1,14 @@
 -- Laws of a squeezed mesh: lengths, what the loops leave, and that its triangles are those of the mesh.
 -- Assumes nothing.
-use Rattle.std.specs.Prelude.{◌≡◌, refl, Bool, true, false, ◌||◌, cond, List, [], ◌∷◌, ◌++◌, map, ℕ, zero, suc, ◌+◌, ◌*◌, ◌-◌, ◌/◌, ◌%◌, ◌≤◌, ◌<◌, length, get_or, take, drop, set, replicate, Float}
-use Rattle.std.proofs.Common.{sym, ◌∙◌, append_assoc, append-nil, add-one, arith, length-append, length-set, length-take, length-drop, take-suc, drop-cons, length-take-le, take_all, drop-set-lt, take-suc-set, get_or-drop, drop-drop}
+use Rattle.std.specs.Prelude.{◌≡◌, refl, Bool, true, false, cond, List, [], ◌∷◌, ◌++◌, map, ℕ, zero, suc, ◌+◌, ◌*◌, ◌-◌, ◌/◌, ◌%◌, ◌≤◌, ◌<◌, length, get_or, take, drop, set, replicate, Float}
+use Rattle.std.proofs.Common.{sym, ◌∙◌, append_assoc, append-nil, add-one, arith, length-append, length-set, length-drop, take-suc, drop-cons, length-take-le, take_all, drop-set-lt, take-suc-set, get_or-drop, drop-drop}
 use Rattle.std.proofs.Math.Path.{ap}
-use Rattle.std.proofs.Math.Numerals.{add-two, add-three}
 use Rattle.std.proofs.lemmas.List.{length-map, length-replicate, set_at, get_or_at, take-set-le}
 use Rattle.std.specs.Float.{nan}
 use Rattle.base.specs.Floats.{+0}
 use Rattle.mesh.specs.Corners.{Below}
 use Rattle.layout.specs.Runs.{write}
-use Rattle.squeeze.specs.Squeeze.{used, rank, renumbered, point_of, kept_to, freed_of, squeezed}
+use Rattle.squeeze.specs.Squeeze.{used, rank, point_of, kept_to, freed_of, squeezed}
 use Rattle.squeeze.specs.Marks.{word_limit, digit, Marked, Ranked, number_of}
 use Rattle.squeeze.specs.MarkLaws.{rank-le, number_is, number_small}
 

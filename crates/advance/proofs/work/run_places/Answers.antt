@@ -22,7 +22,7 @@ loop-i-preserved c =
     let l = c.loop-i in
     let s = c.spend-rest in
     sweep a.floats.now a.words.now a.verts a.faces a.budget l.floats s.new.floats l.words
-    s.new.words.0 l.rest s.result l.i l.invariant c.loop-i-test.true s.auto.0 s.ensures
+    s.new.words.0 l.rest s.result l.i l.invariant c.loop-i-test.true s.auto.words s.ensures
 
 pub returns : goal.returns
 returns c =

@@ -16,9 +16,9 @@ pub returns-in-Passed : goal.returns-in-Passed
 unfolding carry_step
 returns-in-Passed c =
     let a = c.args in
-    let w = c.args.old-words.now in
+    let w = c.args.old_words.now in
     let n : coords_from + 3 * verts_of w - 0 ≡ coords_from + 3 * verts_of w = omega arith in
-    let e : c.copy_floats.new.floats ≡ write a.floats.now 0 (carried_floats a.old-floats.now w)
+    let e : c.copy_floats.new.floats ≡ write a.floats.now 0 (carried_floats a.old_floats.now w)
     = rw n at c.copy_floats.ensures in
     rw (
       c.write_words.ensures,

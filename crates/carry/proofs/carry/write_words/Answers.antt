@@ -1,6 +1,6 @@
 -- `carry::carry::write_words` meets its contract. Assumes nothing.
 use mathlib.Core.Path.{◌≡◌, refl}
-use mathlib.Core.List.{◌∷◌}
+use mathlib.Core.List.{[], ◌∷◌}
 use Prim.Native.Nat.{◌+◌, ◌-◌, ◌*◌}
 use native.Mathlib.Omega.{arith}
 use lib.ListN.{length, drop, length-drop, length-set}
@@ -17,7 +17,7 @@ returns c =
     let a = c.args in
     let r = c.write_rows in
     let u = c.args.words.now in
-    let w = c.args.old-words.now in
+    let w = c.args.old_words.now in
     let n : corners_from old_width + 3 * faces_of w - corners_from old_width ≡ 3 * faces_of w = omega arith in
     let e : c.copy_words.new.words ≡ write r.new.words 130 (corners_of old_width w)
     = rw n at c.copy_words.ensures in
@@ -34,11 +34,11 @@ pub write_rows-requires : goal.write_rows-requires
 write_rows-requires c = (simp length-set (omega arith), omega arith)
 
 pub copy_words-requires : goal.copy_words-requires
-copy_words-requires c = omega (arith, simp length-set at c.write_rows.auto.0)
+copy_words-requires c = omega (arith, simp length-set at c.write_rows.auto.words)
 
 pub shape_of-words : goal.shape_of-words
 shape_of-words c =
     omega (
       arith,
-      simp length-set at c.write_rows.auto.0,
+      simp length-set at c.write_rows.auto.words,
     )

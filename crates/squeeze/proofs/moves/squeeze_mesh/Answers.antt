@@ -16,7 +16,7 @@ returns c =
       q.0,
       c.zero_floats.ensures
           ∙ zeroed c.args.corners.now c.args.xyz.now g.new.xyz c.args.verts g.result q.0
-          g.ensures.0 (g.auto.0 ∙ c.requires.coords) q.1,
+          g.ensures.0 (g.auto.xyz ∙ c.requires.coords) q.1,
       c.renumber.ensures,
     )
 
@@ -35,13 +35,13 @@ renumber-requires c = (
 )
 
 pub gather-kept-requires : goal.gather-kept-requires
-gather-kept-requires c = (c.requires.coords, c.requires.verts)
+gather-kept-requires c = record { fact_1 = c.requires.coords; fact_2 = c.requires.verts }
 
 pub zero_floats-requires : goal.zero_floats-requires
 zero_floats-requires c =
     omega (
       arith,
       c.gather-kept.ensures.0,
-      c.gather-kept.auto.0,
+      c.gather-kept.auto.xyz,
       c.requires.coords,
     )

@@ -33,7 +33,7 @@ zero_floats-requires-in-Passed c =
     omega (
       arith,
       filled_open width _ _ _ (sym c.check_filled.ensures ∙ c.in-Passed.is),
-      c.zero_floats.auto.0,
+      c.zero_floats.auto.floats,
     )
 
 pub zero_words-requires : goal.zero_words-requires

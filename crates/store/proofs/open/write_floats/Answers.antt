@@ -1,6 +1,6 @@
 -- `store::open::write_floats` meets its contract. Assumes nothing.
 use mathlib.Core.Path.{refl}
-use mathlib.Core.List.{◌∷◌}
+use mathlib.Core.List.{[], ◌∷◌}
 use native.Mathlib.Omega.{arith}
 use lib.ListN.{replicate, length-set}
 use Rattle.base.specs.Floats.{+0}
@@ -20,7 +20,7 @@ pub zero_floats-requires : goal.zero_floats-requires
 zero_floats-requires c = simp length-set (omega arith)
 
 pub copy_floats-requires : goal.copy_floats-requires
-copy_floats-requires c = omega (arith, simp length-set at c.zero_floats.auto.0)
+copy_floats-requires c = omega (arith, simp length-set at c.zero_floats.auto.floats)
 
 pub shape_of-floats : goal.shape_of-floats
-shape_of-floats c = omega (arith, simp length-set at c.zero_floats.auto.0)
+shape_of-floats c = omega (arith, simp length-set at c.zero_floats.auto.floats)

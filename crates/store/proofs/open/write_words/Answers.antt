@@ -1,6 +1,6 @@
 -- `store::open::write_words` meets its contract. Assumes nothing.
 use mathlib.Core.Path.{refl}
-use mathlib.Core.List.{◌∷◌}
+use mathlib.Core.List.{[], ◌∷◌}
 use native.Mathlib.Omega.{arith}
 use lib.ListN.{replicate, length-set}
 use Rattle.layout.specs.RunLaws.{laid, sets-write}
@@ -22,7 +22,7 @@ pub zero_words-requires : goal.zero_words-requires
 zero_words-requires c = simp length-set (omega arith)
 
 pub copy_words-requires : goal.copy_words-requires
-copy_words-requires c = omega (arith, simp length-set at c.zero_words.auto.0)
+copy_words-requires c = omega (arith, simp length-set at c.zero_words.auto.words)
 
 pub shape_of-words : goal.shape_of-words
-shape_of-words c = omega (arith, simp length-set at c.zero_words.auto.0)
+shape_of-words c = omega (arith, simp length-set at c.zero_words.auto.words)
