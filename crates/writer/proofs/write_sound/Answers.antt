@@ -2,7 +2,7 @@
 use mathlib.Core.Path.{sym, ◌∙◌}
 use native.Mathlib.Omega.{arith}
 use lib.ListN.{length}
-use borrow.Author.Tests.{not-true, not-false, leb-true, leb-false}
+use borrow.Author.Tests.{leb-true, leb-false}
 use Rattle.layout.specs.Layout.{width}
 use Rattle.script.specs.Written.{written}
 use Rattle.writer.proofs.Writing.{too_few, enough}
@@ -18,7 +18,7 @@ returns-then-not-has_room c =
     let t = written width a.floats.now a.words.now in
     too_few t a.out.now
     (leb-false (length t) (length a.out.now)
-    (sym (h.ensures a.floats.now c.requires) ∙ not-true h.result c.if-not-has_room.true))
+    (sym (h.ensures a.floats.now c.requires) ∙ c.if-not-has_room.true))
 
 pub write_lines-n-requires : goal.write_lines-n-requires
 write_lines-n-requires c =
@@ -26,7 +26,7 @@ write_lines-n-requires c =
     let h = c.has_room in
     let t = written width a.floats.now a.words.now in (
       leb-true (length t) (length a.out.now)
-          (sym (h.ensures a.floats.now c.requires) ∙ not-false h.result c.if-not-has_room.false),
+          (sym (h.ensures a.floats.now c.requires) ∙ c.if-not-has_room.false),
       c.requires.mesh.floats,
       c.requires.mesh.words,
     )
@@ -38,5 +38,5 @@ returns c =
     let w = c.write_lines-n.ensures in
     let t = written width a.floats.now a.words.now in
     let l = leb-true (length t) (length a.out.now)
-    (sym (h.ensures a.floats.now c.requires) ∙ not-false h.result c.if-not-has_room.false) in
+    (sym (h.ensures a.floats.now c.requires) ∙ c.if-not-has_room.false) in
     enough t a.out.now w.value (omega (arith, w.value, l)) w.out_after
