@@ -11,7 +11,7 @@ use Rattle.along.proofs.along.block.Goals as goal
 pub copy_floats-requires : goal.copy_floats-requires
 copy_floats-requires c =
     let s = c.add_all in
-    rw (length-take-le c.args.m s.new.1.1.1.1.1.1.0 (omega (arith, s.ensures.long))) c.requires.3
+    rw (length-take-le c.args.m s.new.rho (omega (arith, s.ensures.long))) c.requires.3
 
 pub returns : goal.returns
 returns c =
