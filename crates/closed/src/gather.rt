@@ -8,7 +8,7 @@ ghost use Rattle.closed.specs.Held.{Cut, Sound, Gathered, Halved};
 use edges::numbers::put_at;
 use edges::ranges::{Batch, push};
 use near::list::list_near;
-use near::spans::misses;
+use near::spans::{misses, summarize};
 use sort::arrange::order;
 
 // How many of the first n words, which are in order, are below `end`.
@@ -103,7 +103,7 @@ fn take_faces(
 
 // Every number 2k or 2k + 1 of the faces, with k one of low .. end - 1, added to an empty batch; where these are too
 // many, the end is lowered.
-pub fn gather(
+pub fn gather_by_spans(
     corners: &[u32],
     spans: &[u32],
     low: u64,
@@ -139,4 +139,23 @@ pub fn gather(
         ends,
         &mut list,
     )
+}
+
+// The same, by spans that are made here.
+pub fn gather(
+    corners: &[u32],
+    low: u64,
+    empty: Batch,
+    words: &mut [u64],
+    ends: &mut [u64; 384],
+) -> Batch
+    requires fact_1 { length corners.now ≤ 6291456 }
+    requires fact_2 { Below 1048576 corners.now }
+    requires fact_3 { Gathered corners.now low empty words.old 0 }
+    ensures { (result.end ≤ empty.end)
+        × Gathered corners.now low result words.new (length corners.now) }
+{
+    let mut spans = [0u32; 2049];
+    summarize(corners, &mut spans);
+    gather_by_spans(corners, &spans, low, empty, words, ends)
 }

@@ -6,7 +6,7 @@
 // and there are about 208 of them at most, whatever the mesh. With at most 121 ends of lots, or 117 of the sample, that
 // makes some 330 passes over the faces at most. A pass reads the stretches whose span meets its range.
 //
-// Local memory, in bytes: 491,520 of words, 3,072 of ends and 8,196 of spans here, a list of 2,048 in `gather` and one
+// Local memory, in bytes: 491,520 of words, 3,072 of ends and 8,196 of spans here, a list of 2,048 in `gather_by_spans` and one
 // of 256 in `list_near` are 505,092. A level of the sort takes some 80, and there are at most 42: 3,360. With the
 // frames of the functions between, that is well within the 524,288 that the header promises for a call.
 // Internal: a function with a `requires` is called by proved code alone.
@@ -15,8 +15,8 @@ ghost use Rattle.mesh.specs.Corners.{Below};
 ghost use Rattle.sort.specs.Order.{Rising};
 ghost use Rattle.closed.specs.Held.{Paired, Unpaired, Matched, Unmatched};
 
-use crate::gather::gather;
-use edges::divide::divide;
+use crate::gather::gather_by_spans;
+use edges::divide::divide_by_lots;
 use edges::ranges::next_range;
 use near::spans::summarize;
 use sort::arrange::order;
@@ -54,11 +54,11 @@ pub fn sweep(corners: &[u32], top: u64) -> bool
     let mut ends = [0u64; 384];
     let mut spans = [0u32; 2049];
     summarize(corners, &mut spans);
-    let mut depth = divide(corners, &mut words, &mut ends);
+    let mut depth = divide_by_lots(corners, &mut words, &mut ends);
     let mut low: u64 = 0;
     while low < top {
         let empty = next_range(&ends, depth, low, top);
-        let batch = gather(corners, &spans, low, empty, &mut words, &mut ends);
+        let batch = gather_by_spans(corners, &spans, low, empty, &mut words, &mut ends);
         let n = batch.count;
         let end = batch.end;
         order(&mut words, n, 2 * low, 2 * end);

@@ -114,8 +114,21 @@ fn mark(words: &[u64], n: usize, ends: &mut [u64; 384]) -> usize
     depth
 }
 
-// The ends of ranges, where there are more numbers than a batch has room for.
+// The ends of ranges, where there are more numbers than a batch has room for, by the sample alone.
 pub fn divide(corners: &[u32], words: &mut [u64], ends: &mut [u64; 384]) -> usize
+    requires { (length corners.now ≤ 6291456) × (length words.old ≡ 61440) }
+    ensures { (result ≤ 384) × (length words.new ≡ 61440) }
+{
+    if corners.len() <= 61_440 {
+        return 0;
+    }
+    let n = sample(corners, words);
+    order(words, n, 0, 2_199_023_255_552);
+    mark(words, n, ends)
+}
+
+// The ends of ranges, by the lots where these are not too coarse.
+pub fn divide_by_lots(corners: &[u32], words: &mut [u64], ends: &mut [u64; 384]) -> usize
     requires { ((length corners.now ≤ 6291456) × (length words.old ≡ 61440)) × (Below 1048576 corners.now) }
     ensures { (result ≤ 384) × (length words.new ≡ 61440) }
 {
@@ -126,7 +139,5 @@ pub fn divide(corners: &[u32], words: &mut [u64], ends: &mut [u64; 384]) -> usiz
     if !uneven(words) {
         return mark_lots(words, ends);
     }
-    let n = sample(corners, words);
-    order(words, n, 0, 2_199_023_255_552);
-    mark(words, n, ends)
+    divide(corners, words, ends)
 }

@@ -30,9 +30,9 @@ scales_of terms xs = table (term_scale terms) terms xs
 unfoldable pub sample_of : Curve → ℕ → Float
 sample_of curve j = cond (eqb j 0) +0 (ten_to (neg four ⊕ (curve.reach ⊕ four) ⊗ (whole j ⊘ whole (curve.samples - 1))))
 
--- the target at u: the kernel's own value there
-unfoldable pub sample_target : Float → Float → Float
-sample_target alpha u = power (one ⊕ u ⊗ u) (neg alpha)
+-- the kernel's own value at u
+unfoldable pub target_of : Float → Float → Float
+target_of alpha u = power (one ⊕ u ⊗ u) (neg alpha)
 
 -- ---- the normal equations
 
@@ -66,7 +66,7 @@ sampled terms basis target m = times (crossed_row_at terms basis target) terms 0
 
 unfoldable pub sample_at : ℕ → List Float → Curve → ℕ → Matrix → Matrix
 sample_at terms scales curve j m =
-    sampled terms (basis_of terms scales (sample_of curve j) zeros) (sample_target curve.alpha (sample_of curve j)) m
+    sampled terms (basis_of terms scales (sample_of curve j) zeros) (target_of curve.alpha (sample_of curve j)) m
 
 -- all samples in order
 unfoldable pub equations : ℕ → List Float → Curve → Matrix → Matrix
@@ -98,7 +98,7 @@ approx terms scales coefs u = times (approx_at scales coefs u) terms 0 +0
 -- the greatest deviation over the samples, from +0; the division by the peak, which is 1, changes nothing
 unfoldable pub error_at : ℕ → List Float → List Float → Curve → ℕ → Float → Float
 error_at terms scales coefs curve j e =
-    greater e (abs (approx terms scales coefs (sample_of curve j) ⊖ sample_target curve.alpha (sample_of curve j)))
+    greater e (abs (approx terms scales coefs (sample_of curve j) ⊖ target_of curve.alpha (sample_of curve j)))
 
 unfoldable pub peak_error : ℕ → List Float → List Float → Curve → Float
 peak_error terms scales coefs curve = times (error_at terms scales coefs curve) curve.samples 0 +0

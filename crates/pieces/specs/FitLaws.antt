@@ -15,7 +15,7 @@ use Rattle.powers.specs.Exp.{cut, exp}
 use Rattle.powers.specs.Log.{log}
 use Rattle.powers.specs.Power.{power, whole_ten, small_whole, ten_to}
 use Rattle.solve.specs.Elimination.{flat}
-use Rattle.pieces.specs.Fit.{zeros, term_scale, sample_of, sample_target, coefficients_of, approx, error_at, peak_error}
+use Rattle.pieces.specs.Fit.{zeros, term_scale, sample_of, target_of, coefficients_of, approx, error_at, peak_error}
 use Rattle.pieces.specs.declared.points.Curve.{Curve}
 
 -- ---- the outer scales
@@ -85,12 +85,12 @@ module _ (scales coefs : List Float) (l : Float) where
 
   -- at the peak the deviation is 1
   first : error_at 0 scales coefs curve 0 +0 ≡ one
-  unfolding times error_at approx sample_of sample_target power greater abs add sub mul neg eq lt of_bits
+  unfolding times error_at approx sample_of target_of power greater abs add sub mul neg eq lt of_bits
   first = refl
 
   -- after it every deviation is 1 or a NaN
   later : (k i : ℕ) → times (error_at 0 scales coefs curve) k i one ≡ one
-  unfolding times error_at approx sample_target neg
+  unfolding times error_at approx target_of neg
   later zero i = refl
   later (suc k) i = rw one-stays (later k (suc i))
 

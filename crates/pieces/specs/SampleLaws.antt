@@ -5,7 +5,7 @@ use Rattle.std.specs.Float.{nan}
 use Rattle.base.specs.Floats.{+0}
 use Rattle.base.specs.Loops.{table}
 use Rattle.base.specs.TableLaws.{tabled}
-use Rattle.pieces.specs.Fit.{sample_of, sample_target}
+use Rattle.pieces.specs.Fit.{sample_of, target_of}
 use Rattle.pieces.specs.Samples.{value_at, Samples}
 use Rattle.pieces.specs.declared.points.Curve.{Curve}
 
@@ -18,6 +18,6 @@ holds curve us targets h e₁ e₂ = record { point = point; value = value }
     point : (j : ℕ) → j < curve.samples → get_or us j nan ≡ sample_of curve j
     point j l = rw e₁ (tabled (sample_of curve) nan curve.samples j (replicate 48 +0) l h)
 
-    value : (j : ℕ) → j < curve.samples → get_or targets j nan ≡ sample_target curve.alpha (sample_of curve j)
+    value : (j : ℕ) → j < curve.samples → get_or targets j nan ≡ target_of curve.alpha (sample_of curve j)
     value j l = rw e₂ (tabled (value_at curve us) nan curve.samples j (replicate 48 +0) l h)
-        ∙ ap (sample_target curve.alpha) (point j l)
+        ∙ ap (target_of curve.alpha) (point j l)

@@ -3,7 +3,7 @@
 ghost use Rattle.std.specs.Prelude.{◌≡◌, ◌<◌, ◌≤◌};
 ghost use Rattle.base.specs.Floats.{whole};
 ghost use Rattle.base.specs.Loops.{table};
-ghost use Rattle.pieces.specs.Fit.{term_scale, scales_of, sample_of, sample_target};
+ghost use Rattle.pieces.specs.Fit.{term_scale, scales_of, sample_of, target_of};
 ghost use Rattle.pieces.specs.Samples.{value_at};
 
 use powers::power::{power, ten};
@@ -58,8 +58,8 @@ fn sample_of(curve: Curve, j: usize) -> f64
 }
 
 // The kernel's own value at u, relative to its peak.
-fn sample_target(alpha: f64, u: f64) -> f64
-    ensures { result ≡ sample_target alpha u }
+fn target_of(alpha: f64, u: f64) -> f64
+    ensures { result ≡ target_of alpha u }
 {
     power(1.0 + u * u, -alpha)
 }
@@ -84,7 +84,7 @@ pub fn fill_targets(targets: &mut [f64; 48], us: &[f64; 48], curve: Curve)
 {
     let mut j = 0;
     while j < curve.samples {
-        targets[j] = sample_target(curve.alpha, us[j]);
+        targets[j] = target_of(curve.alpha, us[j]);
         j += 1;
     }
 }

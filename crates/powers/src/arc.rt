@@ -33,7 +33,7 @@ fn arc_sum(q: f64) -> f64
 }
 
 // Four times the arc of a small v.
-fn arc_core(v: f64) -> f64
+pub fn arc_core(v: f64) -> f64
     ensures { result ≡ arc_core v }
 {
     4.0 * (v * arc_sum(v * v))

@@ -1,8 +1,8 @@
--- `closed::gather::gather` meets its contract: the batch holds the range of the faces passed by. Assumes nothing.
+-- `closed::gather::gather_by_spans` meets its contract: the batch holds the range of the faces passed by. Assumes nothing.
 use native.Mathlib.Omega.{arith}
 use borrow.Author.Rules.{rules}
 use Rattle.closed.specs.HeldLaws.{gathered_all}
-use Rattle.closed.proofs.gather.gather.Goals as goal
+use Rattle.closed.proofs.gather.gather_by_spans.Goals as goal
 
 pub take_faces-batch-requires : goal.take_faces-batch-requires
 take_faces-batch-requires c =
