@@ -1,4 +1,5 @@
 -- `cauchy::meshes::cauchy_closed` meets its contract: the number of what the check answers. Assumes nothing.
+use mathlib.Core.List.{[]}
 use mathlib.Core.Path.{ap, ◌∙◌}
 use Rattle.base.specs.declared.refusal.Checked.{Checked}
 use Rattle.base.specs.Answers.{answered}

@@ -3,7 +3,6 @@ use mathlib.Core.Path.{sym}
 use mathlib.Core.Bool.{Bool, ◌&&◌}
 use Prim.Native.Nat.{ℕ, ◌+◌, ◌*◌}
 use lib.Dec.{leb}
-use borrow.Author.Tests.{not-true, not-false}
 use Rattle.layout.specs.Layout.{width, coords_from, corners_from}
 use Rattle.reader.specs.StepLaws.{verdict}
 use Rattle.reader.proofs.read.check_limits.Goals as goal
@@ -22,42 +21,42 @@ pub returns-then-not-below : goal.returns-then-not-below
 returns-then-not-below c =
     let a = c.args in
     let q0 = c.if-verts-faces.false in
-    let q1 = not-true a.below c.if-not-below.true in
+    let q1 = c.if-not-below.true in
     sym (λ i. verdict (q0 i) (q1 i) (room a.verts a.faces a.floats a.words) a.placed a.layered)
 
 pub returns-then-not-room : goal.returns-then-not-room
 returns-then-not-room c =
     let a = c.args in
     let q0 = c.if-verts-faces.false in
-    let q1 = not-false a.below c.if-not-below.false in
-    let q2 = not-true (room a.verts a.faces a.floats a.words) c.if-not-room.true in
+    let q1 = c.if-not-below.false in
+    let q2 = c.if-not-room.true in
     sym (λ i. verdict (q0 i) (q1 i) (q2 i) a.placed a.layered)
 
 pub returns-then-not-placed : goal.returns-then-not-placed
 returns-then-not-placed c =
     let a = c.args in
     let q0 = c.if-verts-faces.false in
-    let q1 = not-false a.below c.if-not-below.false in
-    let q2 = not-false (room a.verts a.faces a.floats a.words) c.if-not-room.false in
-    let q3 = not-true a.placed c.if-not-placed.true in
+    let q1 = c.if-not-below.false in
+    let q2 = c.if-not-room.false in
+    let q3 = c.if-not-placed.true in
     sym (λ i. verdict (q0 i) (q1 i) (q2 i) (q3 i) a.layered)
 
 pub returns-then-not-layered : goal.returns-then-not-layered
 returns-then-not-layered c =
     let a = c.args in
     let q0 = c.if-verts-faces.false in
-    let q1 = not-false a.below c.if-not-below.false in
-    let q2 = not-false (room a.verts a.faces a.floats a.words) c.if-not-room.false in
-    let q3 = not-false a.placed c.if-not-placed.false in
-    let q4 = not-true a.layered c.if-not-layered.true in
+    let q1 = c.if-not-below.false in
+    let q2 = c.if-not-room.false in
+    let q3 = c.if-not-placed.false in
+    let q4 = c.if-not-layered.true in
     sym (λ i. verdict (q0 i) (q1 i) (q2 i) (q3 i) (q4 i))
 
 pub returns : goal.returns
 returns c =
     let a = c.args in
     let q0 = c.if-verts-faces.false in
-    let q1 = not-false a.below c.if-not-below.false in
-    let q2 = not-false (room a.verts a.faces a.floats a.words) c.if-not-room.false in
-    let q3 = not-false a.placed c.if-not-placed.false in
-    let q4 = not-false a.layered c.if-not-layered.false in
+    let q1 = c.if-not-below.false in
+    let q2 = c.if-not-room.false in
+    let q3 = c.if-not-placed.false in
+    let q4 = c.if-not-layered.false in
     sym (λ i. verdict (q0 i) (q1 i) (q2 i) (q3 i) (q4 i))

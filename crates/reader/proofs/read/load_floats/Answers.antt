@@ -1,6 +1,6 @@
 -- Radius, zeros, coordinates. Assumes nothing.
 use mathlib.Core.Path.{refl, ◌∙◌}
-use mathlib.Core.List.{◌∷◌}
+use mathlib.Core.List.{[], ◌∷◌}
 use native.Mathlib.Omega.{arith}
 use lib.ListN.{replicate, length-set}
 use Rattle.base.specs.Floats.{+0}
@@ -20,7 +20,7 @@ returns c =
     let xs = coords_in (lines_from vert_line a.n t).val in record {
       result_value = l.ensures.result_value;
       floats_after = l.ensures.floats_after
-          ∙ sets-write xs z.new.floats 1761 (omega (arith, coords_count a.n t, simp length-set at z.auto.0))
+          ∙ sets-write xs z.new.floats 1761 (omega (arith, coords_count a.n t, simp length-set at z.auto.floats))
           ∙ rw (z.ensures, sets-write (a.radius ∷ []) a.floats.now 0 (omega arith))
           (laid a.floats.now (a.radius ∷ []) (replicate 1760 +0) xs 1761 refl
           (omega (arith, coords_count a.n t)));
@@ -30,7 +30,7 @@ pub zero_floats-requires : goal.zero_floats-requires
 zero_floats-requires c = simp length-set (omega arith)
 
 pub load_verts-requires : goal.load_verts-requires
-load_verts-requires c = omega (arith, simp length-set at c.zero_floats.auto.0)
+load_verts-requires c = omega (arith, simp length-set at c.zero_floats.auto.floats)
 
 pub shape_of-floats : goal.shape_of-floats
-shape_of-floats c = omega (arith, simp length-set at c.zero_floats.auto.0)
+shape_of-floats c = omega (arith, simp length-set at c.zero_floats.auto.floats)

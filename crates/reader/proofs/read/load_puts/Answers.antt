@@ -1,7 +1,7 @@
 -- At each turn the puts of the lines that are left leave what all leave, and the store has no fault. Assumes nothing.
 use mathlib.Core.Path.{◌≡◌, refl, sym, ◌∙◌}
 use mathlib.Core.Bool.{true}
-use mathlib.Core.List.{◌∷◌}
+use mathlib.Core.List.{[], ◌∷◌}
 use lib.Ieee.{Float}
 use Rattle.kernel.specs.declared.kernel.Kernel.{Kernel}
 use Rattle.store.specs.Puts.{put_step_lem}
@@ -67,7 +67,7 @@ loop-i-preserved c =
     put_step_lem width l.floats l.words q.0
     (kernel q.1.0 q.1.1.0 q.1.1.1.0 q.1.1.1.1.0 q.1.1.1.1.1.0 q.1.1.1.1.1.1.0)
     q.1.1.1.1.1.1.1.0) in
-    let m = puts_turn width v vs l.floats l.words (placed u.result) u.new.floats u.new.words.0 g in (
+    let m = puts_turn width v vs l.floats l.words (placed u.result) u.new.floats u.new.words g in (
       omega arith,
       omega arith,
       omega arith,

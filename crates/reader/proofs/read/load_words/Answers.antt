@@ -1,6 +1,6 @@
 -- Counts, zeros, corners. Assumes nothing.
 use mathlib.Core.Path.{refl, ◌∙◌}
-use mathlib.Core.List.{◌∷◌}
+use mathlib.Core.List.{[], ◌∷◌}
 use native.Mathlib.Omega.{arith}
 use lib.ListN.{replicate, length-set}
 use Rattle.layout.specs.RunLaws.{laid, sets-write}
@@ -19,7 +19,7 @@ returns c =
     let xs = corners_in (lines_from face_line a.faces t).val in record {
       result_value = l.ensures.result_value;
       words_after = l.ensures.words_after
-          ∙ sets-write xs z.new.words 130 (omega (arith, corners_count a.faces t, simp length-set at z.auto.0))
+          ∙ sets-write xs z.new.words 130 (omega (arith, corners_count a.faces t, simp length-set at z.auto.words))
           ∙ rw (z.ensures, sets-write (a.verts ∷ a.faces ∷ []) a.words.now 0 (omega arith))
           (laid a.words.now (a.verts ∷ a.faces ∷ []) (replicate 128 0) xs 130 refl
           (omega (arith, corners_count a.faces t)));
@@ -32,7 +32,7 @@ pub zero_words-requires : goal.zero_words-requires
 zero_words-requires c = simp length-set (omega arith)
 
 pub load_faces-requires : goal.load_faces-requires
-load_faces-requires c = omega (arith, simp length-set at c.zero_words.auto.0)
+load_faces-requires c = omega (arith, simp length-set at c.zero_words.auto.words)
 
 pub shape_of-words : goal.shape_of-words
-shape_of-words c = omega (arith, simp length-set at c.zero_words.auto.0)
+shape_of-words c = omega (arith, simp length-set at c.zero_words.auto.words)

@@ -1,4 +1,5 @@
 -- The positions that the first pass finds, its verdict, and the second pass. Assumes nothing.
+use mathlib.Core.List.{[]}
 use mathlib.Core.Path.{◌∙◌}
 use mathlib.Core.Bool.{cond}
 use lib.ListN.{length}
