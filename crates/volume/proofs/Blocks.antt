@@ -9,7 +9,6 @@ use native.Mathlib.Omega.{arith}
 use lib.Ieee.{Float, nan}
 use lib.ListN.{length, get_or, set, length-set}
 use lib.Seq.{get_or-set_same, get_or-set_other}
-use Rattle.base.specs.Floats.{◌⊕◌}
 use Rattle.base.specs.Loops.{times}
 use Rattle.base.specs.LoopLaws.{same_from, times-suc}
 use Rattle.mesh.specs.declared.vectors.V3.{V3}

@@ -5,7 +5,6 @@ use lib.ListN.{get_or}
 use lib.Ieee.{Float, nan}
 use Rattle.base.specs.FillLaws.{none_filled, fills}
 use Rattle.base.specs.Floats.{◌⊕◌}
-use Rattle.density.specs.Densitize.{density_of}
 use Rattle.along.specs.AlongLaws.{all_filled}
 use borrow.Author.Rules.{rules}
 use Rattle.along.proofs.along.add_any.Goals as goal

@@ -6,7 +6,6 @@ use lib.ListN.{get_or}
 use lib.Ieee.{Float, nan}
 use Rattle.base.specs.FillLaws.{none_filled, fills}
 use Rattle.base.specs.Floats.{◌⊕◌}
-use Rattle.along.specs.PointLanes.{unit_term}
 use Rattle.along.specs.AlongLaws.{all_filled, lanes_unit}
 use borrow.Author.Rules.{rules}
 use Rattle.along.proofs.along.add_unit.Goals as goal

@@ -5,7 +5,6 @@ use native.Mathlib.Omega.{arith}
 use lib.Ieee.{Float}
 use Rattle.base.specs.FillLaws.{none_filled, fills}
 use Rattle.base.specs.Floats.{◌⊕◌}
-use Rattle.along.specs.PointLanes.{unit_term}
 use Rattle.along.specs.AlongLaws.{all_filled, lanes_units}
 use borrow.Author.Rules.{rules}
 use Rattle.along.proofs.along.add_units.Goals as goal

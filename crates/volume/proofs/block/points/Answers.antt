@@ -2,7 +2,6 @@
 use borrow.Author.Rules.{rules}
 use mathlib.Core.Path.{◌≡◌}
 use native.Mathlib.Omega.{arith}
-use Rattle.mesh.specs.Triangles.{triangle_at}
 use Rattle.volume.proofs.Blocks.{no_points, more_points}
 use Rattle.volume.proofs.block.points.Goals as goal
 

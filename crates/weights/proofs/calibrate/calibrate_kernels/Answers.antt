@@ -14,4 +14,6 @@ unfolding calibrated
 returns-in-Failed c = rw (← c.check_call-checked.ensures, c.in-Failed.is)
 
 pub calibrate-requires : goal.calibrate-requires
-calibrate-requires c = passed_call _ _ _ _ (sym c.check_call-checked.ensures ∙ c.in-Passed.is)
+calibrate-requires c =
+    let p = passed_call _ _ _ _ (sym c.check_call-checked.ensures ∙ c.in-Passed.is) in
+    record { fact_1 = p.0; fact_2 = p.1 }

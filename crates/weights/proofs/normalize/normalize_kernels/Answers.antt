@@ -14,4 +14,6 @@ unfolding normalized
 returns-in-Failed c = rw (← c.check_call-checked.ensures, c.in-Failed.is)
 
 pub normalize-requires : goal.normalize-requires
-normalize-requires c = passed_call _ _ _ _ (sym c.check_call-checked.ensures ∙ c.in-Passed.is)
+normalize-requires c =
+    let p = passed_call _ _ _ _ (sym c.check_call-checked.ensures ∙ c.in-Passed.is) in
+    record { fact_1 = p.0; fact_2 = p.1 }
