@@ -11,9 +11,16 @@ use lib.Ieee.{Float, nan}
 use Rattle.radial.specs.Radial.{radial_g}
 use Rattle.arcs.specs.Lists.{First, Of}
 use Rattle.lanes.specs.declared.mixed.Parted.{Parted}
-use Rattle.lanes.specs.Factors.{factor, Each}
+use Rattle.lanes.specs.Factors.{factor, All, Each}
 use Rattle.lanes.specs.Stages.{radius, AllSmall, SeriesFrom, Parting, Gathered}
 use Rattle.lanes.proofs.Points.{small_is}
+
+-- all are the first 28, and the other way round
+pub whole : {P : ℕ → Float → Type 0} {ys : List Float} → First 28 P ys → All P ys
+whole h = record { at = λ i l. h.at i l }
+
+pub firsts : {P : ℕ → Float → Type 0} {ys : List Float} → All P ys → First 28 P ys
+firsts h = record { at = λ i l. h.at i l }
 
 pub by_series : (ts : List Float) {fs gs : List Float} → AllSmall ts → SeriesFrom 0 ts fs gs → Each radial_g ts gs
 by_series ts h k = record { at = λ i l. k.worked i (omega arith) l ∙ small_is (get_or ts i nan) (h.at i l) }

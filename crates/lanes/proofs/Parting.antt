@@ -14,9 +14,9 @@ use lib.Ieee.{Float, nan, le}
 use Rattle.base.specs.FillLaws.{up_to}
 use Rattle.base.specs.Constants.{tenth}
 use Rattle.root.specs.Flags.{or-zero}
-use Rattle.arcs.specs.Stages.{Large, Low, AllLow}
+use Rattle.arcs.specs.Stages.{Large, Low}
 use Rattle.lanes.specs.declared.mixed.Parted.{Parted}
-use Rattle.lanes.specs.Stages.{Small, Parting}
+use Rattle.lanes.specs.Stages.{Small, AllLow, Parting}
 
 -- after i radii, n of them large, the place q is taken
 abbrev pub Taken : ℕ → ℕ → ℕ → Type 0
@@ -30,7 +30,7 @@ pub record Noted (ts us : List Float) (ps : List ℕ) (n i j : ℕ) : Type 0 whe
 
 -- the element of us at place k, where it is one of the large ones
 abbrev Front : List Float → List Float → ℕ → Type 0
-Front ts us k = Large (get_or us k nan) × (AllLow 28 ts → Low (get_or us k nan))
+Front ts us k = Large (get_or us k nan) × (AllLow ts → Low (get_or us k nan))
 
 pub record PartedTo (ts us : List Float) (ps : List ℕ) (n flag i : ℕ) : Type 0 where
   pub few : n ≤ i
@@ -103,9 +103,9 @@ module _ {ts us : List Float} {ps : List ℕ} {n flag i : ℕ} (r : PartedTo ts 
         noted = length-set ps i n ∙ r.noted;
         front =
             up_to {P = Front ts (set us n a)}
-            (λ k l. subst⁻¹ (λ (z : Float). Large z × (AllLow 28 ts → Low z))
+            (λ k l. subst⁻¹ (λ (z : Float). Large z × (AllLow ts → Low z))
             (get_or-set_other us n k a nan (ne_of_lt l)) (r.front k l))
-            (subst⁻¹ (λ (z : Float). Large z × (AllLow 28 ts → Low z)) (get_or-set_same us n a nan (in-us n below))
+            (subst⁻¹ (λ (z : Float). Large z × (AllLow ts → Low z)) (get_or-set_same us n a nan (in-us n below))
             (g, λ w. subst⁻¹ Low e (w.at i h)));
         back =
             λ z k l y. subst⁻¹ Small (get_or-set_other us n k a nan (ne_of_gt (past k y)))
@@ -136,7 +136,7 @@ module _ {ts us : List Float} {ps : List ℕ} {n flag i : ℕ} (r : PartedTo ts 
         long = length-set us p a ∙ r.long;
         noted = length-set ps i p ∙ r.noted;
         front =
-            λ k l. subst⁻¹ (λ (z : Float). Large z × (AllLow 28 ts → Low z))
+            λ k l. subst⁻¹ (λ (z : Float). Large z × (AllLow ts → Low z))
             (get_or-set_other us p k a nan (ne_of_lt (before k l))) (r.front k l);
         back = λ z k l y. new z k l (eq-or-lt_of_le (from k y));
         found = notes n p below on (inr (omega arith));

@@ -1,12 +1,13 @@
--- What a step computes of 28 points, for the functions' contracts. Definitions only.
-use Rattle.std.specs.Prelude.{ℕ, ◌≤◌, ◌<◌, ◌≡◌, true, List, get_or, Float}
+-- What a step computes of one point and of 28, for the functions' contracts. Definitions only.
+use Rattle.std.specs.Prelude.{ℕ, ◌≤◌, ◌<◌, ◌≡◌, ◌⊎◌, true, cond, List, get_or, Float}
 use Rattle.std.specs.Float.{nan, binary64}
-use Rattle.std.specs.Float.Ieee.{lt}
-use Rattle.base.specs.Floats.{◌⊗◌, abs}
-use Rattle.base.specs.Constants.{tenth}
+use Rattle.std.specs.Float.Ieee.{lt, le}
+use Rattle.base.specs.Floats.{◌⊕◌, ◌⊗◌, ◌⊘◌, abs}
+use Rattle.base.specs.Constants.{one, tenth}
+use Rattle.base.specs.Ranges.{Within}
 use Rattle.root.specs.Root.{square_root}
-use Rattle.radial.specs.Radial.{radial_gSeries}
-use Rattle.arcs.specs.Stages.{AllLarge, AllLow}
+use Rattle.radial.specs.Radial.{radial_gSeries, radial_g}
+use Rattle.arcs.specs.Stages.{Large, Low, StepsLeft, quotient, AllLarge as FirstLarge, AllLow as FirstLow}
 use Rattle.lanes.specs.declared.radii.Found.{Found}
 use Rattle.lanes.specs.declared.mixed.Parted.{Parted}
 use Rattle.lanes.specs.Factors.{All, Each}
@@ -19,13 +20,56 @@ radius sigma x = sigma ⊗ square_root binary64 x
 abbrev pub Small : Float → Type 0
 Small t = lt (abs t) tenth ≡ true
 
--- what the flags tell of the radii
-abbrev pub Radii : Float → List Float → Found → List Float → Type 0
-Radii sigma xs r ts =
-    (r.flag ≡ 0 → Each (radius sigma) xs ts) × (r.low ≡ 0 → AllLarge 28 ts) × (r.high ≡ 0 → AllLow 28 ts)
+-- the quotient is taken, or the series
+abbrev pub Sided : Float → Type 0
+Sided t = Large t ⊎ Small t
+
+-- t, or 0.1 where t is not at least that
+unfoldable pub raised : Float → Float
+raised t = cond (le tenth t) t tenth
+
+-- ---- of 28 points
+abbrev pub AllLarge : List Float → Type 0
+AllLarge ts = All (λ i t. Large t) ts
+
+abbrev pub AllLow : List Float → Type 0
+AllLow ts = All (λ i t. Low t) ts
 
 abbrev pub AllSmall : List Float → Type 0
 AllSmall ts = All (λ i t. Small t) ts
+
+abbrev pub AllSided : List Float → Type 0
+AllSided ts = All (λ i t. Sided t) ts
+
+-- what the flags tell of the radii
+abbrev pub Radii : Float → List Float → Found → List Float → Type 0
+Radii sigma xs r ts = (r.flag ≡ 0 → Each (radius sigma) xs ts) × (r.low ≡ 0 → AllLarge ts) × (r.high ≡ 0 → AllLow ts)
+
+-- tangents of angles up to 45 degrees, and what the roots are taken of
+abbrev pub Tangents : List Float → Type 0
+Tangents vs = All (λ i v. Within 0 1 v) vs
+
+abbrev pub Radicands : List Float → Type 0
+Radicands fs = All (λ i f. Within 1 2 f) fs
+
+-- ws are the vs halved, fs being the radicands
+abbrev pub Halves : List Float → List Float → List Float → Type 0
+Halves vs fs ws = All (λ i w. w ≡ get_or vs i nan ⊘ (one ⊕ square_root binary64 (get_or fs i nan))) ws
+
+-- gs are the factors of those radii that take the series
+abbrev pub SmallFactors : List Float → List Float → Type 0
+SmallFactors ts gs = All (λ i g. Small (get_or ts i nan) → g ≡ radial_g (get_or ts i nan)) gs
+
+-- hs are the ss where the radius is at least 0.1, else the gs
+abbrev pub Chosen : List Float → List Float → List Float → List Float → Type 0
+Chosen ts ss gs hs = All (λ i h. h ≡ cond (le tenth (get_or ts i nan)) (get_or ss i nan) (get_or gs i nan)) hs
+
+-- of each series k steps are left
+abbrev pub AllStepsLeft : ℕ → List Float → List Float → Type 0
+AllStepsLeft k vs gs = All (λ i a. StepsLeft k (get_or vs i nan ⊗ get_or vs i nan) a) gs
+
+abbrev pub Quotients : List Float → List Float → List Float → Type 0
+Quotients ts vs gs = All (λ i g. g ≡ quotient (get_or ts i nan) (get_or vs i nan)) gs
 
 -- the elements of gs from place n on are those of ts by the series, the others those of fs
 pub record SeriesFrom (n : ℕ) (ts fs gs : List Float) : Type 0 where
@@ -42,8 +86,8 @@ pub record Placed (ts us : List Float) (ps : List ℕ) : Type 0 where
 pub record Parting (ts us : List Float) (ps : List ℕ) (r : Parted) : Type 0 where
   pub few : r.large ≤ 28
   pub placed : Placed ts us ps
-  pub large : AllLarge r.large us
-  pub low : AllLow 28 ts → AllLow r.large us
+  pub large : FirstLarge r.large us
+  pub low : AllLow ts → FirstLow r.large us
   pub small : r.flag ≡ 0 → All (λ i t. r.large ≤ i → Small t) us
 
 -- gs are the elements of ss at the places ps

@@ -7,9 +7,8 @@ ghost use Rattle.std.specs.Prelude.{◌≡◌, false, cond, ℕ, ◌<◌, get_or
 ghost use Rattle.std.specs.Float.Ieee.{le};
 ghost use Rattle.base.specs.Constants.{tenth};
 ghost use Rattle.radial.specs.Radial.{radial_g};
-ghost use Rattle.arcs.specs.Stages.{AllLow};
 ghost use Rattle.lanes.specs.Factors.{Each};
-ghost use Rattle.lanes.specs.Stages.{Small, Parting, Gathered};
+ghost use Rattle.lanes.specs.Stages.{AllLow, Small, Parting, Gathered};
 
 use crate::series::{not_small, series_from};
 use arcs::arc_factors;
@@ -64,19 +63,26 @@ fn gather(s: &[f64], places: &[usize], g: &mut [f64])
     }
 }
 
-// The factors of the radii t, none above 1 if `high` is 0, if the flag is 0. v and `radicands` are as `arc_factors`
-// takes them, and once the radii are parted t is for the factors in the order of their places. The arrays for the
-// parted radii and the places are made here: no other path needs them.
-pub fn mixed(t: &mut [f64], high: u64, v: &mut [f64], radicands: &mut [f64], g: &mut [f64]) -> u64
-    requires { (length t.old ≡ 28) × (length v.old ≡ 28) × (length radicands.old ≡ 28)
-        × (length g.old ≡ 28) × (high ≡ 0 → AllLow 28 t.old) }
-    ensures { result ≡ 0 → Each radial_g t.old g.new }
+// The factors of the radii t, none above 1 if `high` is 0, if the flag is 0. u is for the parted radii, v and
+// `radicands` are as `arc_factors` takes them, and s is for the factors in the order of their places. The array for the
+// places is made here: no other path needs it.
+pub fn mixed(
+    t: &[f64],
+    high: u64,
+    u: &mut [f64],
+    v: &mut [f64],
+    radicands: &mut [f64],
+    s: &mut [f64],
+    g: &mut [f64],
+) -> u64
+    requires { (length t.now ≡ 28) × (length u.old ≡ 28) × (length v.old ≡ 28) × (length radicands.old ≡ 28)
+        × (length s.old ≡ 28) × (length g.old ≡ 28) × (high ≡ 0 → AllLow t.now) }
+    ensures { result ≡ 0 → Each radial_g t.now g.new }
 {
-    let mut u = [0.0; 28];
     let mut places = [0usize; 28];
-    let parted = part(t, &mut u, &mut places);
-    let arc = arc_factors(parted.large, &u, high, v, radicands, t);
-    series_from(parted.large, &u, t);
-    gather(t, &places, g);
+    let parted = part(t, u, &mut places);
+    let arc = arc_factors(parted.large, u, high, v, radicands, s);
+    series_from(parted.large, u, s);
+    gather(s, &places, g);
     parted.flag | arc
 }

@@ -5,7 +5,6 @@ ghost use Rattle.std.specs.Prelude.{◌≡◌, length};
 ghost use Rattle.arcs.specs.Stages.{Large, Low};
 ghost use Rattle.lanes.specs.Stages.{Radii};
 
-use arcs::sharpen_all;
 use root::lanes::{any_lane, near};
 
 // What was found of the radii: they hold if the flag is 0, all are at least 0.1 if low is 0, and none is
@@ -26,6 +25,14 @@ fn guess(x: &[f64], radicands: &mut [f64], y: &mut [f64])
         radicands[i] = p.part;
         y[i] = p.near;
     }
+}
+
+// Better guesses, of which nothing is promised but that there are 28; `less` is as `sharpen` takes it.
+pub fn sharpen_all(radicands: &[f64], y: &mut [f64], less: f64)
+    requires { (length radicands.now ≡ 28) × (length y.old ≡ 28) }
+    ensures { length y.new ≡ 28 }
+{
+    arcs::sharpen_all(28, radicands, y, less);
 }
 
 // 0 where t is at least 0.1, else all ones, as SSE2's comparisons answer.
@@ -74,6 +81,6 @@ pub fn radii_of(x: &[f64], sigma: f64, radicands: &mut [f64], y: &mut [f64], t: 
     ensures { Radii sigma x.now result t.new }
 {
     guess(x, radicands, y);
-    sharpen_all(28, radicands, y, 1.1102230246251565e-16);
+    sharpen_all(radicands, y, 1.1102230246251565e-16);
     radii(x, y, sigma, t)
 }

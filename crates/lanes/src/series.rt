@@ -2,7 +2,7 @@
 // 28 floats, as each `requires` says.
 // Internal: a function with a `requires` is called by proved code alone.
 ghost use Rattle.std.specs.Prelude.{◌≡◌, ◌≤◌, length};
-ghost use Rattle.lanes.specs.Stages.{Small, AllSmall, SeriesFrom};
+ghost use Rattle.lanes.specs.Stages.{Small, AllSmall, SmallFactors, SeriesFrom};
 
 use radial::radial_g_series;
 
@@ -37,4 +37,18 @@ pub fn series_from(n: usize, t: &[f64], g: &mut [f64])
     for i in n..28usize {
         g[i] = radial_g_series(t[i]);
     }
+}
+
+// The factors of those radii t whose absolute value is below 0.1: of all, if the flag is 0.
+pub fn all_series(t: &[f64], g: &mut [f64]) -> u64
+    requires { (length t.now ≡ 28) × (length g.old ≡ 28) }
+    ensures { SmallFactors t.now g.new × (result ≡ 0 → AllSmall t.now) }
+{
+    let mut flag = 0u64;
+    for i in 0..28usize {
+        let a = t[i];
+        g[i] = radial_g_series(a);
+        flag = flag | not_small(a);
+    }
+    flag
 }

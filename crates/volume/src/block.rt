@@ -113,13 +113,24 @@ pub fn volume_blocks(
     let mut squares = [0.0; 28];
     let mut heights = [0.0; 28];
     let mut t = [0.0; 28];
+    let mut u = [0.0; 28];
     let mut v = [0.0; 28];
     let mut radicands = [0.0; 28];
+    let mut s = [0.0; 28];
     let mut g = [0.0; 28];
     let mut sum = sum;
     for i in 0..n {
         points(xyz, faces, from + 4 * i, c, &mut squares, &mut heights);
-        factors(&squares, sigma, &mut t, &mut v, &mut radicands, &mut g);
+        factors(
+            &squares,
+            sigma,
+            &mut t,
+            &mut u,
+            &mut v,
+            &mut radicands,
+            &mut s,
+            &mut g,
+        );
         sum = all_shares(sum, &g, &heights);
     }
     sum

@@ -7,7 +7,7 @@ use Rattle.lanes.proofs.staged.Goals as goal
 pub of_radii-requires : goal.of_radii-requires
 of_radii-requires c =
     let r = c.radii_of-found.ensures in
-    (search rules, search rules, search rules, search rules, r.1, r.2)
+    (search rules, search rules, search rules, search rules, search rules, search rules, r.1, r.2)
 
 pub returns : goal.returns
 returns c =

@@ -4,6 +4,7 @@ use native.Mathlib.Omega.{arith}
 use Rattle.base.specs.FillLaws.{none_filled, fills}
 use Rattle.arcs.specs.ListLaws.{all_filled}
 use borrow.Author.Rules.{rules}
+use Rattle.lanes.proofs.Joins.{whole}
 use Rattle.lanes.proofs.mixed.gather.Goals as goal
 
 pub offset_bounds-s-places : goal.offset_bounds-s-places
@@ -21,4 +22,4 @@ pub loop-i-preserved : goal.loop-i-preserved
 loop-i-preserved c = fills c.loop-i.invariant (search rules) refl
 
 pub returns : goal.returns
-returns c = search (all_filled, rules)
+returns c = whole (all_filled c.loop-i.invariant (search rules))

@@ -13,7 +13,7 @@ arc_factors-arc-requires c =
       search (few, rules),
       search (few, rules),
       r.large,
-      λ e. r.low (c.requires.4 e),
+      λ e. r.low (c.requires.6 e),
     )
 
 pub series_from-requires : goal.series_from-requires

@@ -5,6 +5,7 @@ use Rattle.base.specs.FillLaws.{none_filled}
 use Rattle.base.specs.Floats.{◌⊗◌}
 use Rattle.arcs.specs.ListLaws.{fills_if, fills_or, clear_or, clear_zero, all_if}
 use borrow.Author.Rules.{rules}
+use Rattle.lanes.proofs.Joins.{whole}
 use Rattle.lanes.proofs.radii.radii.Goals as goal
 
 pub loop-i-preserved : goal.loop-i-preserved
@@ -23,9 +24,9 @@ loop-i-preserved c =
 pub returns : goal.returns
 returns c =
     let l = c.loop-i in (
-      λ e. all_if l.invariant.0 (search rules) (clear_zero 62 l.coarse l.far e),
-      all_if l.invariant.1 (search rules),
-      all_if l.invariant.2 (search rules),
+      λ e. whole (all_if l.invariant.0 (search rules) (clear_zero 62 l.coarse l.far e)),
+      λ e. whole (all_if l.invariant.1 (search rules) e),
+      λ e. whole (all_if l.invariant.2 (search rules) e),
     )
 
 pub loop-i-init : goal.loop-i-init
