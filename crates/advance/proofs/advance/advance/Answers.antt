@@ -1,6 +1,6 @@
 -- `advance::advance::advance` meets its contract. Assumes nothing.
 use mathlib.Core.Path.{◌≡◌, sym, ap, ◌∙◌}
-use mathlib.Core.List.{◌∷◌}
+use mathlib.Core.List.{[], ◌∷◌}
 use Prim.Native.Nat.{◌-◌}
 use native.Mathlib.Omega.{arith}
 use Rattle.base.specs.Answers.{counted}
@@ -14,7 +14,7 @@ use Rattle.advance.proofs.advance.advance.Goals as goal
 pub run_places-rest-requires : goal.run_places-rest-requires
 run_places-rest-requires c =
     let h = fine width _ _ (sym c.check_store.ensures ∙ c.in-Passed.is) in
-    rw (c.word-verts.ensures, c.word-faces.ensures) (h.mesh, h.places)
+    rw (c.word-verts.ensures, c.word-faces.ensures) (record { fact_1 = h.mesh; fact_2 = h.places })
 
 pub returns-in-Failed : goal.returns-in-Failed
 unfolding advance_step
@@ -24,7 +24,7 @@ pub returns-in-Passed : goal.returns-in-Passed
 unfolding advance_step
 returns-in-Passed c =
     let a = c.args in
-    let e : standing c.run_places-rest.new.floats c.run_places-rest.new.words.0 c.run_places-rest.result
+    let e : standing c.run_places-rest.new.floats c.run_places-rest.new.words c.run_places-rest.result
     ≡ spent_all width a.floats.now a.words.now a.budget
     = rw (c.word-verts.ensures, c.word-faces.ensures) at c.run_places-rest.ensures in
     let l : c.left-total.result ≡ left_of width a.words.now (faces_of a.words.now) place_limit

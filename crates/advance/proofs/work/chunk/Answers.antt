@@ -9,8 +9,9 @@ use Rattle.advance.proofs.work.chunk.Goals as goal
 
 pub volume_from-volume-requires : goal.volume_from-volume-requires
 volume_from-volume-requires c =
-    mesh_ready c.args.floats.now c.args.words.now c.args.verts c.args.faces c.requires.fact_1
-    c.args.done c.args.k c.requires.fact_2.1
+    let m = mesh_ready c.args.floats.now c.args.words.now c.args.verts c.args.faces c.requires.fact_1
+    c.args.done c.args.k c.requires.fact_2.1 in
+    record { fact_1 = m.0; fact_2 = m.1 }
 
 pub returns : goal.returns
 returns c =

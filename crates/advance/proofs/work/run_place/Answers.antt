@@ -33,17 +33,17 @@ returns-then-r-eq0 c =
 pub run_piece-r-requires : goal.run_piece-r-requires
 run_piece-r-requires c =
     let l = c.loop-r in
-    let h = c.loop-r-test.true in (
-      meshed_same l.floats c.args.floats.now c.args.words.now c.args.verts c.args.faces
-          l.invariant.long c.requires.fact_1,
-      record {
+    let h = c.loop-r-test.true in record {
+      fact_1 = meshed_same l.floats c.args.floats.now c.args.words.now c.args.verts c.args.faces
+          l.invariant.long c.requires.fact_1;
+      fact_2 = record {
         place = c.requires.fact_2.place;
         pieces = omega (arith, c.requires.fact_2);
         fits = omega arith;
         part = λ _. l.invariant.part h;
         low = l.invariant.low;
-      },
-    )
+      };
+    }
 
 pub loop-r-smaller : goal.loop-r-smaller
 loop-r-smaller c =

@@ -10,11 +10,11 @@ loop-i-init c =
 
 pub spend-rest-requires : goal.spend-rest-requires
 spend-rest-requires c =
-    let l = c.loop-i in (
-      sweep_meshed c.args.floats.now c.args.words.now c.args.verts c.args.faces c.args.budget
-          l.floats l.words l.rest l.i l.invariant c.requires.fact_1,
-      l.invariant.ahead l.i (omega arith) c.loop-i-test.true,
-    )
+    let l = c.loop-i in record {
+      fact_1 = sweep_meshed c.args.floats.now c.args.words.now c.args.verts c.args.faces c.args.budget
+          l.floats l.words l.rest l.i l.invariant c.requires.fact_1;
+      fact_2 = l.invariant.ahead l.i (omega arith) c.loop-i-test.true;
+    }
 
 pub loop-i-preserved : goal.loop-i-preserved
 loop-i-preserved c =
@@ -22,7 +22,7 @@ loop-i-preserved c =
     let l = c.loop-i in
     let s = c.spend-rest in
     sweep a.floats.now a.words.now a.verts a.faces a.budget l.floats s.new.floats l.words
-    s.new.words.0 l.rest s.result l.i l.invariant c.loop-i-test.true s.auto.words s.ensures
+    s.new.words l.rest s.result l.i l.invariant c.loop-i-test.true s.auto.floats s.ensures
 
 pub returns : goal.returns
 returns c =

@@ -7,10 +7,10 @@ use Rattle.advance.specs.Steps.{place_work, stored}
 use Rattle.advance.proofs.work.spend.Goals as goal
 
 pub run_place-r-requires : goal.run_place-r-requires
-run_place-r-requires c = (
-  c.requires.fact_1,
-  rw (c.pieces-count.ensures, c.word-finished.ensures, c.word-done.ensures) c.requires.fact_2,
-)
+run_place-r-requires c = record {
+  fact_1 = c.requires.fact_1;
+  fact_2 = rw (c.pieces-count.ensures, c.word-finished.ensures, c.word-done.ensures) c.requires.fact_2;
+}
 
 pub returns : goal.returns
 unfolding place_work
