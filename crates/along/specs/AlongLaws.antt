@@ -20,7 +20,7 @@ use Rattle.layout.specs.Runs.{write}
 use Rattle.layout.specs.RunLaws.{length-write, write-more, write_snoc, write-none}
 use Rattle.along.specs.Along.{point_at, stretch, along}
 use Rattle.along.specs.declared.along.UnitKernel.{UnitKernel}
-use Rattle.along.specs.PointLanes.{unit_of, unit_term, Lanes, lane, Thirds, Zeros, Added, BothAdded, Summed}
+use Rattle.along.specs.PointLanes.{unit_of, unit_term, unit_at, Lanes, lane, Thirds, Zeros, Added, BothAdded, Summed}
 
 -- ---- a loop that sets elements of an array
 pub all_filled : {P : ℕ → Float → Type 0} {first ys : List Float} {i m : ℕ} → Filled 64 P first i ys → m ≤ i
@@ -29,34 +29,56 @@ all_filled f h = record { long = f.long; at = λ j l. f.done j (lt_of_lt_of_le l
 
 -- ---- one kernel more
 pub unit_is : (k : Kernel) (x y z : Float) → lt (abs (k.alpha ⊖ one)) stay_limit ≡ true
-    → unit_term (unit_of k) x y z ≡ density_of k (x ∷ y ∷ z ∷ [])
+    → unit_term (get_or k.c 0 nan) (get_or k.c 1 nan) (get_or k.c 2 nan) k.sigma k.w x y z
+    ≡ density_of k (x ∷ y ∷ z ∷ [])
 unfolding unit_term density_of base_at
 unit_is k x y z h = rw h refl
 
 module _ (m : ℕ) (xs ys zs rs : List Float) where
-  abbrev term : UnitKernel → ℕ → Float
-  term u i = unit_term u (get_or xs i nan) (get_or ys i nan) (get_or zs i nan)
+  abbrev term : Kernel → ℕ → Float
+  term k i = unit_term (get_or k.c 0 nan) (get_or k.c 1 nan) (get_or k.c 2 nan) k.sigma k.w (get_or xs i nan)
+      (get_or ys i nan) (get_or zs i nan)
+
+  term_is : (k : Kernel) (i : ℕ) → lt (abs (k.alpha ⊖ one)) stay_limit ≡ true → term k i ≡ density_of k (lane xs ys zs i)
+  term_is k i h = unit_is k (get_or xs i nan) (get_or ys i nan) (get_or zs i nan) h
+
+  pub lanes_unit : (k : Kernel) (ss : List Float) → lt (abs (k.alpha ⊖ one)) stay_limit ≡ true
+      → Lanes m (λ i r. r ≡ get_or rs i nan ⊕ term k i) ss → Added m k xs ys zs rs ss
+  lanes_unit k ss h l =
+      record { long = l.long; at = λ i g. l.at i g ∙ ap (λ (v : Float). get_or rs i nan ⊕ v) (term_is k i h) }
+
+  pub lanes_units : (k l : Kernel) (ss : List Float) → lt (abs (k.alpha ⊖ one)) stay_limit ≡ true
+      → lt (abs (l.alpha ⊖ one)) stay_limit ≡ true
+      → Lanes m (λ i r. r ≡ get_or rs i nan ⊕ term k i ⊕ term l i) ss → BothAdded m k l xs ys zs rs ss
+  lanes_units k l ss h g a =
+      record {
+        long = a.long;
+        at = λ i e. a.at i e ∙ (ap (λ (v : Float). get_or rs i nan ⊕ v ⊕ term l i) (term_is k i h)
+            ∙ ap (λ (v : Float). get_or rs i nan ⊕ density_of k (lane xs ys zs i) ⊕ v) (term_is l i g));
+      }
 
   -- a kernel that passes the strict test, and its five floats without the exponent
   abbrev pub IsUnit : Kernel → UnitKernel → Type 0
   IsUnit k u = (lt (abs (k.alpha ⊖ one)) stay_limit ≡ true) × (u ≡ unit_of k)
 
-  term_is : (k : Kernel) (u : UnitKernel) (i : ℕ) → IsUnit k u → term u i ≡ density_of k (lane xs ys zs i)
-  term_is k u i h =
-      ap (λ (v : UnitKernel). term v i) h.1 ∙ unit_is k (get_or xs i nan) (get_or ys i nan) (get_or zs i nan) h.0
+  abbrev term_at : UnitKernel → ℕ → Float
+  term_at u i = unit_at u (get_or xs i nan) (get_or ys i nan) (get_or zs i nan)
 
-  pub lanes_unit : (k : Kernel) (u : UnitKernel) (ss : List Float) → IsUnit k u
-      → Lanes m (λ i r. r ≡ get_or rs i nan ⊕ term u i) ss → Added m k xs ys zs rs ss
-  lanes_unit k u ss h l =
-      record { long = l.long; at = λ i g. l.at i g ∙ ap (λ (v : Float). get_or rs i nan ⊕ v) (term_is k u i h) }
+  term_at_is : (k : Kernel) (u : UnitKernel) (i : ℕ) → IsUnit k u → term_at u i ≡ density_of k (lane xs ys zs i)
+  term_at_is k u i h = ap (λ (v : UnitKernel). term_at v i) h.1 ∙ term_is k i h.0
 
-  pub lanes_units : (k l : Kernel) (u v : UnitKernel) (ss : List Float) → IsUnit k u → IsUnit l v
-      → Lanes m (λ i r. r ≡ get_or rs i nan ⊕ term u i ⊕ term v i) ss → BothAdded m k l xs ys zs rs ss
-  lanes_units k l u v ss h g a =
+  pub lanes_unit_at : (k : Kernel) (u : UnitKernel) (ss : List Float) → IsUnit k u
+      → Lanes m (λ i r. r ≡ get_or rs i nan ⊕ term_at u i) ss → Added m k xs ys zs rs ss
+  lanes_unit_at k u ss h l =
+      record { long = l.long; at = λ i g. l.at i g ∙ ap (λ (v : Float). get_or rs i nan ⊕ v) (term_at_is k u i h) }
+
+  pub lanes_units_at : (k l : Kernel) (u v : UnitKernel) (ss : List Float) → IsUnit k u → IsUnit l v
+      → Lanes m (λ i r. r ≡ get_or rs i nan ⊕ term_at u i ⊕ term_at v i) ss → BothAdded m k l xs ys zs rs ss
+  lanes_units_at k l u v ss h g a =
       record {
         long = a.long;
-        at = λ i e. a.at i e ∙ (ap (λ (s : Float). get_or rs i nan ⊕ s ⊕ term v i) (term_is k u i h)
-            ∙ ap (λ (s : Float). get_or rs i nan ⊕ density_of k (lane xs ys zs i) ⊕ s) (term_is l v i g));
+        at = λ i e. a.at i e ∙ (ap (λ (s : Float). get_or rs i nan ⊕ s ⊕ term_at v i) (term_at_is k u i h)
+            ∙ ap (λ (s : Float). get_or rs i nan ⊕ density_of k (lane xs ys zs i) ⊕ s) (term_at_is l v i g));
       }
 
   -- one after the other

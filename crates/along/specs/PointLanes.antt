@@ -13,10 +13,12 @@ unit_of k =
     record { x = get_or k.c 0 nan; y = get_or k.c 1 nan; z = get_or k.c 2 nan; sigma = k.sigma; w = k.w }
 
 -- what a kernel of exponent 1 adds
-unfoldable pub unit_term : UnitKernel → Float → Float → Float → Float
-unit_term u x y z =
-    u.w ⊘ (one ⊕ u.sigma ⊗ u.sigma
-    ⊗ ((x ⊖ u.x) ⊗ (x ⊖ u.x) ⊕ (y ⊖ u.y) ⊗ (y ⊖ u.y) ⊕ (z ⊖ u.z) ⊗ (z ⊖ u.z)))
+unfoldable pub unit_term : Float → Float → Float → Float → Float → Float → Float → Float → Float
+unit_term cx cy cz sigma w x y z =
+    w ⊘ (one ⊕ sigma ⊗ sigma ⊗ ((x ⊖ cx) ⊗ (x ⊖ cx) ⊕ (y ⊖ cy) ⊗ (y ⊖ cy) ⊕ (z ⊖ cz) ⊗ (z ⊖ cz)))
+
+abbrev pub unit_at : UnitKernel → Float → Float → Float → Float
+unit_at u x y z = unit_term u.x u.y u.z u.sigma u.w x y z
 
 -- p of each of the first n elements of 64, with its place
 pub record Lanes (n : ℕ) (p : ℕ → Float → Type 0) (ys : List Float) : Type 0 where

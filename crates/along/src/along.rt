@@ -10,7 +10,7 @@ ghost use Rattle.kernel.specs.Kernels.{kernel_at};
 ghost use Rattle.density.specs.Densitize.{densitize_of};
 ghost use Rattle.layout.specs.Runs.{write};
 ghost use Rattle.along.specs.Along.{along, stretch};
-ghost use Rattle.along.specs.PointLanes.{unit_of, unit_term, Thirds, Zeros, Added, BothAdded, Summed};
+ghost use Rattle.along.specs.PointLanes.{unit_of, unit_at, Thirds, Zeros, Added, BothAdded, Summed};
 
 use base::floats::abs;
 use density::densitize::density_of;
@@ -53,7 +53,7 @@ fn unit_of(k: Kernel) -> UnitKernel
 
 // What a kernel of exponent 1 adds at a point.
 fn unit_term(u: UnitKernel, x: f64, y: f64, z: f64) -> f64
-    ensures { result ≡ unit_term u x y z }
+    ensures { result ≡ unit_at u x y z }
 {
     let dx = x - u.x;
     let dy = y - u.y;

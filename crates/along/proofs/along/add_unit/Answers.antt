@@ -6,7 +6,7 @@ use lib.ListN.{get_or}
 use lib.Ieee.{Float, nan}
 use Rattle.base.specs.FillLaws.{none_filled, fills}
 use Rattle.base.specs.Floats.{◌⊕◌}
-use Rattle.along.specs.AlongLaws.{all_filled, lanes_unit}
+use Rattle.along.specs.AlongLaws.{all_filled, lanes_unit_at}
 use borrow.Author.Rules.{rules}
 use Rattle.along.proofs.along.add_unit.Goals as goal
 
@@ -20,7 +20,7 @@ loop-i-preserved c =
 pub returns : goal.returns
 returns c =
     let a = c.args in
-    lanes_unit a.m a.x.now a.y.now a.z.now a.rho.now a.k c.unit_of-u.result
+    lanes_unit_at a.m a.x.now a.y.now a.z.now a.rho.now a.k c.unit_of-u.result
     c.loop-i.rho (c.requires.0, c.unit_of-u.ensures)
     (all_filled c.loop-i.invariant (search rules))
 

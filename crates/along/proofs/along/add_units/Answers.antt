@@ -5,7 +5,7 @@ use native.Mathlib.Omega.{arith}
 use lib.Ieee.{Float}
 use Rattle.base.specs.FillLaws.{none_filled, fills}
 use Rattle.base.specs.Floats.{◌⊕◌}
-use Rattle.along.specs.AlongLaws.{all_filled, lanes_units}
+use Rattle.along.specs.AlongLaws.{all_filled, lanes_units_at}
 use borrow.Author.Rules.{rules}
 use Rattle.along.proofs.along.add_units.Goals as goal
 
@@ -24,7 +24,7 @@ returns c =
     let l = c.unit_of-v in
     let a = c.args in
     let z = c.requires in
-    lanes_units a.m a.x.now a.y.now a.z.now a.rho.now a.k a.l k.result l.result
+    lanes_units_at a.m a.x.now a.y.now a.z.now a.rho.now a.k a.l k.result l.result
     c.loop-i.rho (z.0, k.ensures) (z.1, l.ensures) (all_filled c.loop-i.invariant (search rules))
 
 pub loop-i-init : goal.loop-i-init
