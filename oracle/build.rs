@@ -11,7 +11,7 @@ fn main() {
     println!("cargo::rerun-if-env-changed=CAUCHY_LIB_DIR");
     println!("cargo::rerun-if-changed={}", archive.display());
     if !archive.is_file() {
-        println!("cargo::error={} is not there: run `rt staticlib cauchy` in the repository first", archive.display());
+        println!("cargo::error={} is not there: run `host/archive` in the repository first", archive.display());
         return;
     }
     println!("cargo::rustc-link-search=native={}", dir.display());
