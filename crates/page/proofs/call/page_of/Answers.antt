@@ -1,30 +1,22 @@
 -- `page::call::page_of` meets its contract. Assumes nothing.
-use mathlib.Core.Path.{◌≡◌, refl, sym, ◌∙◌}
+use mathlib.Core.Path.{◌≡◌, sym, ◌∙◌}
 use native.Mathlib.Omega.{arith}
-use mathlib.Core.Bool.{Bool, true, false, not, true≢false}
+use mathlib.Core.Bool.{true}
 use Prim.Native.Nat.{◌+◌, ◌*◌}
 use Rattle.layout.specs.Layout.{width}
 use Rattle.page.specs.Page.{held_rows, all_printable}
 use Rattle.page.specs.PageLaws.{rows-count, rows_fair, unprintable_is, short_is, written_is}
 use Rattle.page.proofs.call.page_of.Goals as goal
 
-negated : (b : Bool) → not b ≡ true → b ≡ false
-negated true e = absurd (true≢false (sym e))
-negated false e = refl
-
-kept : (b : Bool) → not b ≡ false → b ≡ true
-kept true e = refl
-kept false e = absurd (true≢false e)
-
 pub returns-then-not-all_printable : goal.returns-then-not-all_printable
-returns-then-not-all_printable c = unprintable_is _ _ (sym c.all_printable.ensures ∙ negated _ c.if-not-all_printable.true)
+returns-then-not-all_printable c = unprintable_is _ _ (sym c.all_printable.ensures ∙ c.if-not-all_printable.true)
 
 pub returns-then-need-out : goal.returns-then-need-out
 returns-then-need-out c =
     let a = c.args in
     let rs = held_rows width a.floats.now a.words.now 32 in
     let e : all_printable rs ≡ true
-    = sym c.all_printable.ensures ∙ kept _ c.if-not-all_printable.false in
+    = sym c.all_printable.ensures ∙ c.if-not-all_printable.false in
     let k = rows-count width a.floats.now a.words.now 32 in
     let n = c.count_filled in
     short_is rs _ e (rows_fair width a.floats.now a.words.now a.faces c.requires.fact_2 32 (omega arith) e)
@@ -39,7 +31,7 @@ write_page-requires c =
       fact_2 = c.requires.fact_2;
       fact_3 = (
         sym c.all_printable.ensures
-            ∙ kept _ c.if-not-all_printable.false,
+            ∙ c.if-not-all_printable.false,
         omega (arith, k, c.count_filled.ensures.0, c.if-need-out.false),
       );
     }
@@ -49,7 +41,7 @@ returns c =
     let a = c.args in
     let rs = held_rows width a.floats.now a.words.now 32 in
     let e : all_printable rs ≡ true
-    = sym c.all_printable.ensures ∙ kept _ c.if-not-all_printable.false in
+    = sym c.all_printable.ensures ∙ c.if-not-all_printable.false in
     let k = rows-count width a.floats.now a.words.now 32 in
     let n = c.count_filled in
     written_is rs _ e (rows_fair width a.floats.now a.words.now a.faces c.requires.fact_2 32 (omega arith) e)

@@ -18,17 +18,15 @@ place_line-s-requires c =
     let l = c.loop-i in
     let h = c.loop-i-test.true in
     let k = more-count width a.floats.now a.words.now l.i in
-    let m = rows_mono width a.floats.now a.words.now (l.i + 1) 32 (omega arith) in (
-      (c.requires.fact_1, h, (c.requires.fact_2.place l.i h).pieces),
-      (
-        each-printable width a.floats.now a.words.now 32 l.i h c.requires.fact_3.0,
-        (
-          omega (arith, k, m, l.invariant.1, long l.invariant.2, c.requires.fact_3.1),
-          omega (arith, l.invariant.4),
-          omega (arith, l.invariant.5),
-        ),
-      ),
-    )
+    let m = rows_mono width a.floats.now a.words.now (l.i + 1) 32 (omega arith) in record {
+      fact_1 = (c.requires.fact_1, h, (c.requires.fact_2.place l.i h).pieces);
+      fact_2 = each-printable width a.floats.now a.words.now 32 l.i h c.requires.fact_3.0;
+      fact_3 = (
+        omega (arith, k, m, l.invariant.1, long l.invariant.2, c.requires.fact_3.1),
+        omega (arith, l.invariant.4),
+        omega (arith, l.invariant.5),
+      );
+    }
 
 pub loop-i-preserved : goal.loop-i-preserved
 loop-i-preserved c =
