@@ -18,7 +18,7 @@ ended g = if_ended g.text g.val
 abbrev pub read_as_lem : (f : Form) → (Vals f → Line) → List ℕ → Line
 read_as_lem f to s = ended (map to (read f (left s)))
 
--- the form of a call that the first word names; a line that begins with none of these words is of no form
+-- the same of a line that begins with no word of a mesh
 unfoldable pub call_by_word : List ℕ → Line
 call_by_word s =
     cond (begins (bytes "(put ") s) (read_as_lem put_form to_put s)
@@ -27,12 +27,18 @@ call_by_word s =
     (cond (begins (bytes "(advance ") s) (read_as_lem advance_form to_advance s)
     (cond (begins (bytes "(density ") s) (read_as_lem density_form to_density s) (read_as_lem report_form to_report s)))))
 
--- of any line
-unfoldable pub by_word : List ℕ → Line
+-- the form that the first word names; a line that begins with none of these words but the last is of no form
+abbrev pub by_word : List ℕ → Line
 by_word s =
     cond (begins (bytes "(open (radius ") s) (read_as_lem open_form to_open s)
     (cond (begins (bytes "(vert ") s) (read_as_lem vert_form to_vert s)
-    (cond (begins (bytes "(face ") s) (read_as_lem face_form to_face s) (call_by_word s)))
+    (cond (begins (bytes "(face ") s) (read_as_lem face_form to_face s)
+    (cond (begins (bytes "(put ") s) (read_as_lem put_form to_put s)
+    (cond (begins (bytes "(clear ") s) (read_as_lem clear_form to_clear s)
+    (cond (begins (bytes "(reweigh ") s) (read_as_lem reweigh_form to_reweigh s)
+    (cond (begins (bytes "(advance ") s) (read_as_lem advance_form to_advance s)
+    (cond (begins (bytes "(density ") s) (read_as_lem density_form to_density s)
+    (read_as_lem report_form to_report s))))))))
 
 -- ---- of two forms, the one that the word names
 
@@ -64,7 +70,7 @@ named p a b to on s l o c u =
 
 -- ---- what a line means
 pub by_word_lem : (s : List ℕ) → parse_line s ≡ by_word s
-unfolding parse_line by_word call_by_word
+unfolding parse_line
 by_word_lem s =
     named (bytes "(open (radius ") open_form vert_on to_open to_vert_on s refl tt tt
     (named (bytes "(vert ") vert_form face_on to_vert to_face_on s refl tt tt

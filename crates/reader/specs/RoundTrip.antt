@@ -38,7 +38,7 @@ script_of q fs ws =
       radius = radius_of fs;
       verts = verts_of ws;
       faces = faces_of ws;
-      coords = coords_of fs ws;
+      coords = take (3 * verts_of ws) (drop coords_from fs);
       corners = corners_of q ws;
       puts = puts_from q fs ws place_limit 0;
     }

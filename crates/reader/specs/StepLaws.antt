@@ -26,28 +26,32 @@ use Rattle.reader.specs.ReadLaws.{coords_count, corners_count, to_from, puts_rep
 use Rattle.layout.specs.SoundLaws.{passed-both}
 
 -- ---- the refusals 2, 3, 4, 6 and 16 by their tests
-abbrev pub verdict : Bool → Bool → Bool → Bool → Bool → Checked
-verdict big below room placed layered =
-    cond big (Failed Oversize) (cond below
-    (cond room (cond placed (cond layered Passed (Failed NoLayer)) (Failed NoPlace)) (Failed ShortStore))
-    (Failed LooseCorner))
+abbrev pub verdict : Bool → Bool → Bool → Bool → Bool → Bool → Bool → Checked
+verdict big₁ big₂ below room₁ room₂ placed layered =
+    cond big₁ (Failed Oversize) (cond big₂ (Failed Oversize)
+    (cond below
+    (cond room₁ (cond room₂ (cond placed (cond layered Passed (Failed NoLayer)) (Failed NoPlace)) (Failed ShortStore))
+    (Failed ShortStore))
+    (Failed LooseCorner)))
 
-verdict-is : (a b c d e : Bool)
-    → and_then (and_then (cond a (Failed Oversize) (cond b Passed (Failed LooseCorner)))
-    (cond c Passed (Failed ShortStore)))
-    (and_then (cond d Passed (Failed NoPlace)) (cond e Passed (Failed NoLayer)))
-    ≡ verdict a b c d e
-verdict-is true b c d e = refl
-verdict-is false false c d e = refl
-verdict-is false true false d e = refl
-verdict-is false true true false e = refl
-verdict-is false true true true e = refl
+verdict-is : (a b c d e f g : Bool)
+    → and_then (and_then (cond (a || b) (Failed Oversize) (cond c Passed (Failed LooseCorner)))
+    (cond (d && e) Passed (Failed ShortStore)))
+    (and_then (cond f Passed (Failed NoPlace)) (cond g Passed (Failed NoLayer)))
+    ≡ verdict a b c d e f g
+verdict-is true b c d e f g = refl
+verdict-is false true c d e f g = refl
+verdict-is false false false d e f g = refl
+verdict-is false false true false e f g = refl
+verdict-is false false true true false f g = refl
+verdict-is false false true true true false g = refl
+verdict-is false false true true true true g = refl
 
 -- of a script whose coordinates and corners come by threes
 module _ (q : ℕ) (d : Script) (ex : length d.coords ≡ 3 * d.verts) (ek : length d.corners ≡ 3 * d.faces) where
   pub check_is : (a b : ℕ) → script_check q d a b
-      ≡ verdict (ltb vertex_limit d.verts || ltb face_limit d.faces) (all_below d.verts d.corners)
-      (leb (coords_from + 3 * d.verts) a && leb (corners_from q + 3 * d.faces) b) (places_in d.puts)
+      ≡ verdict (ltb vertex_limit d.verts) (ltb face_limit d.faces) (all_below d.verts d.corners)
+      (leb (coords_from + 3 * d.verts) a) (leb (corners_from q + 3 * d.faces) b) (places_in d.puts)
       (layers_in d.puts)
   unfolding open_check mesh_check
   check_is a b =
@@ -55,8 +59,8 @@ module _ (q : ℕ) (d : Script) (ex : length d.coords ≡ 3 * d.verts) (ek : len
       let y : (3 * d.faces) % 3 ≡ 0 = omega arith in
       let z : (3 * d.verts) / 3 ≡ d.verts = omega arith in
       let w : (3 * d.faces) / 3 ≡ d.faces = omega arith in
-      rw (ex, ek, x, y, z, w) (verdict-is (ltb vertex_limit d.verts || ltb face_limit d.faces)
-      (all_below d.verts d.corners) (leb (coords_from + 3 * d.verts) a && leb (corners_from q + 3 * d.faces) b)
+      rw (ex, ek, x, y, z, w) (verdict-is (ltb vertex_limit d.verts) (ltb face_limit d.faces)
+      (all_below d.verts d.corners) (leb (coords_from + 3 * d.verts) a) (leb (corners_from q + 3 * d.faces) b)
       (places_in d.puts) (layers_in d.puts))
 
   -- an opening that is not refused leaves these runs, and so its puts these
@@ -227,8 +231,8 @@ module _ {s : List ℕ} {r : Float} {v f h a b : ℕ} (p : Parsed s r v f h a b)
         ∙ (λ i. effect (and_then (form_check (e i)) (script_check q script (length fs) (length ws))))
 
     pub tests_are : script_check q script (length fs) (length ws)
-        ≡ verdict (ltb vertex_limit v || ltb face_limit f) (all_below v (corners_in (lines_from face_line f (rest s a)).val))
-        (leb (coords_from + 3 * v) (length fs) && leb (corners_from q + 3 * f) (length ws)) (places_in P.val)
+        ≡ verdict (ltb vertex_limit v) (ltb face_limit f) (all_below v (corners_in (lines_from face_line f (rest s a)).val))
+        (leb (coords_from + 3 * v) (length fs)) (leb (corners_from q + 3 * f) (length ws)) (places_in P.val)
         (layers_in P.val)
     tests_are = check_is q script (coords_count v (rest s h)) (corners_count f (rest s a)) (length fs) (length ws)
 
@@ -236,13 +240,13 @@ module _ {s : List ℕ} {r : Float} {v f h a b : ℕ} (p : Parsed s r v f h a b)
     pub limits_are : {below placed layered : Bool} {c : Checked}
         → below ≡ all_below v (corners_in (lines_from face_line f (rest s a)).val) → placed ≡ places_in P.val
         → layered ≡ layers_in P.val
-        → c ≡ verdict (ltb vertex_limit v || ltb face_limit f) below
-        (leb (coords_from + 3 * v) (length fs) && leb (corners_from q + 3 * f) (length ws)) placed layered
+        → c ≡ verdict (ltb vertex_limit v) (ltb face_limit f) below (leb (coords_from + 3 * v) (length fs))
+        (leb (corners_from q + 3 * f) (length ws)) placed layered
         → script_check q script (length fs) (length ws) ≡ c
     limits_are x y z e =
         tests_are
-        ∙ (λ i. verdict (ltb vertex_limit v || ltb face_limit f) (sym x i)
-        (leb (coords_from + 3 * v) (length fs) && leb (corners_from q + 3 * f) (length ws)) (sym y i) (sym z i))
+        ∙ (λ i. verdict (ltb vertex_limit v) (ltb face_limit f) (sym x i) (leb (coords_from + 3 * v) (length fs))
+        (leb (corners_from q + 3 * f) (length ws)) (sym y i) (sym z i))
         ∙ sym e
 
     -- 13

@@ -127,18 +127,22 @@ fn check_limits(
     placed: bool,
     layered: bool,
 ) -> Checked
-    ensures { result ≡ verdict (ltb vertex_limit verts || ltb face_limit faces) below
-        (leb (coords_from + 3 * verts) floats && leb (corners_from width + 3 * faces) words) placed layered }
+    ensures { result ≡ verdict (ltb vertex_limit verts) (ltb face_limit faces) below
+        (leb (coords_from + 3 * verts) floats) (leb (corners_from width + 3 * faces) words) placed layered }
 {
-    if (verts > VERTEX_LIMIT) | (faces > FACE_LIMIT) {
+    if verts > VERTEX_LIMIT {
+        return Checked::Failed(Refusal::Oversize);
+    }
+    if faces > FACE_LIMIT {
         return Checked::Failed(Refusal::Oversize);
     }
     if !below {
         return Checked::Failed(Refusal::LooseCorner);
     }
-    let room = (COORDS + 3 * (verts as usize) <= floats)
-        & (CORNERS + 3 * (faces as usize) <= words);
-    if !room {
+    if floats < COORDS + 3 * (verts as usize) {
+        return Checked::Failed(Refusal::ShortStore);
+    }
+    if words < CORNERS + 3 * (faces as usize) {
         return Checked::Failed(Refusal::ShortStore);
     }
     if !placed {

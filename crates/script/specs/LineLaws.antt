@@ -1,16 +1,24 @@
 -- The bytes of each line, and rows one after the other. Assumes nothing.
-use Rattle.std.specs.Prelude.{◌≡◌, List, [], ◌++◌, Float, length}
+use Rattle.std.specs.Prelude.{◌≡◌, List, [], ◌∷◌, ◌++◌, Float, length}
 use Rattle.std.proofs.Math.Path.{refl}
-use Rattle.std.proofs.Common.{ap, ◌∙◌, eq-eqb, ne_eqb, length-append}
+use Rattle.std.proofs.Common.{sym, ap, ◌∙◌, append_assoc, eq-eqb, ne_eqb, le-leb, length-append}
+use Rattle.std.proofs.lemmas.Bool.{lt-leb}
+use Rattle.base.specs.Answers.{counted, refused, printout}
+use Rattle.base.specs.declared.refusal.Refusal.TheVariants.{ShortText}
+use Rattle.layout.specs.Runs.{write}
+use Rattle.text.specs.Text.{bytes}
 use Prim.Native.Nat.{ℕ, zero, suc, ◌+◌, ◌-◌, ◌*◌, ◌<◌, ◌≤◌}
 use Rattle.std.proofs.Math.Numerals.{add-one}
 use native.Mathlib.Omega.{arith}
-use Rattle.text.specs.Print.{decimal_length}
+use Rattle.std.proofs.lemmas.List.Edits.{sets}
+use Rattle.std.proofs.Math.Seq.{length-sets}
+use Rattle.text.specs.Print.{Wrote, decimal_length}
 use Rattle.text.specs.LengthLaws.{decimal-length, length-pattern}
+use Rattle.text.specs.WriteLaws.{sets_append}
 use Rattle.text.specs.Form.{Form, Vals, print, ◌&◌}
 use Rattle.script.specs.Lines.{open_line, vert_line, face_line, put_line}
 use Rattle.layout.specs.Layout.{place_limit, radius_of, status_of, layer_of}
-use Rattle.script.specs.Written.{printed_lines, vert_at, face_at, put_in, put_at, put_row, put_rows, vert_rows, face_rows, lines_of}
+use Rattle.script.specs.Written.{printed_lines, vert_at, face_at, put_in, put_at, put_row, put_rows, vert_rows, face_rows, lines_of, text_answer}
 
 pub open_bytes : (r : Float) (v f : ℕ) → length (print open_line (r & v & f & tt))
     ≡ 51 + decimal_length v + decimal_length f
@@ -101,3 +109,55 @@ lines_bytes q fs ws v f =
       open_bytes (radius_of fs) v f,
       verts_bytes fs v 0,
     )
+
+-- the opening of a put line, and then r
+pub put_joined : (d x y z r : List ℕ)
+    → (bytes "(put " ++ (d ++ (bytes " (c " ++ (x ++ (bytes " " ++ (y ++ (bytes " " ++ z))))))) ++ r
+    ≡ bytes "(put " ++ (d ++ (bytes " (c " ++ (x ++ (bytes " " ++ (y ++ (bytes " " ++ (z ++ r)))))))
+put_joined d x y z r = simp append_assoc refl
+
+pub wrote_none : {o t : List ℕ} (at : ℕ) → t ≡ [] → Wrote o at t at o
+wrote_none {o} at e = record { next = omega (arith, ap length e); run = ap (sets o at) (sym e) }
+
+-- ---- the answers
+
+pub too_few : (t bs : List ℕ) → length bs < length t → printout (refused ShortText) bs ≡ text_answer t bs
+unfolding text_answer
+too_few t bs h = rw (lt-leb (length t) (length bs) h) refl
+
+pub enough : (t bs : List ℕ) {bs' : List ℕ} {n : ℕ} → n ≡ length t → n ≤ length bs → bs' ≡ write bs 0 t
+    → printout (counted (n ∷ [])) bs' ≡ text_answer t bs
+unfolding text_answer
+enough t bs e h r = rw (le-leb (length t) (length bs) (omega arith)) (λ i. printout (counted (e i ∷ [])) (r i))
+
+-- ---- a text under way: the rest of it, t₁, at at₁ of the run o₁ makes what the whole, t, makes at `at` of o
+
+pub record Todo (o : List ℕ) (at : ℕ) (t o₁ : List ℕ) (at₁ : ℕ) (t₁ : List ℕ) : Type 0 where
+  pub long : length o₁ ≡ length o
+  pub same : sets o₁ at₁ t₁ ≡ sets o at t
+  pub ends : at₁ + length t₁ ≡ at + length t
+
+pub todo_all : (o : List ℕ) (at : ℕ) (t : List ℕ) → Todo o at t o at t
+todo_all o at t = record { long = refl; same = refl; ends = refl }
+
+module _ {o : List ℕ} {at : ℕ} {t o₁ : List ℕ} {at₁ : ℕ} {t₁ : List ℕ} where
+  pub todo_next : {u t₂ o₂ : List ℕ} {r : ℕ} → Todo o at t o₁ at₁ t₁ → t₁ ≡ u ++ t₂ → Wrote o₁ at₁ u r o₂
+      → Todo o at t o₂ r t₂
+  todo_next {u} {t₂} {o₂} {r} d e w =
+      record {
+        long = ap length w.run ∙ length-sets o₁ at₁ u ∙ d.long;
+        same = (λ i. sets (w.run i) (w.next i) t₂) ∙ sym (sets_append u t₂ o₁ at₁) ∙ ap (sets o₁ at₁) (sym e)
+            ∙ d.same;
+        ends = omega (arith, w.next, d.ends, ap length e, length-append u t₂);
+      }
+
+  pub todo_room : (u t₂ : List ℕ) → Todo o at t o₁ at₁ t₁ → t₁ ≡ u ++ t₂ → at + length t ≤ length o
+      → at₁ + length u ≤ length o₁
+  todo_room u t₂ d e h = omega (arith, d.long, d.ends, ap length e, length-append u t₂)
+
+  pub todo_done : Todo o at t o₁ at₁ t₁ → t₁ ≡ [] → Wrote o at t at₁ o₁
+  todo_done d e =
+      record {
+        next = omega (arith, d.ends, ap length e);
+        run = ap (sets o₁ at₁) (sym e) ∙ d.same;
+      }

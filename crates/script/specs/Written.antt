@@ -32,13 +32,15 @@ face_at q ws i =
     & tt
 
 -- place i: c, sigma, the weight as it is kept, alpha, and always the layer
-abbrev pub put_of : ℕ → Float → Float → Float → Float → Float → Float → ℕ → Vals put_line
-put_of i x y z sigma w alpha layer = i & x & y & z & sigma & w & alpha & inr (layer & tt) & tt
-
 abbrev pub put_in : List Float → ℕ → ℕ → Vals put_line
 put_in fs i layer =
-    put_of i (get_or fs (kernel_from i) nan) (get_or fs (kernel_from i + 1) nan) (get_or fs (kernel_from i + 2) nan)
-    (get_or fs (kernel_from i + 3) nan) (get_or fs (kernel_from i + 4) nan) (get_or fs (kernel_from i + 5) nan) layer
+    i & get_or fs (kernel_from i) nan & get_or fs (kernel_from i + 1) nan & get_or fs (kernel_from i + 2) nan
+    & get_or fs (kernel_from i + 3) nan & get_or fs (kernel_from i + 4) nan & get_or fs (kernel_from i + 5) nan
+    & inr (layer & tt) & tt
+
+-- the same of a kernel that is at hand
+abbrev pub put_of : ℕ → Float → Float → Float → Float → Float → Float → ℕ → Vals put_line
+put_of i x y z sigma w alpha layer = i & x & y & z & sigma & w & alpha & inr (layer & tt) & tt
 
 -- such a line's start: the place and the centre
 abbrev pub centre_text : ℕ → Float → Float → Float → List ℕ

@@ -7,7 +7,7 @@ use Rattle.text.specs.Form.{print}
 use Rattle.script.specs.Lines.{face_line}
 use Rattle.script.specs.Written.{face_at, face_rows}
 use Rattle.script.specs.LineLaws.{faces_more, faces_none, face_bytes}
-use Rattle.writer.proofs.Writing.{todo_all, todo_next, todo_room, todo_done}
+use Rattle.script.specs.LineLaws.{todo_all, todo_next, todo_room, todo_done}
 use Rattle.writer.proofs.write_faces.Goals as goal
 
 pub write_face-k-requires : goal.write_face-k-requires

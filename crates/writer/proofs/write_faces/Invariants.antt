@@ -1,7 +1,7 @@
 use Prim.Native.Nat.{◌-◌, ◌≤◌}
 use Rattle.layout.specs.Layout.{width}
 use Rattle.script.specs.Written.{face_rows}
-use Rattle.writer.proofs.Writing.{Todo}
+use Rattle.script.specs.LineLaws.{Todo}
 use Rattle.writer.proofs.write_faces.Given as goal
 
 abbrev pub invariant-loop-i : goal.invariant-loop-i

@@ -4,7 +4,7 @@ use native.Mathlib.Omega.{arith}
 use Rattle.script.specs.Written.{put_row, put_rows}
 use Rattle.layout.specs.Layout.{width}
 use Rattle.script.specs.LineLaws.{puts_more, puts_none}
-use Rattle.writer.proofs.Writing.{todo_all, todo_next, todo_room, todo_done}
+use Rattle.script.specs.LineLaws.{todo_all, todo_next, todo_room, todo_done}
 use Rattle.writer.proofs.write_puts.Goals as goal
 
 pub write_row-k-requires : goal.write_row-k-requires

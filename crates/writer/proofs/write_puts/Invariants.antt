@@ -1,7 +1,7 @@
 use Prim.Native.Nat.{◌-◌, ◌≤◌}
 use Rattle.script.specs.Written.{put_rows}
 use Rattle.layout.specs.Layout.{width}
-use Rattle.writer.proofs.Writing.{Todo}
+use Rattle.script.specs.LineLaws.{Todo}
 use Rattle.writer.proofs.write_puts.Given as goal
 
 abbrev pub invariant-loop-i : goal.invariant-loop-i

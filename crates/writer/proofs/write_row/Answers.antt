@@ -8,7 +8,7 @@ use Rattle.text.specs.Form.{print}
 use Rattle.layout.specs.Layout.{width, layer_of}
 use Rattle.script.specs.Lines.{put_line}
 use Rattle.script.specs.LineLaws.{row_empty, row_filled, row-bytes}
-use Rattle.writer.proofs.Writing.{wrote_none}
+use Rattle.script.specs.LineLaws.{wrote_none}
 use Rattle.writer.proofs.write_row.Goals as goal
 
 pub returns-then-words-i-eq0 : goal.returns-then-words-i-eq0

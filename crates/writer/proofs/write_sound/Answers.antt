@@ -5,7 +5,7 @@ use lib.ListN.{length}
 use borrow.Author.Tests.{leb-true, leb-false}
 use Rattle.layout.specs.Layout.{width}
 use Rattle.script.specs.Written.{written}
-use Rattle.writer.proofs.Writing.{too_few, enough}
+use Rattle.script.specs.LineLaws.{too_few, enough}
 use Rattle.writer.proofs.write_sound.Goals as goal
 
 pub has_room-requires : goal.has_room-requires

@@ -2,7 +2,7 @@
 use native.Mathlib.Omega.{arith}
 use native.Mathlib.Nat.{sub-zero}
 use Rattle.script.specs.LineLaws.{verts_more, verts_none}
-use Rattle.writer.proofs.Writing.{todo_all, todo_next, todo_done}
+use Rattle.script.specs.LineLaws.{todo_all, todo_next, todo_done}
 use Rattle.writer.proofs.write_verts.Goals as goal
 
 pub loop-i-preserved : goal.loop-i-preserved

@@ -1,7 +1,7 @@
 use mathlib.Core.Path.{◌≡◌}
 use Prim.Native.Nat.{◌+◌, ◌*◌, ◌-◌, ◌≤◌}
 use Rattle.script.specs.Written.{vert_rows}
-use Rattle.writer.proofs.Writing.{Todo}
+use Rattle.script.specs.LineLaws.{Todo}
 use Rattle.writer.proofs.write_verts.Given as goal
 
 abbrev pub invariant-loop-i : goal.invariant-loop-i
