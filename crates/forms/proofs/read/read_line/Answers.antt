@@ -1,12 +1,11 @@
 -- Of the three readers of a mesh's lines, and that of calls, the one that the first word names. Assumes nothing.
 use mathlib.Core.Path.{sym, ◌∙◌}
 use Rattle.forms.specs.Forms.{open_form, to_open, vert_form, to_vert, face_form, to_face}
-use Rattle.forms.specs.Words.{by_word}
+use Rattle.forms.specs.Words.{call_by_word}
 use Rattle.forms.proofs.Steps.{read_as}
 use Rattle.forms.proofs.read.read_line.Goals as goal
 
 pub returns-then-begins : goal.returns-then-begins
-unfolding by_word
 returns-then-begins c =
     let e1 = sym c.begins.ensures ∙ c.if-begins.true in
     let s = c.args.s.now in
@@ -14,7 +13,6 @@ returns-then-begins c =
     rw e1 (read_as open_form to_open s r.result.line r.result.at r.ensures)
 
 pub returns-then-begins-2 : goal.returns-then-begins-2
-unfolding by_word
 returns-then-begins-2 c =
     let e1 = sym c.begins.ensures ∙ c.if-begins.false in
     let e2 = sym c.begins-2.ensures ∙ c.if-begins-2.true in
@@ -23,7 +21,6 @@ returns-then-begins-2 c =
     rw (e1, e2) (read_as vert_form to_vert s r.result.line r.result.at r.ensures)
 
 pub returns-then-begins-3 : goal.returns-then-begins-3
-unfolding by_word
 returns-then-begins-3 c =
     let e1 = sym c.begins.ensures ∙ c.if-begins.false in
     let e2 = sym c.begins-2.ensures ∙ c.if-begins-2.false in
@@ -33,7 +30,7 @@ returns-then-begins-3 c =
     rw (e1, e2, e3) (read_as face_form to_face s r.result.line r.result.at r.ensures)
 
 pub returns : goal.returns
-unfolding by_word
+unfolding call_by_word
 returns c =
     let e1 = sym c.begins.ensures ∙ c.if-begins.false in
     let e2 = sym c.begins-2.ensures ∙ c.if-begins-2.false in
