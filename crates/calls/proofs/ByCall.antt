@@ -16,22 +16,31 @@ use Rattle.forms.specs.declared.line.Call.TheVariants.{Put, Clear, Reweigh, Adva
 use Rattle.calls.specs.Texts.{put_text, density_text, advance_text, clear_text, reweigh_text, report_text}
 use Rattle.calls.specs.Calls.{Called, called, looked, as_kernel, call_of}
 
+-- what a call leaves: the runs, and its text from the start of the bytes o
+abbrev Made : Called → List Float → List ℕ → List ℕ → ℕ → List ℕ → Type 0
+Made x fs ws o r o' =
+    record {
+      upper_bound : r ≤ 256;
+      floats_after : fs ≡ x.floats;
+      words_after : ws ≡ x.words;
+      wrote : Wrote o 0 x.text r o';
+    }
+
 -- the runs and what was written, where another call is made that is the same
-pub calling : {x y : Called} {fs : List Float} {ws o o' : List ℕ} {r : ℕ} → x ≡ y →
-    (r ≤ 256) × ((fs ≡ y.floats) × ((ws ≡ y.words) × Wrote o 0 y.text r o'))
-    → (r ≤ 256) × ((fs ≡ x.floats) × ((ws ≡ x.words) × Wrote o 0 x.text r o'))
-calling {o} {o' = o'} {r} e (b, (f, (v, w))) = (
-  b,
-  (
-    f ∙ (λ i. (sym e i).floats),
-    (v ∙ (λ i. (sym e i).words), subst (λ (t : List ℕ). Wrote o 0 t r o') (λ i. (sym e i).text) w),
-  ),
-)
+pub calling : {x y : Called} {fs : List Float} {ws o o' : List ℕ} {r : ℕ} → x ≡ y → Made y fs ws o r o' → Made x fs ws o r o'
+calling {o} {o' = o'} {r} e m =
+    record {
+      upper_bound = m.upper_bound;
+      floats_after = m.floats_after ∙ (λ i. (sym e i).floats);
+      words_after = m.words_after ∙ (λ i. (sym e i).words);
+      wrote = subst (λ (t : List ℕ). Wrote o 0 t r o') (λ i. (sym e i).text) m.wrote;
+    }
 
 -- a call that leaves the store as it is
-pub looking : {x : Called} {fs : List Float} {ws t o o' : List ℕ} {r : ℕ} → x ≡ looked fs ws t →
-    (r ≤ 256) × Wrote o 0 t r o' → (r ≤ 256) × ((fs ≡ x.floats) × ((ws ≡ x.words) × Wrote o 0 x.text r o'))
-looking e (b, w) = calling e (b, (refl, (refl, w)))
+pub looking : {x : Called} {fs : List Float} {ws t o o' : List ℕ} {r : ℕ} → x ≡ looked fs ws t
+    → record { upper_bound : r ≤ 256; wrote : Wrote o 0 t r o' } → Made x fs ws o r o'
+looking e m =
+    calling e (record { upper_bound = m.upper_bound; floats_after = refl; words_after = refl; wrote = m.wrote })
 
 -- ---- each call
 pub put_call_lem : (fs : List Float) (ws : List ℕ) {c : Call} {place : ℕ} {x y z sigma w alpha : Float}

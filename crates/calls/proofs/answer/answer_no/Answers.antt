@@ -4,5 +4,7 @@ use Rattle.calls.proofs.answer.answer_no.Goals as goal
 
 pub returns : goal.returns
 returns c =
-    rw (← c.refusal_number.ensures)
-    (c.newline.ensures.upper_bound, then c.write_no-at.ensures.wrote c.newline.ensures.wrote)
+    record {
+      upper_bound = c.newline.ensures.upper_bound;
+      wrote = rw (← c.refusal_number.ensures) (then c.write_no-at.ensures.wrote c.newline.ensures.wrote);
+    }

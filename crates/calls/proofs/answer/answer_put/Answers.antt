@@ -6,15 +6,22 @@ use Rattle.calls.proofs.answer.answer_put.Goals as goal
 
 pub returns-in-Needs : goal.returns-in-Needs
 returns-in-Needs c =
-    let place = c.args.place in (
-      c.newline.ensures.upper_bound,
-      answering (put_text place) (put_done place c.in-Needs.is) c.put.ensures
-          (then c.write_put-at.ensures.wrote c.newline.ensures.wrote),
-    )
+    let place = c.args.place in
+    let w = answering (put_text place) (put_done place c.in-Needs.is) c.put.ensures (then c.write_put-at.ensures.wrote c.newline.ensures.wrote) in
+    record {
+      upper_bound = c.newline.ensures.upper_bound;
+      floats_after = w.0;
+      words_after = w.1.0;
+      wrote = w.1.1;
+    }
 
 pub returns-in-Refused : goal.returns-in-Refused
 returns-in-Refused c =
-    let place = c.args.place in (
-      c.answer_no.ensures.upper_bound,
-      answering (put_text place) (put_refused place c.in-Refused.is) c.put.ensures c.answer_no.ensures.wrote,
-    )
+    let place = c.args.place in
+    let w = answering (put_text place) (put_refused place c.in-Refused.is) c.put.ensures c.answer_no.ensures.wrote in
+    record {
+      upper_bound = c.answer_no.ensures.upper_bound;
+      floats_after = w.0;
+      words_after = w.1.0;
+      wrote = w.1.1;
+    }

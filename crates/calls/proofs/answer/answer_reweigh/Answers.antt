@@ -6,16 +6,22 @@ use Rattle.calls.proofs.answer.answer_reweigh.Goals as goal
 
 pub returns-in-Done : goal.returns-in-Done
 returns-in-Done c =
-    let place = c.args.place in (
-      c.newline.ensures.upper_bound,
-      answering (reweigh_text place) (reweigh_done place c.in-Done.is) c.reweigh.ensures
-          (then c.write_reweigh-at.ensures.wrote c.newline.ensures.wrote),
-    )
+    let place = c.args.place in
+    let w = answering (reweigh_text place) (reweigh_done place c.in-Done.is) c.reweigh.ensures (then c.write_reweigh-at.ensures.wrote c.newline.ensures.wrote) in
+    record {
+      upper_bound = c.newline.ensures.upper_bound;
+      floats_after = w.0;
+      words_after = w.1.0;
+      wrote = w.1.1;
+    }
 
 pub returns-in-Refused : goal.returns-in-Refused
 returns-in-Refused c =
-    let place = c.args.place in (
-      c.answer_no.ensures.upper_bound,
-      answering (reweigh_text place) (reweigh_refused place c.in-Refused.is) c.reweigh.ensures
-          c.answer_no.ensures.wrote,
-    )
+    let place = c.args.place in
+    let w = answering (reweigh_text place) (reweigh_refused place c.in-Refused.is) c.reweigh.ensures c.answer_no.ensures.wrote in
+    record {
+      upper_bound = c.answer_no.ensures.upper_bound;
+      floats_after = w.0;
+      words_after = w.1.0;
+      wrote = w.1.1;
+    }
