@@ -5,9 +5,8 @@ use Rattle.std.proofs.Common.{◌∙◌, arith}
 use Rattle.std.proofs.Math.Bool.{true, false, cond}
 use mathlib.Core.List.{List, []}
 use Rattle.std.proofs.Math.ListN.{take}
-use Rattle.base.specs.Answers.{Answer, refused, granted, and_then, Outcome, outcome}
+use Rattle.base.specs.Answers.{Answer, refused, and_then, Outcome, outcome}
 use Rattle.base.specs.declared.refusal.Refusal.{Refusal}
-use Rattle.base.specs.declared.refusal.Checked.{Checked}
 use Rattle.base.specs.declared.refusal.Checked.TheVariants.{Passed, Failed}
 use Rattle.volume.specs.Volume.{body_volume}
 use Rattle.density.specs.declared.convention.Convention.{Convention}
@@ -18,7 +17,7 @@ use Rattle.layout.specs.Left.{held}
 use Rattle.layout.specs.Layers.{in_set, layers_check, in_layers}
 use Rattle.layout.specs.HidingLaws.{hid_verts, hid_faces, hid_corners, hid_status, hid_finished, hid_worded}
 use Rattle.layout.specs.LayerLaws.{seen-length, seen_verts, seen_faces, seen_corners, seen_status, front_status, front_worded}
-use Rattle.readings.specs.Readings.{Seen, report, answer_of, seen_by_lem, held_all_lem, held_filled, held_worst, held_seen}
+use Rattle.readings.specs.Readings.{Seen, report, answer_of, seen_by_lem, held_filled, held_seen}
 use Rattle.readings.specs.Finished.{complete_at, complete_in, passed_over_lem, beside, finished_step}
 use Rattle.readings.specs.Seeing.{shown, showing}
 use Rattle.readings.specs.SeenLaws.{same-held, same_filled, same_worst}

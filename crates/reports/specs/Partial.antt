@@ -1,33 +1,31 @@
 -- 02, L7: the report of what is finished "equals the ordinary report of a store holding just those places", "is never
 -- refused as unfinished", and is the ordinary report of its layers where nothing is left in them. Assumes nothing.
-use Rattle.std.specs.Prelude.{◌≡◌, Bool, List, ℕ, zero, suc, ◌+◌, ◌*◌, ◌-◌, ◌≤◌, ◌<◌, ltb, length, Float}
+use Rattle.std.specs.Prelude.{◌≡◌, Bool, List, ℕ, zero, suc, ◌*◌, ◌-◌, ◌≤◌, ◌<◌, ltb, length, Float}
 use Rattle.std.proofs.Math.Path.{refl, sym}
-use Rattle.std.proofs.Common.{ap, ◌∙◌, suc-mul}
+use Rattle.std.proofs.Common.{◌∙◌, suc-mul}
 use Rattle.std.proofs.Math.Bool.{true, false, cond}
-use Rattle.std.proofs.Math.Nat.{sub_self}
 use Rattle.std.proofs.Math.Decide.{dec_lt}
 use native.Mathlib.Omega.{arith}
 use Rattle.std.proofs.Math.Dec.{eqb}
 use borrow.Author.Tests.{eqb-true, eqb-false, lt-ltb}
 use Rattle.base.specs.Refusals.{number}
-use Rattle.base.specs.Answers.{Answer, granted, and_then}
+use Rattle.base.specs.Answers.{granted, and_then}
 use Rattle.base.specs.declared.refusal.Refusal.TheVariants.{ShortStore, Unsound, NoLayer, Unfinished}
-use Rattle.base.specs.declared.refusal.Checked.{Checked}
 use Rattle.base.specs.declared.refusal.Checked.TheVariants.{Passed, Failed}
 use Rattle.density.specs.declared.convention.Convention.{Convention}
 use Rattle.layout.specs.Layout.{place_limit, corners_from, faces_of, status_of, finished_of, done_of, layer_of}
 use Rattle.layout.specs.Soundness.{long_enough, sound, store_check}
-use Rattle.layout.specs.SoundLaws.{Ready, Worded, fine}
+use Rattle.layout.specs.SoundLaws.{Ready, fine}
 use Rattle.layout.specs.Left.{left_at, left_of}
 use Rattle.layout.specs.LeftLaws.{left-none}
 use Rattle.layout.specs.Layers.{in_set, all_layers, layers_check, in_layers}
 use Rattle.layout.specs.HidingLaws.{hid-sound}
 use Rattle.layout.specs.LayerLaws.{seen_faces, seen_status, seen_finished, seen_worded}
-use Rattle.readings.specs.Readings.{Seen, report, answer_of, held_filled, held_seen, read_step}
+use Rattle.readings.specs.Readings.{report, answer_of, held_seen, read_step}
 use Rattle.readings.specs.Finished.{complete_at, complete_in, passed_over_lem, beside, finished_step}
 use Rattle.readings.specs.SeenLaws.{same-held, same_filled, same_worst, seen_body}
 use Rattle.readings.specs.Layered.{reads_as_before}
-use Rattle.reports.specs.FinishedLaws.{long-seen, complete_faces, complete_body, complete_status, complete_finished}
+use Rattle.reports.specs.FinishedLaws.{long-seen, complete_body, complete_status, complete_finished}
 
 -- ---- work left, place by place
 none_left : (q : ℕ) (ws : List ℕ) (m k : ℕ) → ((i : ℕ) → i < k → status_of q ws i - 1 ≤ finished_of q ws i)

@@ -1,5 +1,5 @@
 -- `readings::at_point::density` meets its contract. Assumes nothing.
-use mathlib.Core.List.{◌∷◌, map}
+use mathlib.Core.List.{[], ◌∷◌, map}
 use lib.Ieee.{Float}
 use Rattle.base.specs.Answers.{accepted, outcome}
 use mathlib.Core.Path.{◌≡◌, sym, ap, ◌∙◌}
@@ -22,7 +22,7 @@ scale_of-s-requires c =
     ∙ c.in-Passed.is)) in
     let w : Worded width c.args.words.now c.word-faces.result
     = rw c.word-faces.ensures h.places in
-    (omega (arith, h.mesh.floats), seen_ready _ _ _ _ c.seen_places-seen.ensures w)
+    record { fact_1 = omega (arith, h.mesh.floats); fact_2 = seen_ready _ _ _ _ c.seen_places-seen.ensures w }
 
 pub density_sum-requires : goal.density_sum-requires
 density_sum-requires c =

@@ -48,10 +48,11 @@ report_seen-told-requires c =
     let h = check_fine width _ _ _ c.check_seen.ensures
     c.in-Passed.is in
     let w : Worded width c.args.words.now c.word-faces.result
-    = rw c.word-faces.ensures h.places in (
-      omega (arith, h.mesh.floats),
-      complete_ready _ _ _ _ c.complete_places-done.ensures w,
-    )
+    = rw c.word-faces.ensures h.places in
+    record {
+      fact_1 = omega (arith, h.mesh.floats);
+      fact_2 = complete_ready _ _ _ _ c.complete_places-done.ensures w;
+    }
 
 -- 4, 5 or 16
 pub returns-in-Failed : goal.returns-in-Failed

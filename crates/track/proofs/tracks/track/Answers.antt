@@ -20,7 +20,7 @@ scale_of-s-requires c =
     ∙ c.in-Passed.is)) in
     let w : Worded width c.args.words.now c.word-faces.result
     = rw c.word-faces.ensures h.places in
-    (omega (arith, h.mesh.floats), seen_ready _ _ _ _ c.seen_places-seen.ensures w)
+    record { fact_1 = omega (arith, h.mesh.floats); fact_2 = seen_ready _ _ _ _ c.seen_places-seen.ensures w }
 
 pub track_points-requires : goal.track_points-requires
 track_points-requires c =
