@@ -21,7 +21,7 @@ returns-then-verts_due c =
 pub add_face-p-requires : goal.add_face-p-requires
 add_face-p-requires c =
     let p = c.requires in
-    (p.fact_1, (sym c.verts_due.ensures ∙ c.if-verts_due.false, p.fact_2))
+    record { fact_1 = p.fact_1; fact_2 = (sym c.verts_due.ensures ∙ c.if-verts_due.false, p.fact_2) }
 
 pub settle-requires : goal.settle-requires
 settle-requires c =

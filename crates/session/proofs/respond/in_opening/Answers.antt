@@ -1,5 +1,6 @@
 -- A vert or a face line; any other gives up the opening. Assumes nothing.
 use mathlib.Core.Path.{◌∙◌}
+use borrow.Enum.Refused.{opened}
 use Rattle.session.specs.Session.{session}
 use Rattle.session.proofs.Lines.{saying, small_as, small-idle}
 use Rattle.session.proofs.Taken.{no_mesh_lem}
@@ -25,6 +26,6 @@ returns-in_default c =
     let e = c.refuse.ensures in
     let u = e.opening_value.0 ∙ c.idle.ensures in record {
       small = (small_as u small-idle, e.opening_value.1);
-      does = saying (no_mesh_lem s a.l c.in_default.keys3)
+      does = saying (no_mesh_lem s a.l (opened c.in_default.in_default-own.keys3))
           (λ i. session (u i) a.floats.now a.words.now a.coords.now a.corners.now) e.wrote;
     }

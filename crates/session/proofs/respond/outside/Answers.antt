@@ -1,4 +1,5 @@
 -- An open line, a call, or a line that is refused. Assumes nothing.
+use borrow.Enum.Refused.{opened}
 use Rattle.session.specs.Session.{session}
 use Rattle.session.proofs.Lines.{saying, small_as}
 use Rattle.session.proofs.Taken.{no_call}
@@ -10,7 +11,8 @@ returns-in-Open c =
 
 pub returns-in-OnStore : goal.returns-in-OnStore
 returns-in-OnStore c =
-    rw c.in-OnStore.is c.call_line.ensures
+    let e = c.call_line.ensures in
+    record { small_2 = e.small; does = rw c.in-OnStore.is e.does }
 
 pub returns-in_default : goal.returns-in_default
 returns-in_default c =
@@ -19,6 +21,6 @@ returns-in_default c =
     let e = c.refuse.ensures in
     let u = c.refuse.ensures.opening_value.0 in record {
       small_2 = (small_as u c.requires.small, e.opening_value.1);
-      does = saying (no_call s a.l c.in_default.keys3)
+      does = saying (no_call s a.l (opened c.in_default.in_default-own.keys3))
           (λ i. session (u i) a.floats.now a.words.now a.coords.now a.corners.now) e.wrote;
     }

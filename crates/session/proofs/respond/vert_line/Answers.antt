@@ -8,7 +8,7 @@ use Rattle.session.proofs.respond.vert_line.Goals as goal
 
 pub add_vert-p-requires : goal.add_vert-p-requires
 add_vert-p-requires c =
-    (c.requires.fact_1, sym c.verts_due.ensures ∙ c.if-verts_due.true)
+    record { fact_1 = c.requires.fact_1; fact_2 = sym c.verts_due.ensures ∙ c.if-verts_due.true }
 
 pub settle-requires : goal.settle-requires
 settle-requires c =
