@@ -141,8 +141,8 @@ fn store(folder: &Path, head: &Head) -> Result<Store> {
 /// The store of a head with zeros for its mesh, whose file is looked at all the same. Zeros that nobody writes take no
 /// memory, so this is several times as fast as the store itself.
 ///
-/// Put, clear and reweigh do on it exactly what they do on the store: by their contracts (`putStep`, `clearStep`,
-/// `reweighStep`, crates/store/specs) they read no coordinate, write none and no corner, and ask of the corners alone
+/// Put, clear and reweigh do on it exactly what they do on the store: by their contracts (`put_step_lem`, `clear_step`,
+/// `reweigh_step`, crates/store/specs) they read no coordinate, write none and no corner, and ask of the corners alone
 /// that each be below the count of vertices, as that of the store's mesh was found at its opening.
 fn places(folder: &Path, head: &Head) -> Result<Store> {
     let path = mesh::path(folder, head.generation);

@@ -1,9 +1,0 @@
--- `test_pieces::systems::put_systems` is safe and ends. Assumes nothing.
-use Prim.Native.Nat.{◌≤◌, ◌-◌}
-use Rattle.test_pieces.proofs.systems.put_systems.Given as goal
-
-abbrev pub invariant-loop-i : goal.invariant-loop-i
-invariant-loop-i l = l.i ≤ 42
-
-abbrev pub decreases-loop-i : goal.decreases-loop-i
-decreases-loop-i l = 42 - l.i
