@@ -45,8 +45,8 @@ pub data Call : Type 0 where
 -- ---- the machine: "It refuses by the table below as its own places stand; a refused call changes nothing."
 
 -- row 6: "place ≥ 32"
-abbrev pub in_place_lem : Machine → ℕ → Turn → Turn
-in_place_lem m i t = cond (ltb i place_limit) t (turn m (refused NoPlace))
+abbrev pub in_place : Machine → ℕ → Turn → Turn
+in_place m i t = cond (ltb i place_limit) t (turn m (refused NoPlace))
 
 -- 02, L5: "16 when a layer is above 15, after 6"
 abbrev pub in_layer : Machine → ℕ → Turn → Turn
@@ -94,9 +94,9 @@ posted m a = record { next = m; reply = a.reply; out = []; bytes = a.bytes }
 unfoldable pub machine : Machine → Call → Turn
 machine m (put i k l) =
     let r = m.mesh.radius in
-    in_place_lem m i (in_layer m l (put_turn m i k (decomposed k r) (fit_of k r) l))
-machine m (clear i) = in_place_lem m i (clear_turn m i (get_or m.places i empty))
-machine m (reweigh i v) = in_place_lem m i (reweigh_turn m i v (get_or m.places i empty))
+    in_place m i (in_layer m l (put_turn m i k (decomposed k r) (fit_of k r) l))
+machine m (clear i) = in_place m i (clear_turn m i (get_or m.places i empty))
+machine m (reweigh i v) = in_place m i (reweigh_turn m i v (get_or m.places i empty))
 machine m (advance n) = advance_turn m n
 machine m squeeze = squeeze_turn m
 machine m (read ls r) = given m (read_turn m ls r)

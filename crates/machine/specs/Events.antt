@@ -9,7 +9,7 @@ use Rattle.adopt.specs.Adopt.{adopted, another, adopt_step}
 use Rattle.kernel.specs.declared.kernel.Kernel.{Kernel}
 use Rattle.pieces.specs.declared.pieces.Pieces.{Pieces}
 use Rattle.machine.specs.Machine.{Mesh, Provenance, Place, empty, full, need, left_place, Machine, Turn, turn, with_places}
-use Rattle.machine.specs.Calls.{Call, in_place_lem, machine, Store, Result, result, store, charged_by, done_by}
+use Rattle.machine.specs.Calls.{Call, in_place, machine, Store, Result, result, store, charged_by, done_by}
 
 -- an event of a store: a call of its own, or an adoption, which is ours, beyond 02 (docs/DECISIONS.md, Many hands). In
 -- `adopt i o s j` place j of another store comes into place i: the machine gets that store's machine o, the store its
@@ -47,7 +47,7 @@ adopt_turn m i o (full k fit b p l) =
 -- 6 of either place
 abbrev pub turn_of : Machine → Event → Turn
 turn_of m (call c) = machine m c
-turn_of m (adopt i o s j) = in_place_lem m i (in_place_lem m j (adopt_turn m i o.mesh (get_or o.places j empty)))
+turn_of m (adopt i o s j) = in_place m i (in_place m j (adopt_turn m i o.mesh (get_or o.places j empty)))
 
 -- ---- the store
 abbrev pub result_of : ℕ → Store → Event → Result
