@@ -10,7 +10,10 @@ unfolding feed_end
 returns-then-st-eq0 c =
     let z = c.if-st-eq0.true in
     let p = c.requires in
-    rw (eq-eqb _ _ z, z) ((p, omega arith), (refl, record { next = refl; run = refl }))
+    rw (eq-eqb _ _ z, z) (record {
+      small = (p, omega arith);
+      feeds = (refl, record { next = refl; run = refl });
+    })
 
 pub returns : goal.returns
 unfolding feed_end

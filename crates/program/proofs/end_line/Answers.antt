@@ -9,4 +9,7 @@ unfolding end_line
 returns c =
     let e = c.respond-s.ensures in
     let a = c.args in
-    rw (← c.line_in-l.ensures) (e.small, (ap (λ (s : Session). held_with s a.line.now 0) e.does.0, e.does.1))
+    rw (← c.line_in-l.ensures) (record {
+      small = e.small;
+      feeds = (ap (λ (s : Session). held_with s a.line.now 0) e.does.0, e.does.1);
+    })

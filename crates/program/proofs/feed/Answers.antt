@@ -15,4 +15,7 @@ unfolding feed_byte
 returns c =
     let e = c.keep.ensures in
     rw (ne_eqb _ _ c.if-b-eq10.false, e.opening_value.0, e.opening_value.1, e.line_after.0, e.line_after.1)
-    ((c.requires, omega arith), (refl, record { next = refl; run = refl }))
+    (record {
+      small = (c.requires, omega arith);
+      feeds = (refl, record { next = refl; run = refl });
+    })
