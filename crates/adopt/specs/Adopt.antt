@@ -6,7 +6,8 @@ use Rattle.base.specs.Answers.{Answer, counted}
 use Rattle.base.specs.declared.refusal.Refusal.TheVariants.{ShortStore, Unsound, NoPlace, Vacant}
 use Rattle.base.specs.declared.refusal.Checked.{Checked}
 use Rattle.base.specs.declared.refusal.Checked.TheVariants.{Passed, Failed}
-use Rattle.layout.specs.Layout.{place_limit, radius_of, kernel_from, pieces_from, state_from, verts_of, faces_of, status_of, coords_of, corners_of}
+use Rattle.layout.specs.Layout.{place_limit, radius_of, kernel_from, pieces_from, state_from, verts_of, faces_of}
+use Rattle.layout.specs.Layout.{status_of, coords_of, corners_of}
 use Rattle.layout.specs.Runs.{write}
 use Rattle.layout.specs.Soundness.{long_enough, sound}
 use Rattle.layout.specs.Left.{left_at}
@@ -35,7 +36,8 @@ same_body_lem q fs ws gs us =
 -- status, the steps and the layer
 abbrev pub adopted_floats : List Float → ℕ → List Float → ℕ → List Float
 adopted_floats fs i gs j =
-    write (write fs (kernel_from i) (take 7 (drop (kernel_from j) gs))) (pieces_from i) (take 48 (drop (pieces_from j) gs))
+    write (write fs (kernel_from i) (take 7 (drop (kernel_from j) gs))) (pieces_from i)
+    (take 48 (drop (pieces_from j) gs))
 
 abbrev pub adopted_words : ℕ → List ℕ → ℕ → List ℕ → ℕ → List ℕ
 adopted_words q ws i us j = write ws (state_from q i) (take q (drop (state_from q j) us))

@@ -1,8 +1,10 @@
 -- Laws of the tests of `Same`: each says `≡`, a float's is that of its bits, and that of two runs grows by one. Assumes
 -- nothing.
-use Rattle.std.specs.Prelude.{◌≡◌, Bool, true, false, ◌&&◌, ℕ, ◌+◌, ◌≤◌, ◌<◌, T, eqb, ℤ, pos, negsuc, length, get_or, take, Float}
+use Rattle.std.specs.Prelude.{◌≡◌, Bool, true, false, ◌&&◌, ℕ, ◌+◌, ◌≤◌, ◌<◌, T, eqb, ℤ, pos, negsuc, length, get_or}
+use Rattle.std.specs.Prelude.{take, Float}
 use Rattle.std.proofs.Math.Path.{refl}
-use Rattle.std.proofs.Common.{sym, ap, ◌∙◌, add-one, arith, eqb-true, eq-eqb, ne_eqb, take-suc, take_all, length-take-le}
+use Rattle.std.proofs.Common.{sym, ap, ◌∙◌, add-one, arith, eqb-true, eq-eqb, ne_eqb, take-suc, take_all}
+use Rattle.std.proofs.Common.{length-take-le}
 use Rattle.std.specs.Bool.{beq}
 use Rattle.std.proofs.Math.Bool.{and-true, and_assoc}
 use Rattle.std.proofs.lemmas.Bool.{false≢true}

@@ -52,7 +52,8 @@ module _ (f₀ : List Float) (w₀ : List ℕ) (vs m b₀ : ℕ) where
     pub long_w : length w ≡ length w₀
     pub mesh_f : drop coords_from f ≡ drop coords_from f₀
     pub mesh_w : drop (corners_from width) w ≡ drop (corners_from width) w₀
-    pub ahead : (j : ℕ) → i ≤ j → j < 32 → Ready m j (status_of width w j - 1) (finished_of width w j) (done_of width w j)
+    pub ahead : (j : ℕ) → i ≤ j → j < 32
+        → Ready m j (status_of width w j - 1) (finished_of width w j) (done_of width w j)
     pub state : standing f w b ≡ runTo i
 
   pub start : Worded width w₀ m → Sweep f₀ w₀ b₀ 0

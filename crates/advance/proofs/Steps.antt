@@ -24,7 +24,8 @@ module _ (t : ℕ → Triangle) (c : V3) (m base p : ℕ) where
   -- what k faces of one piece, from d on, leave in the floats
   abbrev pub chunked : List Float → ℕ → ℕ → ℕ → List Float
   chunked fs n d k =
-      set fs (base + 3 * n + 2) (times (face_step t c (get_or fs (base + 3 * n) nan)) k d (get_or fs (base + 3 * n + 2) nan))
+      set fs (base + 3 * n + 2)
+      (times (face_step t c (get_or fs (base + 3 * n) nan)) k d (get_or fs (base + 3 * n + 2) nan))
 
   -- k steps in one piece, none of them its last
   pub chunk_more : (fs : List Float) (n d b : ℕ) → n < p → base + 3 * n + 2 < length fs → (k : ℕ) → d + k < m → k ≤ b

@@ -6,7 +6,8 @@ use Rattle.base.specs.Loops.{iterate}
 use Rattle.mesh.specs.declared.vectors.V3.{V3}
 use Rattle.mesh.specs.declared.triangles.Triangle.{Triangle}
 use Rattle.volume.specs.Volume.{face_sum}
-use Rattle.layout.specs.Layout.{place_limit, centre_at, pieces_from, verts_of, faces_of, status_of, finished_at, finished_of, done_at, done_of}
+use Rattle.layout.specs.Layout.{place_limit, centre_at, pieces_from, verts_of, faces_of, status_of, finished_at}
+use Rattle.layout.specs.Layout.{finished_of, done_at, done_of}
 use Rattle.layout.specs.Soundness.{store_check}
 use Rattle.layout.specs.Left.{held, left_of}
 use Rattle.layout.specs.After.{After, after, guarded}
@@ -69,7 +70,8 @@ places_run q t m (suc i) s = stored q (places_run q t m i s).words i (place_work
 
 -- ---- the call: "the step count in its result is done, beside left"
 abbrev pub spent_all : ℕ → List Float → List ℕ → ℕ → Standing
-spent_all q fs ws n = places_run q (held q fs ws (verts_of ws) (faces_of ws)) (faces_of ws) place_limit (standing fs ws n)
+spent_all q fs ws n =
+    places_run q (held q fs ws (verts_of ws) (faces_of ws)) (faces_of ws) place_limit (standing fs ws n)
 
 unfoldable pub advance_step : ℕ → List Float → List ℕ → ℕ → After
 advance_step q fs ws n =

@@ -39,7 +39,8 @@ module _ (m : ℕ) (xs ys zs rs : List Float) where
   term k i = unit_term (get_or k.c 0 nan) (get_or k.c 1 nan) (get_or k.c 2 nan) k.sigma k.w (get_or xs i nan)
       (get_or ys i nan) (get_or zs i nan)
 
-  term_is : (k : Kernel) (i : ℕ) → lt (abs (k.alpha ⊖ one)) stay_limit ≡ true → term k i ≡ density_of k (lane xs ys zs i)
+  term_is : (k : Kernel) (i : ℕ) → lt (abs (k.alpha ⊖ one)) stay_limit ≡ true
+      → term k i ≡ density_of k (lane xs ys zs i)
   term_is k i h = unit_is k (get_or xs i nan) (get_or ys i nan) (get_or zs i nan) h
 
   pub lanes_unit : (k : Kernel) (ss : List Float) → lt (abs (k.alpha ⊖ one)) stay_limit ≡ true
@@ -159,7 +160,8 @@ module _ (f : List Float → Float) (ps : List Float) where
       = stretch-more (at + i) 1 r ∙ ap (λ (l : List Float). l ++ stretch f ps (at + i + 1) r) (one-stretch (at + i)) in
       ap (λ (j : ℕ). get_or (stretch f ps at j) i d) (sym e)
       ∙ (ap (λ (l : List Float). get_or l i d) (m ∙ ap (λ (l : List Float). stretch f ps at i ++ l) n)
-      ∙ get_or_at (stretch f ps at i) (f (point_at ps (at + i))) (stretch f ps (at + i + 1) r) d i (stretch-length at i))
+      ∙ get_or_at (stretch f ps at i) (f (point_at ps (at + i))) (stretch f ps (at + i + 1) r) d i
+      (stretch-length at i))
 
   -- the sums at the points from `at` on are a stretch
   pub lanes_are : (m at : ℕ) (xs ys zs rs : List Float) → m ≤ 64 → Thirds m ps (3 * at) xs

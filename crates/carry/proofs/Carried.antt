@@ -11,7 +11,8 @@ use lib.ListN.{length, set, length-set, length-append}
 use lib.Ieee.{Float}
 use borrow.Author.Tests.{leb-true}
 use Rattle.base.specs.declared.refusal.Checked.TheVariants.{Passed}
-use Rattle.layout.specs.Layout.{width, place_limit, coords_from, corners_from, verts_of, faces_of, status_of, finished_of, done_of}
+use Rattle.layout.specs.Layout.{width, place_limit, coords_from, corners_from, verts_of, faces_of, status_of}
+use Rattle.layout.specs.Layout.{finished_of, done_of}
 use Rattle.layout.specs.Runs.{write}
 use Rattle.layout.specs.RunLaws.{sets-write, write-more, write-none}
 use Rattle.layout.specs.Soundness.{long_enough, sound, store_check}

@@ -5,7 +5,8 @@ use Rattle.base.specs.Answers.{counted}
 use Rattle.base.specs.declared.refusal.Refusal.TheVariants.{ShortStore, Unsound}
 use Rattle.base.specs.declared.refusal.Checked.{Checked}
 use Rattle.base.specs.declared.refusal.Checked.TheVariants.{Passed, Failed}
-use Rattle.layout.specs.Layout.{place_limit, width, coords_from, corners_from, verts_of, faces_of, status_of, finished_of, done_of, corners_of}
+use Rattle.layout.specs.Layout.{place_limit, width, coords_from, corners_from, verts_of, faces_of, status_of}
+use Rattle.layout.specs.Layout.{finished_of, done_of, corners_of}
 use Rattle.layout.specs.Runs.{write}
 use Rattle.layout.specs.Soundness.{long_enough, sound}
 use Rattle.layout.specs.After.{After, after, guarded}
@@ -34,7 +35,8 @@ carried_words ws = verts_of ws ∷ faces_of ws ∷ (carried_rows ws place_limit 
 -- first, for the counts V and F that the old words have, whatever they are
 
 abbrev pub room_for : List ℕ → List Float → List ℕ → Bool
-room_for ws gs us = leb (corners_from width + 3 * faces_of ws) (length us) && leb (coords_from + 3 * verts_of ws) (length gs)
+room_for ws gs us =
+    leb (corners_from width + 3 * faces_of ws) (length us) && leb (coords_from + 3 * verts_of ws) (length gs)
 
 unfoldable pub carry_check : List Float → List ℕ → List Float → List ℕ → Checked
 carry_check fs ws gs us =
@@ -45,4 +47,5 @@ carry_check fs ws gs us =
 unfoldable pub carry_step : List Float → List ℕ → List Float → List ℕ → After
 carry_step fs ws gs us =
     guarded (carry_check fs ws gs us) gs us
-    (after (counted (verts_of ws ∷ faces_of ws ∷ [])) (write gs 0 (carried_floats fs ws)) (write us 0 (carried_words ws)))
+    (after (counted (verts_of ws ∷ faces_of ws ∷ [])) (write gs 0 (carried_floats fs ws))
+    (write us 0 (carried_words ws)))

@@ -1,9 +1,11 @@
 -- Laws of closed meshes: what one face adds, and that numbers in pairs are edges in pairs. Assumes nothing.
-use Rattle.std.specs.Prelude.{◌≡◌, refl, Bool, true, false, not, ◌&&◌, cond, List, [], ◌∷◌, ℕ, suc, ◌+◌, ◌*◌, ◌/◌, ◌%◌, ◌≤◌, ◌<◌, eqb, ltb, length, get_or, drop}
+use Rattle.std.specs.Prelude.{◌≡◌, refl, Bool, true, false, not, ◌&&◌, cond, List, [], ◌∷◌, ℕ, suc, ◌+◌, ◌*◌, ◌/◌, ◌%◌}
+use Rattle.std.specs.Prelude.{◌≤◌, ◌<◌, eqb, ltb, length, get_or, drop}
 use Rattle.std.proofs.Common.{sym, ap, ◌∙◌, true≢false, arith, eq-eqb, ltb-true, ltb-false, eqb-true}
 use Rattle.std.proofs.Math.Bool.{and_assoc, and-true, and-eq-true_iff}
 use Rattle.std.proofs.lemmas.Bool.{eqb-false, not-true, not-false}
-use Rattle.closed.specs.Closed.{Edge, edge, same, edges, occurrences, distinct_corners, once, each, passes, closed_check}
+use Rattle.closed.specs.Closed.{Edge, edge, same, edges, occurrences, distinct_corners, once, each, passes}
+use Rattle.closed.specs.Closed.{closed_check}
 use Rattle.sort.specs.Order.{is}
 use Rattle.sort.specs.OrderLaws.{is_yes, is_no}
 use Rattle.near.specs.NearLaws.{neither}
@@ -278,7 +280,8 @@ pub passes-not : (ks : List ℕ) → distinct_corners ks ≡ false → false ≡
 unfolding passes
 passes-not ks e = rw e refl
 
-passes-is : (ks : List ℕ) {t : Bool} → distinct_corners ks ≡ true → each (once (edges ks)) (edges ks) ≡ t → t ≡ passes ks
+passes-is : (ks : List ℕ) {t : Bool} → distinct_corners ks ≡ true → each (once (edges ks)) (edges ks) ≡ t
+    → t ≡ passes ks
 unfolding passes
 passes-is ks d e = rw (d, e) refl
 

@@ -11,7 +11,8 @@ use Rattle.near.specs.NearLaws.{within_part, inside_no}
 use Rattle.edges.specs.declared.ranges.Batch.{Batch}
 use Rattle.edges.specs.Numbers.{code, Faced}
 use Rattle.sort.specs.Order.{is, copies, All, Rising, Ordered}
-use Rattle.sort.specs.OrderLaws.{is_yes, is_no, is-pair, copies-next, copies-le, copies-past, copies-none, copies-two, all_moved, all_none}
+use Rattle.sort.specs.OrderLaws.{is_yes, is_no, is-pair, copies-next, copies-le, copies-past, copies-none, copies-two}
+use Rattle.sort.specs.OrderLaws.{all_moved, all_none}
 use Rattle.closed.specs.Held.{tally, Cut, Sound, Gathered, Halved, Paired, Unpaired, Matched, Unmatched}
 
 -- ---- a face taken off the faces
@@ -269,7 +270,10 @@ module _ {xs : List ℕ} {n i : ℕ} (r : Rising xs 0 n) (p : Pairs xs i) where
           → ltb i j ≡ t → ⊥
       other k z j c d e true g = f j (ltb-true i j g) d (omega arith)
       other k z j c d e false g =
-          let u = ltb-false i j g in let q : j ≡ i = omega arith in let s = ap (λ (y : ℕ). get_or xs y 0) q in omega arith
+          let u = ltb-false i j g in
+          let q : j ≡ i = omega arith in
+          let s = ap (λ (y : ℕ). get_or xs y 0) q in
+          omega arith
 
   pub unpaired_next : i + 1 < n → get_or xs i 0 % 2 ≡ 0 → (get_or xs (i + 1) 0 ≡ get_or xs i 0 + 1 → ⊥)
       → Unpaired xs n (get_or xs i 0)

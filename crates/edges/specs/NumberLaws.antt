@@ -1,6 +1,8 @@
 -- Laws of the numbers of edges, and of the words that they are put into. Assumes nothing.
-use Rattle.std.specs.Prelude.{◌≡◌, ℕ, ◌+◌, ◌*◌, ◌<◌, ◌≤◌, Bool, true, false, cond, ◌&&◌, List, length, ◌==◌, ◌≢◌, nat_le, nat_lt, slice_index, slice_set, refl}
-use Rattle.std.proofs.Common.{sym, ap, ◌∙◌, true≢false, add-zero, add-one, arith, length-set, get_or-set_same, get_or-set_other, le-leb, lt-ltb, leb-true, ltb-true, eqb-true}
+use Rattle.std.specs.Prelude.{◌≡◌, ℕ, ◌+◌, ◌*◌, ◌<◌, ◌≤◌, Bool, true, false, cond, ◌&&◌, List, length, ◌==◌, ◌≢◌}
+use Rattle.std.specs.Prelude.{nat_le, nat_lt, slice_index, slice_set, refl}
+use Rattle.std.proofs.Common.{sym, ap, ◌∙◌, true≢false, add-zero, add-one, arith, length-set, get_or-set_same}
+use Rattle.std.proofs.Common.{get_or-set_other, le-leb, lt-ltb, leb-true, ltb-true, eqb-true}
 use Rattle.std.proofs.Math.Bool.{and-eq-true_iff}
 use Rattle.std.proofs.lemmas.Bool.{eqb-false}
 use Rattle.sort.specs.Order.{is, copies, Within}
@@ -16,7 +18,8 @@ put_one c low end x n xs h a b = go (nat_le low x && nat_lt x end) refl
     differs : (nat_le low x && nat_lt x end) ≡ false → x ≢ c
     differs e d = true≢false (sym (rw (d, le-leb low c a, lt-ltb c end b) refl) ∙ e)
 
-    go : (t : Bool) → (nat_le low x && nat_lt x end) ≡ t → copies c (slice_set xs n x) (n + cond t 1 0) ≡ copies c xs n + is x c
+    go : (t : Bool) → (nat_le low x && nat_lt x end) ≡ t
+        → copies c (slice_set xs n x) (n + cond t 1 0) ≡ copies c xs n + is x c
     go true e =
         let p = get_or-set_same xs n x 0 h in
         let q = copies-above c xs n x n (omega arith) in
@@ -27,7 +30,8 @@ put_one c low end x n xs h a b = go (nat_le low x && nat_lt x end) refl
         rw (add-zero n) (omega arith)
 
 -- ---- the number of an edge, from its lesser corner, its greater corner and its direction
-pub code_picked : (a b : ℕ) {x y z : ℕ} → x ≡ cond (nat_lt a b) a b → y ≡ cond (nat_lt a b) b a → z ≡ cond (nat_lt a b) 0 1
+pub code_picked : (a b : ℕ) {x y z : ℕ} → x ≡ cond (nat_lt a b) a b → y ≡ cond (nat_lt a b) b a
+    → z ≡ cond (nat_lt a b) 0 1
     → 2 * (x * 1048576 + y) + z ≡ code a b
 unfolding code
 code_picked a b {x} {y} {z} = go (nat_lt a b)

@@ -16,7 +16,8 @@ use Rattle.base.specs.LoopLaws.{every_at, every_all}
 use Rattle.base.specs.declared.refusal.Refusal.TheVariants.{ShortStore, Unsound}
 use Rattle.base.specs.declared.refusal.Checked.TheVariants.{Passed, Failed}
 use Rattle.mesh.specs.Checks.{vertex_limit, face_limit, all_below}
-use Rattle.layout.specs.Layout.{place_limit, layer_limit, state_from, corners_from, corners_of, verts_of, faces_of, status_of, finished_of, done_of, layer_of}
+use Rattle.layout.specs.Layout.{place_limit, layer_limit, state_from, corners_from, corners_of, verts_of, faces_of}
+use Rattle.layout.specs.Layout.{status_of, finished_of, done_of, layer_of}
 use Rattle.layout.specs.Runs.{write}
 use Rattle.layout.specs.RunLaws.{length-write, write_before, write_at, write-rest, write-take}
 use Rattle.layout.specs.Soundness.{long_enough, place_sound, layer_sound, place_sound_at, sound, store_check}
@@ -121,7 +122,8 @@ module _ (q : ℕ) (test : ℕ → Bool) (ws : List ℕ) (long : corners_from q 
   unfolding hiding
   hidden_next k h e =
       let m = hiding-length k (omega arith) in
-      rw (add-one k, e) (write-take (hiding q test ws k) (corners_from q) (state_from q k) (replicate q 0) (row_ends k h)
+      rw (add-one k, e) (write-take (hiding q test ws k) (corners_from q) (state_from q k) (replicate q 0)
+      (row_ends k h)
       (omega arith))
 
   -- nothing is hidden where every place passes
@@ -235,7 +237,8 @@ module _ (q : ℕ) (three : 3 ≤ q) (test : ℕ → Bool) (fs : List Float) (ws
       let r = both (leb (verts_of ws) vertex_limit && leb (faces_of ws) face_limit)
       (every (place_sound_at q ws) place_limit && all_below (verts_of ws) (corners_of q ws)) e in
       let t = both (every (place_sound_at q ws) place_limit) (all_below (verts_of ws) (corners_of q ws)) r.1 in
-      let p = every_all (place_sound_at q vs) 32 (λ i h. place_sound_lem i h (every_at (place_sound_at q ws) 32 i h t.0)) in
+      let p = every_all (place_sound_at q vs) 32
+      (λ i h. place_sound_lem i h (every_at (place_sound_at q ws) 32 i h t.0)) in
       rw (p, hid_verts q test ws long, hid_faces q test ws long, hid_corners q test ws long, r.0, t.1) refl
 
   pub hid-sound : store_check q fs ws ≡ Passed → store_check q fs vs ≡ Passed

@@ -1,13 +1,16 @@
 -- Laws of a run that is written from a place on. Assumes nothing.
 use Rattle.std.specs.Prelude.{◌≡◌, ℕ, ◌+◌, ◌-◌, ◌≤◌, ◌<◌, set, replicate}
 use Rattle.std.proofs.Math.Path.{refl, sym, ap}
-use Rattle.std.proofs.Common.{◌∙◌, zero-add, add-one, length-take, length-set, take-add, take-take, take-suc, take_all, get_or-drop, get_or-append-add}
+use Rattle.std.proofs.Common.{◌∙◌, zero-add, add-one, length-take, length-set, take-add, take-take, take-suc, take_all}
+use Rattle.std.proofs.Common.{get_or-drop, get_or-append-add}
 use mathlib.Core.List.{List, [], ◌∷◌, ◌++◌, append_assoc}
 use native.Mathlib.Omega.{arith}
-use Rattle.std.proofs.Math.ListN.{length, take, drop, get_or, length-append, length-drop, take-append-drop, get_or-append}
+use Rattle.std.proofs.Math.ListN.{length, take, drop, get_or, length-append, length-drop, take-append-drop}
+use Rattle.std.proofs.Math.ListN.{get_or-append}
 use Rattle.std.proofs.lemmas.List.{length-replicate, get_or-replicate}
 use Rattle.std.proofs.lemmas.List.Edits.{sets}
-use Rattle.std.proofs.Math.Seq.{sets-eq, drop-drop, drop_at, length-take-le, take-append_seam, drop-append_seam, drop-append-add, take-append-add, get_or-take}
+use Rattle.std.proofs.Math.Seq.{sets-eq, drop-drop, drop_at, length-take-le, take-append_seam, drop-append_seam}
+use Rattle.std.proofs.Math.Seq.{drop-append-add, take-append-add, get_or-take}
 use Rattle.layout.specs.Runs.{write}
 
 module _ {ℓ} {A : Type ℓ} where
@@ -150,7 +153,8 @@ module _ {A : Type 0} where
   none_copied l at xs = record { within = omega arith; long = refl; same = sym (write-none l at) }
 
   module _ {l : List A} {at : ℕ} {xs : List A} {i : ℕ} {f : List A} where
-    pub one_copied : {v : A} (d : A) → Copied l at xs i f → i < length xs → at + length xs ≤ length l → v ≡ get_or xs i d
+    pub one_copied : {v : A} (d : A) → Copied l at xs i f → i < length xs → at + length xs ≤ length l
+        → v ≡ get_or xs i d
         → Copied l at xs (i + 1) (set f (at + i) v)
     one_copied d c h b e =
         record {

@@ -16,8 +16,11 @@ use Rattle.base.specs.declared.refusal.Checked.{Checked}
 use Rattle.base.specs.declared.refusal.Checked.TheVariants.{Passed, Failed}
 use Rattle.mesh.specs.Checks.{vertex_limit, face_limit}
 use Rattle.mesh.specs.CheckLaws.{below_each}
-use Rattle.layout.specs.Layout.{width, place_limit, piece_limit, kernel_from, pieces_from, piece_from, coords_from, state_from, corners_from, corners_of, verts_of, faces_of, status_of, finished_of, done_of, layer_limit, layer_of}
-use Rattle.layout.specs.Soundness.{long_enough, place_sound, layer_sound, place_sound_at, sound, store_check, place_check, filled_check}
+use Rattle.layout.specs.Layout.{width, place_limit, piece_limit, kernel_from, pieces_from, piece_from, coords_from}
+use Rattle.layout.specs.Layout.{state_from, corners_from, corners_of, verts_of, faces_of, status_of, finished_of}
+use Rattle.layout.specs.Layout.{done_of, layer_limit, layer_of}
+use Rattle.layout.specs.Soundness.{long_enough, place_sound, layer_sound, place_sound_at, sound, store_check}
+use Rattle.layout.specs.Soundness.{place_check, filled_check}
 
 -- ---- 01's numbers: each part of a run begins where the one before it ends
 pub pieces_follow : pieces_from 0 ≡ kernel_from place_limit

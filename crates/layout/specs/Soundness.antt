@@ -7,12 +7,14 @@ use Rattle.base.specs.declared.refusal.Refusal.TheVariants.{ShortStore, Unsound,
 use Rattle.base.specs.declared.refusal.Checked.{Checked}
 use Rattle.base.specs.declared.refusal.Checked.TheVariants.{Passed, Failed}
 use Rattle.mesh.specs.Checks.{vertex_limit, face_limit, all_below}
-use Rattle.layout.specs.Layout.{place_limit, piece_limit, coords_from, corners_from, corners_of, verts_of, faces_of, status_of, finished_of, done_of, layer_limit, layer_of}
+use Rattle.layout.specs.Layout.{place_limit, piece_limit, coords_from, corners_from, corners_of, verts_of, faces_of}
+use Rattle.layout.specs.Layout.{status_of, finished_of, done_of, layer_limit, layer_of}
 
 -- "both lengths suffice"; a run that ends before its corners begin, at word 130 or in the old form 98, is too short for
 -- any F, so also for the 0 that is read past its end
 unfoldable pub long_enough : ℕ → List Float → List ℕ → Bool
-long_enough q fs ws = leb (corners_from q + 3 * faces_of ws) (length ws) && leb (coords_from + 3 * verts_of ws) (length fs)
+long_enough q fs ws =
+    leb (corners_from q + 3 * faces_of ws) (length ws) && leb (coords_from + 3 * verts_of ws) (length fs)
 
 -- a place's status, pieces finished and faces done, in a store of so many faces
 unfoldable pub place_sound : ℕ → ℕ → ℕ → ℕ → Bool

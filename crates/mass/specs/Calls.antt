@@ -22,7 +22,8 @@ located_as (Refused r) = refused r
 
 unfoldable pub kernel_volume_call : List Float → List ℕ → V3 → Float → Answer
 kernel_volume_call xyz corners c sigma =
-    answered (mesh_check (length xyz) corners) (kernel_volume (triangle_at xyz corners) (face_count corners) c sigma ∷ [])
+    answered (mesh_check (length xyz) corners)
+    (kernel_volume (triangle_at xyz corners) (face_count corners) c sigma ∷ [])
 
 unfoldable pub body_volume_call : List Float → List ℕ → Answer
 body_volume_call xyz corners =

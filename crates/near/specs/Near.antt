@@ -1,6 +1,7 @@
 -- Faces that have a corner in a range, and lists and spans of faces that leave out none of them. What the internal
 -- contracts speak of; definitions only.
-use Rattle.std.specs.Prelude.{◌≡◌, ℕ, zero, suc, ◌+◌, ◌*◌, ◌/◌, ◌%◌, ◌<◌, ◌≤◌, Bool, false, ◌&&◌, List, length, nat_le, slice_index}
+use Rattle.std.specs.Prelude.{◌≡◌, ℕ, zero, suc, ◌+◌, ◌*◌, ◌/◌, ◌%◌, ◌<◌, ◌≤◌, Bool, false, ◌&&◌, List, length, nat_le}
+use Rattle.std.specs.Prelude.{slice_index}
 
 -- x is one of first .. last
 abbrev pub inside : ℕ → ℕ → ℕ → Bool

@@ -1,6 +1,8 @@
 -- Laws of faces without a corner in a range, of the spans that tell them and of lists of the others. Assumes nothing.
-use Rattle.std.specs.Prelude.{◌≡◌, ℕ, zero, suc, ◌+◌, ◌*◌, ◌/◌, ◌%◌, ◌^◌, ◌<◌, ◌≤◌, Bool, true, false, cond, ◌&&◌, ◌||◌, List, length, ◌==◌, nat_le, nat_lt, slice_index, slice_index_or, slice_set, refl}
-use Rattle.std.proofs.Common.{sym, ap, ◌∙◌, true≢false, add-zero, add-one, arith, length-set, get_or-set_same, get_or-set_other, le-leb, le-ltb, leb-true, leb-false, ltb-true, ltb-false, eqb-true}
+use Rattle.std.specs.Prelude.{◌≡◌, ℕ, zero, suc, ◌+◌, ◌*◌, ◌/◌, ◌%◌, ◌^◌, ◌<◌, ◌≤◌, Bool, true, false, cond, ◌&&◌, ◌||◌}
+use Rattle.std.specs.Prelude.{List, length, ◌==◌, nat_le, nat_lt, slice_index, slice_index_or, slice_set, refl}
+use Rattle.std.proofs.Common.{sym, ap, ◌∙◌, true≢false, add-zero, add-one, arith, length-set, get_or-set_same}
+use Rattle.std.proofs.Common.{get_or-set_other, le-leb, le-ltb, leb-true, leb-false, ltb-true, ltb-false, eqb-true}
 use Rattle.std.proofs.lemmas.Bool.{eqb-false}
 use Rattle.sort.specs.Order.{All}
 use Rattle.near.specs.Near.{inside, NoneWithin, Spans, Spanned, behind, Listed}
@@ -76,7 +78,8 @@ pub spans_all : {xs : List ℕ} {from to least greatest : ℕ} → least < 10485
 spans_all {xs} h l g =
     record { at = λ j a b. let p = l.at j a b in let q = g.at j a b in (omega arith, omega arith) }
 
-pub misses_span : (span first last x : ℕ) → (nat_lt (span / 65536) (first / 16) || nat_lt (last / 16) (span % 65536)) ≡ true
+pub misses_span : (span first last x : ℕ)
+    → (nat_lt (span / 65536) (first / 16) || nat_lt (last / 16) (span % 65536)) ≡ true
     → Spans span x → inside first last x ≡ false
 misses_span span first last x t s = go (nat_le first x) refl (nat_le x last) refl
   where
@@ -157,7 +160,8 @@ pub behind-one : (size from : ℕ) (ps : List ℕ) (m : ℕ) → behind size fro
 unfolding behind
 behind-one size from ps m = rw (add-one m) refl
 
-behind-set : (size from v m : ℕ) (ps : List ℕ) (q : ℕ) → q ≤ m → behind size from (slice_set ps m v) q ≡ behind size from ps q
+behind-set : (size from v m : ℕ) (ps : List ℕ) (q : ℕ) → q ≤ m
+    → behind size from (slice_set ps m v) q ≡ behind size from ps q
 unfolding behind
 behind-set size from v m ps zero h = refl
 behind-set size from v m ps (suc q) h = ap (λ (z : ℕ). z + size) (get_or-set_other ps m q v 0 (λ e. omega arith))
@@ -200,8 +204,10 @@ listed-one {ks} {ps} {first} {last} {size} {from} {to} {m} l h = go
         here = get_or-set_same ps m to 0 h
 
         at : (q : ℕ) → q < suc m → (u : Bool) → (q == m) ≡ u
-            → (behind size from (slice_set ps m to) q ≤ slice_index (slice_set ps m to) q) × (slice_index (slice_set ps m to) q + size ≤ to + size)
-            × NoneWithin ks first last (3 * behind size from (slice_set ps m to) q) (3 * slice_index (slice_set ps m to) q)
+            → (behind size from (slice_set ps m to) q ≤ slice_index (slice_set ps m to) q)
+            × (slice_index (slice_set ps m to) q + size ≤ to + size)
+            × NoneWithin ks first last (3 * behind size from (slice_set ps m to) q)
+            (3 * slice_index (slice_set ps m to) q)
         at q g true e = rw (eqb-true q m e, b m (omega arith), here) (l.stops, omega arith, l.rest)
         at q g false e =
             let d = eqb-false q m e in

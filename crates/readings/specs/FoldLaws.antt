@@ -12,7 +12,8 @@ use Rattle.base.specs.Loops.{times}
 use Rattle.kernel.specs.declared.kernel.Kernel.{Kernel}
 use Rattle.density.specs.Densitize.{density_of, densitize_of}
 use Rattle.layout.specs.Layout.{status_of}
-use Rattle.readings.specs.Readings.{Part, bare, rescaled, origin, no_kernel, no_part, density_at, raw_mass_lem, held_part, held_at, held_all_lem}
+use Rattle.readings.specs.Readings.{Part, bare, rescaled, origin, no_kernel, no_part, density_at, raw_mass_lem}
+use Rattle.readings.specs.Readings.{held_part, held_at, held_all_lem}
 use Rattle.readings.specs.Folds.{fold, scaled_step, origin_step, mass_step}
 
 module _ {S : Type 0} (f : Part → S → S) where
@@ -27,7 +28,8 @@ module _ {S : Type 0} (f : Part → S → S) where
       ap (λ (n : ℕ). fold f (held_at fs i n) a) (add-one j) ∙ fold_append (held_at fs i j) (held_part fs i j ∷ []) a
 
   pub place_more : (q : ℕ) (fs : List Float) (ws : List ℕ) (k : ℕ) (a : S)
-      → fold f (held_all_lem q fs ws (k + 1)) a ≡ fold f (held_at fs k (status_of q ws k - 1)) (fold f (held_all_lem q fs ws k) a)
+      → fold f (held_all_lem q fs ws (k + 1)) a
+      ≡ fold f (held_at fs k (status_of q ws k - 1)) (fold f (held_all_lem q fs ws k) a)
   unfolding held_all_lem
   place_more q fs ws k a = ap (λ (n : ℕ). fold f (held_all_lem q fs ws n) a) (add-one k)
       ∙ fold_append (held_all_lem q fs ws k) (held_at fs k (status_of q ws k - 1)) a

@@ -23,7 +23,9 @@ use Rattle.layout.specs.Left.{held, left_of}
 use Rattle.layout.specs.Layers.{in_set, all_layers, layers_check, in_layers}
 use Rattle.layout.specs.LayerLaws.{all_sixteen, seen_status}
 use Rattle.layout.specs.RunLaws.{write-none}
-use Rattle.readings.specs.Readings.{density, report, list, Reading, needs_work, refusing, seeing, reported, raw_mass_lem, density_at, answer_of, reading_of, guarded_read, held_all_lem, held_filled, held_worst, held_seen, read_step}
+use Rattle.readings.specs.Readings.{density, report, list, Reading, needs_work, refusing, seeing, reported}
+use Rattle.readings.specs.Readings.{raw_mass_lem, density_at, answer_of, reading_of, guarded_read, held_all_lem}
+use Rattle.readings.specs.Readings.{held_filled, held_worst, held_seen, read_step}
 use Rattle.readings.specs.SeenLaws.{seen_body}
 
 -- ---- "with all sixteen it reads as before": as 01's reading, which knows of no layers

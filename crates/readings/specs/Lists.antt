@@ -78,10 +78,12 @@ place_listed l s q fs ws k f f' g b r =
     let m = all_length q fs ws k in
     let x = rescaled-length s (held_at fs k (status_of q ws k - 1)) in
     let y = at_length fs k (status_of q ws k - 1) in
-    let z : held_pieces q ws (k + 1) ≡ held_pieces q ws k + (status_of q ws k - 1) = ap (held_pieces q ws) (add-one k) in
+    let z : held_pieces q ws (k + 1) ≡ held_pieces q ws k + (status_of q ws k - 1) =
+    ap (held_pieces q ws) (add-one k) in
     let e : rescaled_sixes s (held_all_lem q fs ws (k + 1))
     ≡ rescaled_sixes s (held_all_lem q fs ws k)
-    ++ rescaled_sixes s (held_at fs k (status_of q ws k - 1)) = ap (λ (t : ℕ). rescaled_sixes s (held_all_lem q fs ws t))
+    ++ rescaled_sixes s (held_at fs k (status_of q ws k - 1)) =
+    ap (λ (t : ℕ). rescaled_sixes s (held_all_lem q fs ws t))
     (add-one k) ∙ rescaled_append s (held_all_lem q fs ws k) (held_at fs k (status_of q ws k - 1)) in
     rw e (list_more l 0 (rescaled_sixes s (held_all_lem q fs ws k))
     (rescaled_sixes s (held_at fs k (status_of q ws k - 1))) f f' (6 * held_pieces q ws k) g (omega arith)

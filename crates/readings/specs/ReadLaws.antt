@@ -19,7 +19,8 @@ use Rattle.layout.specs.SoundLaws.{Fine, fine, passed-both}
 use Rattle.layout.specs.Left.{left_of}
 use Rattle.layout.specs.Layers.{layers_check, in_layers}
 use Rattle.layout.specs.LayerLaws.{seen_faces}
-use Rattle.readings.specs.Readings.{Part, bare, listing, Reading, needs_work, answer_of, refusing, guarded_read, held_seen, read_step}
+use Rattle.readings.specs.Readings.{Part, bare, listing, Reading, needs_work, answer_of, refusing, guarded_read}
+use Rattle.readings.specs.Readings.{held_seen, read_step}
 use Rattle.readings.specs.Checks.{read_check}
 
 -- a reading is its check, then its answer
@@ -61,7 +62,8 @@ module _ (q : ℕ) (fs : List Float) (ws : List ℕ) (layers : ℕ) {c : Checked
 
   abbrev then : Bool → Checked → Checked
   then needs a =
-      and_then a (cond (needs && ltb 0 (left_of q (in_layers q layers ws) (faces_of (in_layers q layers ws)) place_limit))
+      and_then a (cond (needs
+      && ltb 0 (left_of q (in_layers q layers ws) (faces_of (in_layers q layers ws)) place_limit))
       (Failed Unfinished) Passed)
 
   pub check_failed : (needs : Bool) (r : Refusal) → c ≡ Failed r → Failed r ≡ read_check q fs ws layers needs

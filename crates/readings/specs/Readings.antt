@@ -1,6 +1,7 @@
 -- 01, "The store": "Readings (density, report, list) take filled places in order", which pieces, which scale, and what
 -- is made of them; 02, L1, the track, and L5, a set of layers. Definitions only.
-use Rattle.std.specs.Prelude.{Bool, true, false, ◌&&◌, cond, List, [], ◌∷◌, ◌++◌, map, ℕ, zero, suc, ◌+◌, ◌*◌, ◌-◌, ◌/◌, ◌%◌, ltb, leb, eqb, length, get_or, Float}
+use Rattle.std.specs.Prelude.{Bool, true, false, ◌&&◌, cond, List, [], ◌∷◌, ◌++◌, map, ℕ, zero, suc, ◌+◌, ◌*◌, ◌-◌, ◌/◌}
+use Rattle.std.specs.Prelude.{◌%◌, ltb, leb, eqb, length, get_or, Float}
 use Rattle.std.specs.Float.{nan}
 use Rattle.std.specs.Float.Ieee.{lt}
 use Rattle.base.specs.Answers.{Answer, accepted, refused, counted, Outcome, outcome, guarded_run, room_check, and_then}
@@ -21,7 +22,8 @@ use Rattle.density.specs.declared.report.MassReport.{MassReport}
 use Rattle.density.specs.Densitize.{densitize_of}
 use Rattle.density.specs.Conventions.{bulk_of, rho0_scale_lem, applied_scale_lem}
 use Rattle.density.specs.Reports.{report_values, report_of}
-use Rattle.layout.specs.Layout.{place_limit, centre_floats, weight_of, alpha_of, error_of, sigma_of, coefficient_of, volume_of, verts_of, faces_of, status_of}
+use Rattle.layout.specs.Layout.{place_limit, centre_floats, weight_of, alpha_of, error_of, sigma_of, coefficient_of}
+use Rattle.layout.specs.Layout.{volume_of, verts_of, faces_of, status_of}
 use Rattle.layout.specs.Soundness.{store_check}
 use Rattle.layout.specs.Left.{held, left_of}
 use Rattle.layout.specs.Layers.{layers_check, in_layers}

@@ -17,8 +17,10 @@ use Rattle.layout.specs.Runs.{write}
 use Rattle.layout.specs.RunLaws.{length-write}
 use Rattle.layout.specs.Layers.{hiding, in_layers}
 use Rattle.layout.specs.HidingLaws.{shown-next, hidden_next}
-use Rattle.layout.specs.LayerLaws.{seen_verts, seen_faces, seen_corners, seen_worded, front_status, front_worded, front-left}
-use Rattle.readings.specs.Readings.{Reading, needs_work, answer_of, guarded_read, seen_by_lem, held_all_lem, held_filled, held_worst, held_seen, read_step}
+use Rattle.layout.specs.LayerLaws.{seen_verts, seen_faces, seen_corners, seen_worded, front_status, front_worded}
+use Rattle.layout.specs.LayerLaws.{front-left}
+use Rattle.readings.specs.Readings.{Reading, needs_work, answer_of, guarded_read, seen_by_lem, held_all_lem}
+use Rattle.readings.specs.Readings.{held_filled, held_worst, held_seen, read_step}
 use Rattle.readings.specs.Checks.{read_check}
 use Rattle.readings.specs.Seeing.{shown, showing}
 use Rattle.readings.specs.ReadLaws.{read_as, read-passed}
@@ -45,7 +47,8 @@ module _ (q : ℕ) (fs : List Float) (ws us : List ℕ) where
 
 -- ---- the volume is the whole mesh's
 pub seen_body : (q : ℕ) (fs : List Float) (ws : List ℕ) (layers : ℕ) → corners_from q ≤ length ws
-    → body_volume (held q fs (in_layers q layers ws) (verts_of (in_layers q layers ws)) (faces_of (in_layers q layers ws)))
+    → body_volume (held q fs (in_layers q layers ws) (verts_of (in_layers q layers ws))
+    (faces_of (in_layers q layers ws)))
     (faces_of (in_layers q layers ws))
     ≡ body_volume (held q fs ws (verts_of ws) (faces_of ws)) (faces_of ws)
 seen_body q fs ws layers long =
@@ -80,7 +83,8 @@ read-seen q fs ws layers r three h s e =
 pub seen_ready : (layers : ℕ) (ws s : List ℕ) (m : ℕ) → s ≡ take (corners_from width) (in_layers width layers ws)
     → Worded width ws m → Worded width s m
 seen_ready layers ws s m e w =
-    rw e (front_worded width (omega arith) (in_layers width layers ws) m (seen_worded width layers (omega arith) ws m w))
+    rw e (front_worded width (omega arith) (in_layers width layers ws) m
+    (seen_worded width layers (omega arith) ws m w))
 
 pub seen-left : (layers : ℕ) (ws s : List ℕ) (m : ℕ) → s ≡ take (corners_from width) (in_layers width layers ws)
     → left_of width s m place_limit ≡ left_of width (in_layers width layers ws) m place_limit

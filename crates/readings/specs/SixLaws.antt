@@ -1,6 +1,7 @@
 -- The readings' sums are what `densitize` and `kernel_field_mass` give on the list of the pieces, six floats each.
 -- Assumes nothing.
-use Rattle.std.specs.Prelude.{◌≡◌, refl, List, [], ◌∷◌, ◌++◌, map, ℕ, zero, suc, ◌+◌, ◌*◌, ◌/◌, ◌%◌, ◌<◌, length, get_or, Float}
+use Rattle.std.specs.Prelude.{◌≡◌, refl, List, [], ◌∷◌, ◌++◌, map, ℕ, zero, suc, ◌+◌, ◌*◌, ◌/◌, ◌%◌, ◌<◌, length}
+use Rattle.std.specs.Prelude.{get_or, Float}
 use Rattle.std.proofs.Common.{sym, ap, ◌∙◌, append-nil, arith}
 use Rattle.std.proofs.lemmas.List.{length-map}
 use Rattle.std.specs.Float.{nan}
@@ -111,7 +112,8 @@ part_at t n (k ∷ ks) (suc i) h =
     (sym (next_kernel (get_or k.c 0 nan) (get_or k.c 1 nan) (get_or k.c 2 nan) k.sigma k.w k.alpha
     (sixes ks) i))
 
-pub mass_on : (t : ℕ → Triangle) (n : ℕ) (ks : List Kernel) → raw_mass_lem (map (sized t n) ks) ≡ field_mass t n (sixes ks)
+pub mass_on : (t : ℕ → Triangle) (n : ℕ) (ks : List Kernel)
+    → raw_mass_lem (map (sized t n) ks) ≡ field_mass t n (sixes ks)
 unfolding raw_mass_lem field_mass
 mass_on t n ks =
     rw (count_of ks, length-map ks (sized t n))

@@ -16,7 +16,8 @@ use Rattle.layout.specs.SoundLaws.{Worded}
 use Rattle.layout.specs.Left.{held}
 use Rattle.layout.specs.Layers.{in_set, layers_check, in_layers}
 use Rattle.layout.specs.HidingLaws.{hid_verts, hid_faces, hid_corners, hid_status, hid_finished, hid_worded}
-use Rattle.layout.specs.LayerLaws.{seen-length, seen_verts, seen_faces, seen_corners, seen_status, front_status, front_worded}
+use Rattle.layout.specs.LayerLaws.{seen-length, seen_verts, seen_faces, seen_corners, seen_status, front_status}
+use Rattle.layout.specs.LayerLaws.{front_worded}
 use Rattle.readings.specs.Readings.{Seen, report, answer_of, seen_by_lem, held_filled, held_seen}
 use Rattle.readings.specs.Finished.{complete_at, complete_in, passed_over_lem, beside, finished_step}
 use Rattle.readings.specs.Seeing.{shown, showing}
@@ -136,7 +137,8 @@ module _ (fs : List Float) (ws : List ℕ) (layers : ℕ) where
       rw (d, e, filled_at_once width (omega arith) layers ws long, filled_seen width (omega arith) layers ws long) refl
 
   pub finished_refused : (v : Convention) (r : Refusal)
-      → and_then (store_check width fs ws) (layers_check layers) ≡ Failed r → refused r ≡ finished_step width fs ws layers v
+      → and_then (store_check width fs ws) (layers_check layers) ≡ Failed r
+      → refused r ≡ finished_step width fs ws layers v
   unfolding finished_step
   finished_refused v r h = rw h refl
 

@@ -1,8 +1,10 @@
 -- Laws of marks and ranks: digits of words say which vertices are used, and counts of digits are their new numbers.
 -- Assumes nothing.
-use Rattle.std.specs.Prelude.{◌≡◌, Bool, true, false, ◌||◌, cond, List, [], ◌∷◌, ◌++◌, eqb, length, set, take, replicate}
+use Rattle.std.specs.Prelude.{◌≡◌, Bool, true, false, ◌||◌, cond, List, [], ◌∷◌, ◌++◌, eqb, length, set, take}
+use Rattle.std.specs.Prelude.{replicate}
 use Rattle.std.proofs.Math.Path.{refl}
-use Rattle.std.proofs.Common.{sym, ap, ◌∙◌, one-mul, lt_trans, mod-lt, mod-eq_of_lt, add-zero, add-one, pow_pos, length-set, get_or-set_same, get_or-set_other, take-suc, eq-eqb, ne_eqb, eqb-true}
+use Rattle.std.proofs.Common.{sym, ap, ◌∙◌, one-mul, lt_trans, mod-lt, mod-eq_of_lt, add-zero, add-one, pow_pos}
+use Rattle.std.proofs.Common.{length-set, get_or-set_same, get_or-set_other, take-suc, eq-eqb, ne_eqb, eqb-true}
 use Rattle.std.proofs.Math.Bool.{or-false, or_assoc}
 use Prim.Native.Nat.{ℕ, zero, suc, ◌+◌, ◌-◌, ◌*◌, ◌/◌, ◌%◌, ◌^◌, ◌≤◌, ◌<◌}
 use Rattle.std.proofs.Math.Nat.{mod-one}

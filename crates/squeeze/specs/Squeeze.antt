@@ -1,6 +1,7 @@
 -- 02, L12: "squeezes them out of an opened store, keeping the others' order and renumbering corners". Definitions only.
 -- xs are a mesh's coordinates, three to a vertex, and ks its corners.
-use Rattle.std.specs.Prelude.{Bool, false, ◌||◌, cond, List, [], ◌∷◌, ◌++◌, map, ℕ, zero, suc, ◌+◌, ◌*◌, ◌-◌, eqb, get_or, take, drop, set, replicate, Float}
+use Rattle.std.specs.Prelude.{Bool, false, ◌||◌, cond, List, [], ◌∷◌, ◌++◌, map, ℕ, zero, suc, ◌+◌, ◌*◌, ◌-◌, eqb}
+use Rattle.std.specs.Prelude.{get_or, take, drop, set, replicate, Float}
 use Rattle.std.specs.Float.{nan}
 use Rattle.base.specs.Floats.{+0}
 use Rattle.base.specs.Answers.{counted}

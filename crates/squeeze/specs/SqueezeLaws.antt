@@ -1,7 +1,10 @@
 -- Laws of a squeezed mesh: lengths, what the loops leave, and that its triangles are those of the mesh.
 -- Assumes nothing.
-use Rattle.std.specs.Prelude.{◌≡◌, refl, Bool, true, false, cond, List, [], ◌∷◌, ◌++◌, map, ℕ, zero, suc, ◌+◌, ◌*◌, ◌-◌, ◌/◌, ◌%◌, ◌≤◌, ◌<◌, length, get_or, take, drop, set, replicate, Float}
-use Rattle.std.proofs.Common.{sym, ◌∙◌, append_assoc, append-nil, add-one, arith, length-append, length-set, length-drop, take-suc, drop-cons, length-take-le, take_all, drop-set-lt, take-suc-set, get_or-drop, drop-drop}
+use Rattle.std.specs.Prelude.{◌≡◌, refl, Bool, true, false, cond, List, [], ◌∷◌, ◌++◌, map, ℕ, zero, suc, ◌+◌, ◌*◌, ◌-◌}
+use Rattle.std.specs.Prelude.{◌/◌, ◌%◌, ◌≤◌, ◌<◌, length, get_or, take, drop, set, replicate, Float}
+use Rattle.std.proofs.Common.{sym, ◌∙◌, append_assoc, append-nil, add-one, arith, length-append, length-set}
+use Rattle.std.proofs.Common.{length-drop, take-suc, drop-cons, length-take-le, take_all, drop-set-lt, take-suc-set}
+use Rattle.std.proofs.Common.{get_or-drop, drop-drop}
 use Rattle.std.proofs.Math.Path.{ap}
 use Rattle.std.proofs.lemmas.List.{length-map, length-replicate, set_at, get_or_at, take-set-le}
 use Rattle.std.specs.Float.{nan}
@@ -144,8 +147,10 @@ module _ {x₀ x : List Float} {i to : ℕ} (m : Moving x₀ i to x) (h : 3 * i 
         let k = m.low in
         record {
           low = omega arith;
-          long = three-long x (3 * to) (get_or x (3 * i) nan) (get_or x (3 * i + 1) nan) (get_or x (3 * i + 2) nan) ∙ m.long;
-          rest = rw n (three-rest x (3 * to) (get_or x (3 * i) nan) (get_or x (3 * i + 1) nan) (get_or x (3 * i + 2) nan)
+          long = three-long x (3 * to) (get_or x (3 * i) nan) (get_or x (3 * i + 1) nan) (get_or x (3 * i + 2) nan)
+              ∙ m.long;
+          rest = rw n (three-rest x (3 * to) (get_or x (3 * i) nan) (get_or x (3 * i + 1) nan)
+              (get_or x (3 * i + 2) nan)
               (3 * i + 3) (omega arith)
               ∙ sym (drop-drop 3 (3 * i) x) ∙ ap (drop 3) m.rest ∙ drop-drop 3 (3 * i) x₀);
         }
@@ -168,7 +173,8 @@ module _ {x₀ x : List Float} {i to : ℕ} (m : Moving x₀ i to x) (h : 3 * i 
         r0 : get_or x (3 * i) nan ≡ get_or x₀ (3 * i) nan
         r0 = let z : 3 * i + 0 ≡ 3 * i = omega arith in rw z at (read 0)
 
-        go : (t : Bool) → d ≡ cond t 1 0 → take (3 * (to + d)) after-three ≡ kept_to ks x₀ i ++ cond t (point_of x₀ i) []
+        go : (t : Bool) → d ≡ cond t 1 0
+            → take (3 * (to + d)) after-three ≡ kept_to ks x₀ i ++ cond t (point_of x₀ i) []
         go true q =
             let z : 3 * (to + d) ≡ 3 * to + 3 = omega arith in
             rw (

@@ -65,7 +65,8 @@ unfolding rank
 corner_at ks j = get_or-map (rank ks) ks j 0
 
 module _ (ks : List ℕ) (xs : List Float) (n : ℕ) (b : Below n ks) where
-  same-corner : (j : ℕ) → j < length ks → vertex (kept_to ks xs n) (get_or (renumbered ks) j 0) ≡ vertex xs (get_or ks j 0)
+  same-corner : (j : ℕ) → j < length ks
+      → vertex (kept_to ks xs n) (get_or (renumbered ks) j 0) ≡ vertex xs (get_or ks j 0)
   same-corner j h = rw (corner_at ks j) (same-vertex ks xs (get_or ks j 0) n (corner_used ks j h) (b.corner j h))
 
   pub same_triangle : (f : ℕ) → 3 * f + 2 < length ks

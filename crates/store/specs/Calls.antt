@@ -1,5 +1,6 @@
 -- 01, "The store": what open, clear and reweigh answer, and what they leave in the two runs. Definitions only.
-use Rattle.std.specs.Prelude.{◌&&◌, cond, List, [], ◌∷◌, ◌++◌, ℕ, ◌+◌, ◌-◌, ◌*◌, ◌/◌, leb, length, set, replicate, Float}
+use Rattle.std.specs.Prelude.{◌&&◌, cond, List, [], ◌∷◌, ◌++◌, ℕ, ◌+◌, ◌-◌, ◌*◌, ◌/◌, leb, length, set, replicate}
+use Rattle.std.specs.Prelude.{Float}
 use Rattle.base.specs.Floats.{+0}
 use Rattle.base.specs.Answers.{counted, done, and_then}
 use Rattle.base.specs.declared.refusal.Refusal.TheVariants.{ShortStore}

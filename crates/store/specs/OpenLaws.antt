@@ -1,5 +1,6 @@
 -- What an opening that is not refused was given. Assumes nothing.
-use Rattle.std.specs.Prelude.{◌≡◌, refl, Bool, true, false, not, ◌&&◌, ◌||◌, cond, List, ℕ, ◌+◌, ◌/◌, ◌%◌, ◌≤◌, ltb, leb, eqb, length}
+use Rattle.std.specs.Prelude.{◌≡◌, refl, Bool, true, false, not, ◌&&◌, ◌||◌, cond, List, ℕ, ◌+◌, ◌/◌, ◌%◌, ◌≤◌, ltb}
+use Rattle.std.specs.Prelude.{leb, eqb, length}
 use Rattle.std.proofs.Common.{arith, ltb-false, leb-true, eqb-true}
 use Rattle.base.specs.declared.refusal.Refusal.TheVariants.{Ragged, Oversize, LooseCorner, ShortStore}
 use Rattle.base.specs.declared.refusal.Checked.TheVariants.{Passed, Failed}

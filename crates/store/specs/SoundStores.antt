@@ -1,7 +1,8 @@
 -- An opening that is not refused leaves a store with no fault, and so does a put. Assumes nothing.
 use Rattle.std.proofs.Math.Path.{◌≡◌, refl, ap}
 use Rattle.std.proofs.Common.{sym, ◌∙◌, zero-add, arith, length-append}
-use Rattle.std.specs.Prelude.{Bool, ◌&&◌, List, [], ◌∷◌, ◌++◌, ℕ, zero, suc, ◌+◌, ◌*◌, ◌-◌, ◌/◌, ◌≤◌, ◌<◌, ltb, eqb, Float, length, get_or, replicate}
+use Rattle.std.specs.Prelude.{Bool, ◌&&◌, List, [], ◌∷◌, ◌++◌, ℕ, zero, suc, ◌+◌, ◌*◌, ◌-◌, ◌/◌, ◌≤◌, ◌<◌, ltb, eqb}
+use Rattle.std.specs.Prelude.{Float, length, get_or, replicate}
 use Rattle.std.proofs.Math.Bool.{true, false, cond}
 use Rattle.std.proofs.Math.Decide.{dec_lt}
 use Rattle.std.proofs.Math.Dec.{leb}
@@ -22,10 +23,13 @@ use Rattle.pieces.specs.PieceLaws.{at_most_16}
 use Rattle.layout.specs.After.{after, guarded}
 use Rattle.layout.specs.Runs.{write}
 use Rattle.layout.specs.RunLaws.{length-write, write_before, write_at, write-past, write-rest}
-use Rattle.layout.specs.Layout.{width, place_limit, piece_limit, radius_of, kernel_from, pieces_from, coords_from, state_from, corners_from, corners_of, verts_of, faces_of, status_of, finished_of, done_of, layer_limit, layer_of}
+use Rattle.layout.specs.Layout.{width, place_limit, piece_limit, radius_of, kernel_from, pieces_from, coords_from}
+use Rattle.layout.specs.Layout.{state_from, corners_from, corners_of, verts_of, faces_of, status_of, finished_of}
+use Rattle.layout.specs.Layout.{done_of, layer_limit, layer_of}
 use Rattle.base.specs.Loops.{every}
 use Rattle.base.specs.LoopLaws.{every_at, every_all}
-use Rattle.layout.specs.Soundness.{long_enough, place_sound, layer_sound, place_sound_at, sound, store_check, place_check, layer_check}
+use Rattle.layout.specs.Soundness.{long_enough, place_sound, layer_sound, place_sound_at, sound, store_check}
+use Rattle.layout.specs.Soundness.{place_check, layer_check}
 use Rattle.layout.specs.SoundLaws.{both, fine}
 use Rattle.store.specs.Calls.{open_check, open_floats, open_words}
 use Rattle.store.specs.OpenLaws.{open_passes}
@@ -34,7 +38,8 @@ use Rattle.store.specs.Puts.{seven, fresh, at_first, put_floats, put_words, plac
 -- what the check finds in a store by what it has
 pub passes : (fs : List Float) (ws : List ℕ) → corners_from width + 3 * faces_of ws ≤ length ws
     → coords_from + 3 * verts_of ws ≤ length fs
-    → verts_of ws ≤ vertex_limit → faces_of ws ≤ face_limit → ((k : ℕ) → k < place_limit → place_sound_at width ws k ≡ true)
+    → verts_of ws ≤ vertex_limit → faces_of ws ≤ face_limit
+    → ((k : ℕ) → k < place_limit → place_sound_at width ws k ≡ true)
     → all_below (verts_of ws) (corners_of width ws) ≡ true → store_check width fs ws ≡ Passed
 unfolding store_check long_enough sound
 passes fs ws a b d e p g =

@@ -1,5 +1,6 @@
 -- The pieces of a store laid down six floats each, read again; and what a track's check tells. Assumes nothing.
-use Rattle.std.specs.Prelude.{◌≡◌, refl, Bool, true, false, ◌&&◌, cond, List, [], ◌∷◌, map, ℕ, ◌/◌, ◌%◌, ◌≤◌, leb, eqb, length, drop, Float}
+use Rattle.std.specs.Prelude.{◌≡◌, refl, Bool, true, false, ◌&&◌, cond, List, [], ◌∷◌, map, ℕ, ◌/◌, ◌%◌, ◌≤◌, leb, eqb}
+use Rattle.std.specs.Prelude.{length, drop, Float}
 use Rattle.std.proofs.Common.{sym, ap, ◌∙◌, arith, leb-true, eqb-true}
 use Rattle.std.proofs.lemmas.List.{length-map}
 use Rattle.base.specs.Answers.{refused, counted, outcome}
@@ -22,7 +23,8 @@ unfolding write
 rescaled_density l s ps n e x =
     let ks = map (rescaled s) (map bare ps) in
     let m : n ≡ length ks = e ∙ sym (length-map (map bare ps) (rescaled s) ∙ length-map ps bare) in
-    ap (λ (j : ℕ). densitize_of (kernel_at (write l 0 (sixes ks))) j x) m ∙ laid_density ks (drop (length (sixes ks)) l) x
+    ap (λ (j : ℕ). densitize_of (kernel_at (write l 0 (sixes ks))) j x) m
+    ∙ laid_density ks (drop (length (sixes ks)) l) x
 
 -- ---- the check
 pub record Trackable (coords room : ℕ) : Type 0 where
@@ -32,7 +34,8 @@ pub record Trackable (coords room : ℕ) : Type 0 where
 
 pub trackable : (coords room : ℕ) → track_check coords room ≡ Passed → Trackable coords room
 unfolding track_check
-trackable coords room h = go (eqb (coords % 3) 0) refl (leb (coords / 3) track_limit) refl (leb (coords / 3) room) refl h
+trackable coords room h =
+    go (eqb (coords % 3) 0) refl (leb (coords / 3) track_limit) refl (leb (coords / 3) room) refl h
   where
     go : (a : Bool) → eqb (coords % 3) 0 ≡ a → (b : Bool) → leb (coords / 3) track_limit ≡ b → (c : Bool)
         → leb (coords / 3) room ≡ c

@@ -20,7 +20,8 @@ use Rattle.layout.specs.Layers.{layers_check, in_layers}
 use Rattle.layout.specs.Runs.{write}
 use Rattle.along.specs.Along.{point_at, along}
 use Rattle.along.specs.AlongLaws.{stretch-length, stretch_at}
-use Rattle.readings.specs.Readings.{density, track, by_mass, bare, rescaled, applied, density_at, track_check, held_seen, refusing, guarded_read, read_step}
+use Rattle.readings.specs.Readings.{density, track, by_mass, bare, rescaled, applied, density_at, track_check}
+use Rattle.readings.specs.Readings.{held_seen, refusing, guarded_read, read_step}
 
 -- the words written, and those past them
 front : (vs l : List Float) (i : ℕ) (d : Float) → i < length vs → get_or (write l 0 vs) i d ≡ get_or vs i d
@@ -86,7 +87,8 @@ module _ (q : ℕ) (fs : List Float) (ws : List ℕ) (layers : ℕ) (v : Convent
   -- "a run's words past what a call writes stay untouched"
   pub rest-stays : drop (length points / 3) got.out ≡ drop (length points / 3) out
   unfolding read_step
-  rest-stays = go C (by_mass v && ltb 0 (left_of q S (faces_of S) place_limit)) (track_check (length points) (length out))
+  rest-stays = go C (by_mass v && ltb 0 (left_of q S (faces_of S) place_limit))
+      (track_check (length points) (length out))
     where
       go : (a : Checked) (b : Bool) (c : Checked)
           → drop (length points / 3) (all a b c).out ≡ drop (length points / 3) out

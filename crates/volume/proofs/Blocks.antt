@@ -19,7 +19,8 @@ use Rattle.mesh.specs.declared.dunavant.Node.{Node}
 use Rattle.mesh.specs.Dunavant.{node}
 use Rattle.volume.specs.Volume.{flux, flux_step, face_sum, volume_from}
 use Rattle.volume.specs.Laws.{volume_more}
-use Rattle.volume.specs.Block.{square_of, height_of, set_at, seven_set, squares_of, heights_of, Points, share_step, seven_shares, all_shares}
+use Rattle.volume.specs.Block.{square_of, height_of, set_at, seven_set, squares_of, heights_of, Points, share_step}
+use Rattle.volume.specs.Block.{seven_shares, all_shares}
 
 -- ---- a face's elements, stored one after another
 

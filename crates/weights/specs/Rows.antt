@@ -39,4 +39,5 @@ either false x = refl
 pub nothing-calibrated : (t : ℕ → Triangle) (f : ℕ) (mean : Mean) (total : Float) (run : List Float)
     → calibrated_run t f [] mean total run ≡ outcome done run
 unfolding calibrated_run normalized_run some_off written_of times
-nothing-calibrated t f mean total run = either (le (target_mass_lem mean total (enclosed_volume t f)) +0) (outcome done run)
+nothing-calibrated t f mean total run =
+    either (le (target_mass_lem mean total (enclosed_volume t f)) +0) (outcome done run)

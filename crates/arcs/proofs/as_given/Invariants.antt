@@ -9,7 +9,8 @@ use Rattle.arcs.proofs.as_given.Given as goal
 
 abbrev pub invariant-loop-i : goal.invariant-loop-i
 invariant-loop-i l = Filled (length l.initial.v) (Of inverted l.t) l.initial.v l.i l.v
-    × Filled (length l.initial.radicands) (Of (λ (s : Float). radicand (inverted s)) l.t) l.initial.radicands l.i l.radicands
+    × Filled (length l.initial.radicands) (Of (λ (s : Float). radicand (inverted s)) l.t) l.initial.radicands l.i
+    l.radicands
     × (length l.y ≡ length l.initial.y)
 
 abbrev pub decreases-loop-i : goal.decreases-loop-i

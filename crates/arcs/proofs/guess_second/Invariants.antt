@@ -7,7 +7,9 @@ use Rattle.arcs.specs.Stages.{radicand}
 use Rattle.arcs.proofs.guess_second.Given as goal
 
 abbrev pub invariant-loop-i : goal.invariant-loop-i
-invariant-loop-i l = Filled (length l.initial.radicands) (Of radicand l.v) l.initial.radicands l.i l.radicands × (length l.y ≡ length l.initial.y)
+invariant-loop-i l =
+    Filled (length l.initial.radicands) (Of radicand l.v) l.initial.radicands l.i l.radicands
+    × (length l.y ≡ length l.initial.y)
 
 abbrev pub decreases-loop-i : goal.decreases-loop-i
 decreases-loop-i l = l.n - l.i

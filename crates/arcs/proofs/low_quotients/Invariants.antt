@@ -7,7 +7,9 @@ use Rattle.arcs.specs.Stages.{quotient}
 use Rattle.arcs.proofs.low_quotients.Given as goal
 
 abbrev pub invariant-loop-i : goal.invariant-loop-i
-invariant-loop-i l = Filled (length l.initial.g) (λ (j : ℕ) (z : Float). z ≡ quotient (get_or l.t j nan) (get_or l.v j nan)) l.initial.g l.i l.g
+invariant-loop-i l =
+    Filled (length l.initial.g) (λ (j : ℕ) (z : Float). z ≡ quotient (get_or l.t j nan) (get_or l.v j nan)) l.initial.g
+    l.i l.g
 
 abbrev pub decreases-loop-i : goal.decreases-loop-i
 decreases-loop-i l = l.n - l.i

@@ -7,7 +7,9 @@ use Rattle.arcs.specs.Stages.{StepsLeft}
 use Rattle.arcs.proofs.sums.first_steps.Given as goal
 
 abbrev pub invariant-loop-i : goal.invariant-loop-i
-invariant-loop-i l = Filled (length l.initial.g) (λ (j : ℕ) (a : Float). StepsLeft 7 (get_or l.v j nan ⊗ get_or l.v j nan) a) l.initial.g l.i l.g
+invariant-loop-i l =
+    Filled (length l.initial.g) (λ (j : ℕ) (a : Float). StepsLeft 7 (get_or l.v j nan ⊗ get_or l.v j nan) a) l.initial.g
+    l.i l.g
 
 abbrev pub decreases-loop-i : goal.decreases-loop-i
 decreases-loop-i l = l.n - l.i

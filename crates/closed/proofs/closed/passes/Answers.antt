@@ -15,4 +15,8 @@ pub returns-then-not-distinct : goal.returns-then-not-distinct
 returns-then-not-distinct c = passes-not _ (sym c.distinct.ensures ∙ c.if-not-distinct.true)
 
 pub sweep-requires : goal.sweep-requires
-sweep-requires c = record { fact_1 = (omega arith, omega arith); fact_2 = below-greater c.requires.fact_2 (omega arith) }
+sweep-requires c =
+    record {
+      fact_1 = (omega arith, omega arith);
+      fact_2 = below-greater c.requires.fact_2 (omega arith);
+    }

@@ -22,4 +22,10 @@ pub loop-m-preserved : goal.loop-m-preserved
 loop-m-preserved c = (omega arith, cut-less (omega arith) (omega arith) c.loop-m.invariant.1 (omega arith))
 
 pub returns : goal.returns
-returns c = let l = c.loop-m in record { fewer = omega arith; above = l.invariant.1; under = λ j e. absurd (omega arith) }
+returns c =
+    let l = c.loop-m in
+    record {
+      fewer = omega arith;
+      above = l.invariant.1;
+      under = λ j e. absurd (omega arith);
+    }

@@ -1,4 +1,5 @@
--- `closed::gather::gather_by_spans` meets its contract: the batch holds the range of the faces passed by. Assumes nothing.
+-- `closed::gather::gather_by_spans` meets its contract: the batch holds the range of the faces passed by. Assumes
+-- nothing.
 use native.Mathlib.Omega.{arith}
 use borrow.Author.Rules.{rules}
 use Rattle.closed.specs.HeldLaws.{gathered_all}

@@ -25,7 +25,8 @@ returns-then-y-x c = (
 )
 
 pub loop-i-preserved : goal.loop-i-preserved
-loop-i-preserved c = (omega arith, pairs_one c.requires.fact_2 c.loop-i.invariant.1 (omega arith) (omega arith) (omega arith))
+loop-i-preserved c =
+    (omega arith, pairs_one c.requires.fact_2 c.loop-i.invariant.1 (omega arith) (omega arith) (omega arith))
 
 pub returns : goal.returns
 returns c =

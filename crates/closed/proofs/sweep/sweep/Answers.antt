@@ -3,7 +3,8 @@ use mathlib.Core.Path.{sym, ◌∙◌}
 use mathlib.Core.Bool.{true≢false}
 use native.Mathlib.Omega.{arith}
 use borrow.Author.Rules.{rules}
-use Rattle.closed.specs.HeldLaws.{gathered_none, matched_none, matched_more, matched_less, unmatched_odd, unmatched_stuck}
+use Rattle.closed.specs.HeldLaws.{gathered_none, matched_none, matched_more, matched_less, unmatched_odd}
+use Rattle.closed.specs.HeldLaws.{unmatched_stuck}
 use Rattle.closed.proofs.sweep.sweep.Goals as goal
 
 pub gather_by_spans-batch-requires : goal.gather_by_spans-batch-requires
@@ -18,7 +19,11 @@ gather_by_spans-batch-requires c =
 
 pub order-requires : goal.order-requires
 order-requires c =
-    let g = c.gather_by_spans-batch.ensures.1.sound in record { fact_1 = omega (arith, g.long, g.room); fact_2 = g.within }
+    let g = c.gather_by_spans-batch.ensures.1.sound in
+    record {
+      fact_1 = omega (arith, g.long, g.room);
+      fact_2 = g.within;
+    }
 
 pub paired-requires : goal.paired-requires
 paired-requires c =

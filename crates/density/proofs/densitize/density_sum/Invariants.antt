@@ -5,7 +5,8 @@ use Rattle.density.specs.Densitize.{density_to, densitize_of}
 use Rattle.density.proofs.densitize.density_sum.Given as goal
 
 abbrev pub invariant-loop-i : goal.invariant-loop-i
-invariant-loop-i l = Left (density_to (kernel_at l.kernels) l.x) l.n l.i l.rho (densitize_of (kernel_at l.kernels) l.n l.x)
+invariant-loop-i l =
+    Left (density_to (kernel_at l.kernels) l.x) l.n l.i l.rho (densitize_of (kernel_at l.kernels) l.n l.x)
 
 abbrev pub decreases-loop-i : goal.decreases-loop-i
 decreases-loop-i l = l.n - l.i

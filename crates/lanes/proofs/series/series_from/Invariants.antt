@@ -8,7 +8,8 @@ use Rattle.lanes.proofs.series.series_from.Given as goal
 
 abbrev pub invariant-loop-i : goal.invariant-loop-i
 invariant-loop-i l = Filled 28
-    (λ (j : ℕ) (z : Float). (l.n ≤ j → z ≡ radial_gSeries (get_or l.t j nan)) × (j < l.n → z ≡ get_or l.initial.g j nan))
+    (λ (j : ℕ) (z : Float). (l.n ≤ j → z ≡ radial_gSeries (get_or l.t j nan))
+    × (j < l.n → z ≡ get_or l.initial.g j nan))
     l.initial.g l.i l.g
     × (l.n ≤ l.i)
 

@@ -31,4 +31,5 @@ unfolding store_check
 returns-else-long_enough c = rw (← c.long_enough.ensures, c.if-long_enough.false)
 
 pub words_sound-requires : goal.words_sound-requires
-words_sound-requires c = (omega arith, omega arith, long_words width _ _ (sym c.long_enough.ensures ∙ c.if-long_enough.true))
+words_sound-requires c =
+    (omega arith, omega arith, long_words width _ _ (sym c.long_enough.ensures ∙ c.if-long_enough.true))

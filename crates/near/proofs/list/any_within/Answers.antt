@@ -13,7 +13,8 @@ loop-j-preserved c =
       λ e.
           let n = neither l.any _ e in
           within_part
-          (within_one (l.invariant.1 n.0) (apart (omega arith) r.type_inv w.type_inv r.ensures.value w.ensures.value n.1))
+          (within_one (l.invariant.1 n.0)
+          (apart (omega arith) r.type_inv w.type_inv r.ensures.value w.ensures.value n.1))
           (omega arith) (omega arith),
     )
 

@@ -31,7 +31,11 @@ density_sum-requires c =
     (sym c.check_read.ensures ∙ c.in-Passed.is)) in
     let w : Worded width c.args.words.now
     c.word-faces.result
-    = rw c.word-faces.ensures h.places in record { fact_1 = omega (arith, h.mesh.floats); fact_2 = seen_ready _ _ _ _ c.seen_places-seen.ensures w }
+    = rw c.word-faces.ensures h.places in
+    record {
+      fact_1 = omega (arith, h.mesh.floats);
+      fact_2 = seen_ready _ _ _ _ c.seen_places-seen.ensures w;
+    }
 
 pub returns-in-Failed : goal.returns-in-Failed
 returns-in-Failed c =

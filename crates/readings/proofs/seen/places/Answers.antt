@@ -22,7 +22,12 @@ loop-i-init c =
 pub look-requires : goal.look-requires
 look-requires c =
     let l = c.loop-i in
-    let h = c.loop-i-test.true in record { fact_1 = c.requires.long; fact_2 = omega (arith, l.invariant.size); fact_3 = (h, c.requires.layer l.i h) }
+    let h = c.loop-i-test.true in
+    record {
+      fact_1 = c.requires.long;
+      fact_2 = omega (arith, l.invariant.size);
+      fact_3 = (h, c.requires.layer l.i h);
+    }
 
 pub loop-i-preserved : goal.loop-i-preserved
 loop-i-preserved c =

@@ -5,7 +5,9 @@ use Rattle.source.specs.Volumes.{pyramid_to, signed_volume}
 use Rattle.source.proofs.volume.signed_volume.Given as goal
 
 abbrev pub invariant-loop-f : goal.invariant-loop-f
-invariant-loop-f l = Left (pyramid_to (triangle_at l.xyz l.faces)) l.n l.f l.total (signed_volume (triangle_at l.xyz l.faces) (face_count l.faces))
+invariant-loop-f l =
+    Left (pyramid_to (triangle_at l.xyz l.faces)) l.n l.f l.total
+    (signed_volume (triangle_at l.xyz l.faces) (face_count l.faces))
 
 abbrev pub decreases-loop-f : goal.decreases-loop-f
 decreases-loop-f l = l.n - l.f

@@ -5,7 +5,9 @@ use Rattle.squeeze.specs.SqueezeLaws.{Moving, Moved}
 use Rattle.squeeze.proofs.moves.gather.Given as goal
 
 abbrev pub invariant-loop-i : goal.invariant-loop-i
-invariant-loop-i l = (l.i ≤ l.verts) × Moving l.initial.xyz l.i l.to l.xyz × ((ks : List ℕ) → Marked ks l.marks → Moved ks l.initial.xyz l.i l.to l.xyz)
+invariant-loop-i l =
+    (l.i ≤ l.verts) × Moving l.initial.xyz l.i l.to l.xyz
+    × ((ks : List ℕ) → Marked ks l.marks → Moved ks l.initial.xyz l.i l.to l.xyz)
 
 abbrev pub decreases-loop-i : goal.decreases-loop-i
 decreases-loop-i l = l.verts - l.i

@@ -6,7 +6,10 @@ use Rattle.readings.specs.Readings.{bare, rescaled, density_at, held_all_lem}
 use Rattle.track.proofs.tracks.one_by_one.Given as goal
 
 abbrev pub invariant-loop-i : goal.invariant-loop-i
-invariant-loop-i l = (l.i ≤ l.count) × Traced (density_at (map (rescaled l.s) (map bare (held_all_lem width l.floats l.words place_limit)))) l.points l.initial.out l.i l.out
+invariant-loop-i l =
+    (l.i ≤ l.count)
+    × Traced (density_at (map (rescaled l.s) (map bare (held_all_lem width l.floats l.words place_limit))))
+    l.points l.initial.out l.i l.out
 
 abbrev pub decreases-loop-i : goal.decreases-loop-i
 decreases-loop-i l = l.count - l.i

@@ -18,7 +18,12 @@ use Rattle.track.proofs.tracks.side_by_side.Goals as goal
 pub write_list-requires : goal.write_list-requires
 write_list-requires c =
     let z = c.requires in
-    let e = c.count_pieces-n.ensures in record { fact_1 = z.fact_1; fact_2 = z.fact_2; fact_3 = rw length-replicate (omega (arith, e.0, e.1)) }
+    let e = c.count_pieces-n.ensures in
+    record {
+      fact_1 = z.fact_1;
+      fact_2 = z.fact_2;
+      fact_3 = rw length-replicate (omega (arith, e.0, e.1));
+    }
 
 pub returns : goal.returns
 returns c =

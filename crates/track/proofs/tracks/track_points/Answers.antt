@@ -10,7 +10,12 @@ use Rattle.track.proofs.tracks.track_points.Goals as goal
 pub trace-requires : goal.trace-requires
 trace-requires c =
     let z = c.requires in
-    let t = trackable _ _ (sym c.check_track.ensures ∙ c.in-Passed.is) in record { fact_1 = z.fact_1; fact_2 = z.fact_2; fact_3 = (omega arith, omega (arith, t.fits)) }
+    let t = trackable _ _ (sym c.check_track.ensures ∙ c.in-Passed.is) in
+    record {
+      fact_1 = z.fact_1;
+      fact_2 = z.fact_2;
+      fact_3 = (omega arith, omega (arith, t.fits));
+    }
 
 pub returns-in-Failed : goal.returns-in-Failed
 returns-in-Failed c =

@@ -18,7 +18,11 @@ loop-i-init c =
     )
 
 pub points-requires : goal.points-requires
-points-requires c = record { fact_1 = c.requires.fact_1; fact_2 = (search rules, c.loop-i.invariant.2, c.loop-i.invariant.3) }
+points-requires c =
+    record {
+      fact_1 = c.requires.fact_1;
+      fact_2 = (search rules, c.loop-i.invariant.2, c.loop-i.invariant.3);
+    }
 
 pub loop-i-preserved : goal.loop-i-preserved
 loop-i-preserved c =
