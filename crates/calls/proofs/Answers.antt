@@ -61,7 +61,8 @@ pub put_done : (place : ℕ) {x : Placed} {p n : ℕ} {f : Fit} → x ≡ Needs 
 unfolding put_text
 put_done place e = rw (e) refl
 
-pub put_refused : (place : ℕ) {x : Placed} {r : Refusal} → x ≡ Unplaced r → put_text place (placed x) ≡ no_text (number r)
+pub put_refused : (place : ℕ) {x : Placed} {r : Refusal} → x ≡ Unplaced r
+    → put_text place (placed x) ≡ no_text (number r)
 unfolding put_text
 put_refused place {r} e = rw (e, never-zero r) refl
 
@@ -99,7 +100,8 @@ pub density_done : {x : Measured} {v : Float} → x ≡ Value v
 unfolding density_text
 density_done e = rw (e) refl
 
-pub density_refused : {x : Measured} {r : Refusal} → x ≡ Unmeasured r → density_text (measured_as x) ≡ no_text (number r)
+pub density_refused : {x : Measured} {r : Refusal} → x ≡ Unmeasured r
+    → density_text (measured_as x) ≡ no_text (number r)
 unfolding density_text
 density_refused {r} e = rw (e, never-zero r) refl
 
@@ -109,6 +111,7 @@ pub report_done : {x : ReportRead} {m : MassReport} {filled pieces : ℕ} {worst
 unfolding report_text
 report_done e = rw (e) refl
 
-pub report_refused : {x : ReportRead} {r : Refusal} → x ≡ Unreported r → report_text (report_read x) ≡ no_text (number r)
+pub report_refused : {x : ReportRead} {r : Refusal} → x ≡ Unreported r
+    → report_text (report_read x) ≡ no_text (number r)
 unfolding report_text
 report_refused {r} e = rw (e, never-zero r) refl

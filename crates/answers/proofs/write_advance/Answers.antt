@@ -9,4 +9,7 @@ pub returns : goal.returns
 returns c =
     let l0 : c.write_number-a.result ≤ c.args.at + 15 + 20 = c.write_number-a.ensures.upper_bound in
     let l1 : c.write_number-b.result ≤ c.write_number-a.result + 8 + 20 = c.write_number-b.ensures.upper_bound in
-    let l2 : c.write_bytes.result ≡ c.write_number-b.result + 2 = c.write_bytes.ensures.next in record { upper_bound = omega (arith, l0, l1, l2); wrote = then c.write_number-a.ensures.wrote (then c.write_number-b.ensures.wrote c.write_bytes.ensures) }
+    let l2 : c.write_bytes.result ≡ c.write_number-b.result + 2 = c.write_bytes.ensures.next in record {
+      upper_bound = omega (arith, l0, l1, l2);
+      wrote = then c.write_number-a.ensures.wrote (then c.write_number-b.ensures.wrote c.write_bytes.ensures);
+    }

@@ -8,4 +8,7 @@ use Rattle.answers.proofs.write_density.Goals as goal
 pub returns : goal.returns
 returns c =
     let l0 : c.write_real-a.result ≡ c.args.at + 9 + 16 = c.write_real-a.ensures.value in
-    let l1 : c.write_bytes.result ≡ c.write_real-a.result + 1 = c.write_bytes.ensures.next in record { upper_bound = omega (arith, l0, l1); wrote = then c.write_real-a.ensures.wrote c.write_bytes.ensures }
+    let l1 : c.write_bytes.result ≡ c.write_real-a.result + 1 = c.write_bytes.ensures.next in record {
+      upper_bound = omega (arith, l0, l1);
+      wrote = then c.write_real-a.ensures.wrote c.write_bytes.ensures;
+    }

@@ -8,4 +8,7 @@ write_number-requires c = omega (arith, decimal-most c.args.n)
 
 pub returns : goal.returns
 returns c =
-    let w = c.write_number in record { upper_bound = omega (arith, w.ensures.value, decimal-most c.args.n); wrote = w.ensures.wrote }
+    let w = c.write_number in record {
+      upper_bound = omega (arith, w.ensures.value, decimal-most c.args.n);
+      wrote = w.ensures.wrote;
+    }

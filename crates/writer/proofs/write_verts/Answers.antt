@@ -18,7 +18,10 @@ loop-i-preserved c =
 pub returns : goal.returns
 returns c =
     let a = c.args in
-    let l = c.loop-i in record { value = omega (arith, l.invariant.1); wrote = todo_done l.invariant.2 (verts_none a.floats.now a.n l.i c.loop-i-test.false) }
+    let l = c.loop-i in record {
+      value = omega (arith, l.invariant.1);
+      wrote = todo_done l.invariant.2 (verts_none a.floats.now a.n l.i c.loop-i-test.false);
+    }
 
 pub loop-i-init : goal.loop-i-init
 loop-i-init c = (omega arith, omega arith, rw sub-zero (todo_all _ _ _))

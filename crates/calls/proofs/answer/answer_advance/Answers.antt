@@ -6,7 +6,8 @@ use Rattle.calls.proofs.answer.answer_advance.Goals as goal
 
 pub returns-in-Steps : goal.returns-in-Steps
 returns-in-Steps c =
-    let w = answering advance_text (advance_done c.in-Steps.is) c.advance.ensures (then c.write_advance-at.ensures.wrote c.newline.ensures.wrote) in
+    let w = answering advance_text (advance_done c.in-Steps.is) c.advance.ensures
+    (then c.write_advance-at.ensures.wrote c.newline.ensures.wrote) in
     record {
       upper_bound = c.newline.ensures.upper_bound;
       floats_after = w.0;

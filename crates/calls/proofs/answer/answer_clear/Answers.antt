@@ -7,7 +7,8 @@ use Rattle.calls.proofs.answer.answer_clear.Goals as goal
 pub returns-in-Done : goal.returns-in-Done
 returns-in-Done c =
     let place = c.args.place in
-    let w = answering (clear_text place) (clear-done place c.in-Done.is) c.clear.ensures (then c.write_clear-at.ensures.wrote c.newline.ensures.wrote) in
+    let w = answering (clear_text place) (clear-done place c.in-Done.is) c.clear.ensures
+    (then c.write_clear-at.ensures.wrote c.newline.ensures.wrote) in
     record {
       upper_bound = c.newline.ensures.upper_bound;
       floats_after = w.0;
@@ -18,7 +19,8 @@ returns-in-Done c =
 pub returns-in-Refused : goal.returns-in-Refused
 returns-in-Refused c =
     let place = c.args.place in
-    let w = answering (clear_text place) (clear-refused place c.in-Refused.is) c.clear.ensures c.answer_no.ensures.wrote in
+    let w = answering (clear_text place) (clear-refused place c.in-Refused.is) c.clear.ensures
+    c.answer_no.ensures.wrote in
     record {
       upper_bound = c.answer_no.ensures.upper_bound;
       floats_after = w.0;

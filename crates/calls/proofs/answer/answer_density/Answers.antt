@@ -12,4 +12,7 @@ returns-in-Value c = record {
 }
 
 pub returns-in-Refused : goal.returns-in-Refused
-returns-in-Refused c = record { upper_bound = c.answer_no.ensures.upper_bound; wrote = reading density_text (density_refused c.in-Refused.is) c.density.ensures c.answer_no.ensures.wrote }
+returns-in-Refused c = record {
+  upper_bound = c.answer_no.ensures.upper_bound;
+  wrote = reading density_text (density_refused c.in-Refused.is) c.density.ensures c.answer_no.ensures.wrote;
+}

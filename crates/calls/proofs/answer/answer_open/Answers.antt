@@ -6,7 +6,8 @@ use Rattle.calls.proofs.answer.answer_open.Goals as goal
 
 pub returns-in-Mesh : goal.returns-in-Mesh
 returns-in-Mesh c =
-    let w = answering open_text (open_done c.in-Mesh.is) c.«open».ensures (then c.write_open-at.ensures.wrote c.newline.ensures.wrote) in
+    let w = answering open_text (open_done c.in-Mesh.is) c.«open».ensures
+    (then c.write_open-at.ensures.wrote c.newline.ensures.wrote) in
     record {
       upper_bound = c.newline.ensures.upper_bound;
       floats_after = w.0;

@@ -7,7 +7,8 @@ use Rattle.calls.proofs.answer.answer_put.Goals as goal
 pub returns-in-Needs : goal.returns-in-Needs
 returns-in-Needs c =
     let place = c.args.place in
-    let w = answering (put_text place) (put_done place c.in-Needs.is) c.put.ensures (then c.write_put-at.ensures.wrote c.newline.ensures.wrote) in
+    let w = answering (put_text place) (put_done place c.in-Needs.is) c.put.ensures
+    (then c.write_put-at.ensures.wrote c.newline.ensures.wrote) in
     record {
       upper_bound = c.newline.ensures.upper_bound;
       floats_after = w.0;

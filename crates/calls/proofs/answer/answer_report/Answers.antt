@@ -12,4 +12,7 @@ returns-in-Report c = record {
 }
 
 pub returns-in-Refused : goal.returns-in-Refused
-returns-in-Refused c = record { upper_bound = c.answer_no.ensures.upper_bound; wrote = reading report_text (report_refused c.in-Refused.is) c.report.ensures c.answer_no.ensures.wrote }
+returns-in-Refused c = record {
+  upper_bound = c.answer_no.ensures.upper_bound;
+  wrote = reading report_text (report_refused c.in-Refused.is) c.report.ensures c.answer_no.ensures.wrote;
+}

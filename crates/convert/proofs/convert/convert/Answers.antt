@@ -10,12 +10,14 @@ returns-then-not-scan c =
 pub returns-then-out-n : goal.returns-then-out-n
 returns-then-out-n c =
     let s = c.scan_lines-scan in
-    too_short _ _ _ _ s.ensures.lines_value s.ensures.same_value s.ensures.ended_value c.if-not-scan.false c.if-out-n.true
+    too_short _ _ _ _ s.ensures.lines_value s.ensures.same_value s.ensures.ended_value c.if-not-scan.false
+    c.if-out-n.true
 
 pub returns-in-Failed : goal.returns-in-Failed
 returns-in-Failed c =
     let s = c.scan_lines-scan in
-    differs _ _ _ _ s.ensures.lines_value s.ensures.same_value s.ensures.ended_value c.if-not-scan.false c.if-out-n.false
+    differs _ _ _ _ s.ensures.lines_value s.ensures.same_value s.ensures.ended_value c.if-not-scan.false
+    c.if-out-n.false
     c.check_strict-checked.ensures c.in-Failed.is
 
 pub returns-in-Passed : goal.returns-in-Passed

@@ -22,6 +22,13 @@ returns c =
     let a = c.read_exponent-a.ensures ∙ (λ i. map to_exponent (read exponent_form (a· i))) in
     let e = c.read_bytes-7.ensures ∙ (λ i. literal (bytes "))\n") (a i).text) in
     (λ i. record {
-      val = record { x = (x i).val; y = (y i).val; z = (z i).val; sigma = (g i).val; w = (w i).val; exponent = (a i).val };
+      val = record {
+        x = (x i).val;
+        y = (y i).val;
+        z = (z i).val;
+        sigma = (g i).val;
+        w = (w i).val;
+        exponent = (a i).val;
+      };
       text = e i;
     })

@@ -9,7 +9,11 @@ use Rattle.convert.proofs.lines.scan_lines.Goals as goal
 pub returns-then-lines-s : goal.returns-then-lines-s
 returns-then-lines-s c =
     let l = c.loop-at in
-    let f = found_many _ _ l.invariant c.if-lines-s.true in record { lines_value = f.lines; same_value = f.agree; ended_value = not-ended _ l.at c.loop-at-test.true ∙ sym (ap ended f.text) }
+    let f = found_many _ _ l.invariant c.if-lines-s.true in record {
+      lines_value = f.lines;
+      same_value = f.agree;
+      ended_value = not-ended _ l.at c.loop-at-test.true ∙ sym (ap ended f.text);
+    }
 
 pub loop-at-preserved : goal.loop-at-preserved
 loop-at-preserved c =
@@ -20,7 +24,11 @@ loop-at-preserved c =
 pub returns : goal.returns
 returns c =
     let l = c.loop-at in
-    let f = found_end _ _ l.invariant (search rules) in record { lines_value = f.lines; same_value = f.agree; ended_value = ended_is _ l.at (search rules) ∙ sym (ap ended f.text) }
+    let f = found_end _ _ l.invariant (search rules) in record {
+      lines_value = f.lines;
+      same_value = f.agree;
+      ended_value = ended_is _ l.at (search rules) ∙ sym (ap ended f.text);
+    }
 
 pub loop-at-init : goal.loop-at-init
 loop-at-init c = none_scanned _ _

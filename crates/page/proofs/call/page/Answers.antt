@@ -11,7 +11,10 @@ pub page_of-requires : goal.page_of-requires
 page_of-requires c =
     let h = fine width _ _
     (done-passed width _ _
-    (sym c.check_done.ensures ∙ c.in-Passed.is)) in record { fact_1 = omega (arith, h.mesh.floats); fact_2 = rw c.word.ensures h.places }
+    (sym c.check_done.ensures ∙ c.in-Passed.is)) in record {
+      fact_1 = omega (arith, h.mesh.floats);
+      fact_2 = rw c.word.ensures h.places;
+    }
 
 pub returns-in-Failed : goal.returns-in-Failed
 unfolding page_step

@@ -46,8 +46,10 @@ pub write_total-requires : goal.write_total-requires
 write_total-requires c =
     let l = c.loop-i in
     let e : l.i ≡ 32 = omega arith in
-    let n = rw e at l.invariant.1 in
-    (omega (arith, n, long l.invariant.2, c.requires.fact_3.1), omega (arith, c.total.ensures.1, l.invariant.4, l.invariant.5))
+    let n = rw e at l.invariant.1 in (
+      omega (arith, n, long l.invariant.2, c.requires.fact_3.1),
+      omega (arith, c.total.ensures.1, l.invariant.4, l.invariant.5),
+    )
 
 pub returns : goal.returns
 returns c =

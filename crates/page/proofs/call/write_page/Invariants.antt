@@ -8,8 +8,10 @@ use Rattle.page.specs.Page.{lines_of, total_of, held_rows}
 use Rattle.page.proofs.call.write_page.Given as goal
 
 abbrev pub invariant-loop-i : goal.invariant-loop-i
-invariant-loop-i l = (l.i ≤ 32) × (l.s.at ≡ 65 * length (held_rows width l.floats l.words l.i)) × Wrote l.initial.out 0 (lines_of (held_rows width l.floats l.words l.i)) l.s.at l.out
-    × (pos l.s.plus -ℤ pos l.s.less ≡ total_of (held_rows width l.floats l.words l.i)) × (l.s.plus ≤ 1000000000000000 * l.i)
+invariant-loop-i l = (l.i ≤ 32) × (l.s.at ≡ 65 * length (held_rows width l.floats l.words l.i))
+    × Wrote l.initial.out 0 (lines_of (held_rows width l.floats l.words l.i)) l.s.at l.out
+    × (pos l.s.plus -ℤ pos l.s.less ≡ total_of (held_rows width l.floats l.words l.i))
+    × (l.s.plus ≤ 1000000000000000 * l.i)
     × (l.s.less ≤ 1000000000000000 * l.i)
 
 abbrev pub decreases-loop-i : goal.decreases-loop-i

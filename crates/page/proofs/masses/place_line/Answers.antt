@@ -9,7 +9,10 @@ pub returns-then-status-eq0 : goal.returns-then-status-eq0
 returns-then-status-eq0 c =
     let a = c.args in
     let e = c.if-status-eq0.true in
-    let n = none-count a.floats.now a.i a.status e in record { at_value = (omega (arith, n), none_written _ _ _ e); less_value = (none_total _ _ _ e _, omega arith, omega arith) }
+    let n = none-count a.floats.now a.i a.status e in record {
+      at_value = (omega (arith, n), none_written _ _ _ e);
+      less_value = (none_total _ _ _ e _, omega arith, omega arith);
+    }
 
 pub rounded-v-requires : goal.rounded-v-requires
 rounded-v-requires c =
@@ -43,4 +46,7 @@ returns c =
     let t = one_total a.floats.now a.i a.status c.pieces-count.result c.if-status-eq0.false
     c.pieces-count.ensures m.result m.ensures _ c.rounded-v.ensures.0 in
     let l = one_written a.floats.now a.i a.status c.pieces-count.result c.if-status-eq0.false
-    c.pieces-count.ensures m.result m.ensures _ c.rounded-v.ensures.0 c.write_line-at.ensures.1 in record { at_value = (omega (arith, n, c.add.ensures.0, c.write_line-at.ensures.0), rw c.add.ensures.0 l); less_value = (rw t c.add.ensures.1, c.add.ensures.2, c.add.ensures.3) }
+    c.pieces-count.ensures m.result m.ensures _ c.rounded-v.ensures.0 c.write_line-at.ensures.1 in record {
+      at_value = (omega (arith, n, c.add.ensures.0, c.write_line-at.ensures.0), rw c.add.ensures.0 l);
+      less_value = (rw t c.add.ensures.1, c.add.ensures.2, c.add.ensures.3);
+    }

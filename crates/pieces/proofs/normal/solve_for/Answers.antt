@@ -7,9 +7,15 @@ use Rattle.pieces.proofs.normal.solve_for.Goals as goal
 pub returns-in-Reduced : goal.returns-in-Reduced
 unfolding coefficients_of ended_fit
 returns-in-Reduced c =
-    let e = sym c.eliminate-end.ensures in record { coefficients_after = c.copy_out.ensures ∙ simp (e, c.in-Reduced.is); value = simp (e, c.in-Reduced.is) }
+    let e = sym c.eliminate-end.ensures in record {
+      coefficients_after = c.copy_out.ensures ∙ simp (e, c.in-Reduced.is);
+      value = simp (e, c.in-Reduced.is);
+    }
 
 pub returns-in-Flat : goal.returns-in-Flat
 unfolding coefficients_of ended_fit
 returns-in-Flat c =
-    let e = sym c.eliminate-end.ensures in record { coefficients_after = simp (e, c.in-Flat.is); value = simp (e, c.in-Flat.is) }
+    let e = sym c.eliminate-end.ensures in record {
+      coefficients_after = simp (e, c.in-Flat.is);
+      value = simp (e, c.in-Flat.is);
+    }

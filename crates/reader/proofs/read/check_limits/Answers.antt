@@ -12,14 +12,16 @@ pub returns-then-verts-gt-VERTEX_LIMIT : goal.returns-then-verts-gt-VERTEX_LIMIT
 returns-then-verts-gt-VERTEX_LIMIT c =
     let a = c.args in
     let q0 = lt-ltb vertex_limit a.verts c.if-verts-gt-VERTEX_LIMIT.true in
-    sym (λ i. verdict (q0 i) (ltb face_limit a.faces) a.below (leb (coords_from + 3 * a.verts) a.floats) (leb (corners_from width + 3 * a.faces) a.words) a.placed a.layered)
+    sym (λ i. verdict (q0 i) (ltb face_limit a.faces) a.below (leb (coords_from + 3 * a.verts) a.floats)
+    (leb (corners_from width + 3 * a.faces) a.words) a.placed a.layered)
 
 pub returns-then-faces-gt-FACE_LIMIT : goal.returns-then-faces-gt-FACE_LIMIT
 returns-then-faces-gt-FACE_LIMIT c =
     let a = c.args in
     let q0 = le-ltb vertex_limit a.verts c.if-verts-gt-VERTEX_LIMIT.false in
     let q1 = lt-ltb face_limit a.faces c.if-faces-gt-FACE_LIMIT.true in
-    sym (λ i. verdict (q0 i) (q1 i) a.below (leb (coords_from + 3 * a.verts) a.floats) (leb (corners_from width + 3 * a.faces) a.words) a.placed a.layered)
+    sym (λ i. verdict (q0 i) (q1 i) a.below (leb (coords_from + 3 * a.verts) a.floats)
+    (leb (corners_from width + 3 * a.faces) a.words) a.placed a.layered)
 
 pub returns-then-not-below : goal.returns-then-not-below
 returns-then-not-below c =
@@ -27,7 +29,8 @@ returns-then-not-below c =
     let q0 = le-ltb vertex_limit a.verts c.if-verts-gt-VERTEX_LIMIT.false in
     let q1 = le-ltb face_limit a.faces c.if-faces-gt-FACE_LIMIT.false in
     let q2 = c.if-not-below.true in
-    sym (λ i. verdict (q0 i) (q1 i) (q2 i) (leb (coords_from + 3 * a.verts) a.floats) (leb (corners_from width + 3 * a.faces) a.words) a.placed a.layered)
+    sym (λ i. verdict (q0 i) (q1 i) (q2 i) (leb (coords_from + 3 * a.verts) a.floats)
+    (leb (corners_from width + 3 * a.faces) a.words) a.placed a.layered)
 
 pub returns-then-floats-verts : goal.returns-then-floats-verts
 returns-then-floats-verts c =

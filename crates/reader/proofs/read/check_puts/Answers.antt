@@ -35,8 +35,14 @@ loop-k-preserved c =
     let n = c.read_put-p.ensures in
     let t = put_turn_lem s l.k l.turns (rest s p.result.at) l.placed l.layered p.result.place
     p.result.layer c.loop-k-test.true (omega arith) (λ i. (n i).text) (λ i. (n i).val.0)
-    (λ i. (n i).val.1.1.1.1.1.1.1.0) in
-    (omega arith, t.text ∙ l.invariant.1, omega (arith, l.invariant.2, t.count), t.places ∙ l.invariant.3, t.layers ∙ l.invariant.4)
+    (λ i. (n i).val.1.1.1.1.1.1.1.0) in (
+      omega arith,
+      t.text ∙ l.invariant.1,
+      omega (arith, l.invariant.2, t.count),
+      t.places ∙ l.invariant.3,
+      t.layers
+          ∙ l.invariant.4,
+    )
 
 pub returns : goal.returns
 returns c =

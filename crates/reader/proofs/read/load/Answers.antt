@@ -50,8 +50,10 @@ returns c =
     ∙ (λ i. write a.words.now 0
     (open_words width a.verts a.faces (corners_in (lines_from face_line a.faces (x.result_value i)).val))) in
     let z = c.load_puts.ensures in record {
-      floats_after = z.floats_after ∙ (λ i. (puts_on width (lines_from put_line a.n (u i)).val (after done (x.floats_after i) (v i))).floats)
+      floats_after = z.floats_after
+          ∙ (λ i. (puts_on width (lines_from put_line a.n (u i)).val (after done (x.floats_after i) (v i))).floats)
           ∙ l.left_floats;
-      words_after = z.words_after ∙ (λ i. (puts_on width (lines_from put_line a.n (u i)).val (after done (x.floats_after i) (v i))).words)
+      words_after = z.words_after
+          ∙ (λ i. (puts_on width (lines_from put_line a.n (u i)).val (after done (x.floats_after i) (v i))).words)
           ∙ l.left_words;
     }

@@ -33,7 +33,10 @@ pub returns : goal.returns
 returns c =
     let a = c.args in
     let l = c.loop-i in
-    let e = from-none face_line a.n l.i (rest a.s.now l.k) c.loop-i-test.false in record { result_value = sym (ap (λ (g : Got (List (Vals face_line))). g.text) e) ∙ l.invariant.2; words_after = (λ j. sets l.words (130 + 3 * l.i) (corners_in (sym e j).val)) ∙ l.invariant.3 }
+    let e = from-none face_line a.n l.i (rest a.s.now l.k) c.loop-i-test.false in record {
+      result_value = sym (ap (λ (g : Got (List (Vals face_line))). g.text) e) ∙ l.invariant.2;
+      words_after = (λ j. sets l.words (130 + 3 * l.i) (corners_in (sym e j).val)) ∙ l.invariant.3;
+    }
 
 pub loop-i-init : goal.loop-i-init
 loop-i-init c = (omega arith, refl, rw sub-zero refl, rw sub-zero refl)

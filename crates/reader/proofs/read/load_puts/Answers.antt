@@ -83,7 +83,12 @@ returns c =
     let a = c.args in
     let l = c.loop-i in
     let e = from-none put_line a.n l.i (rest a.s.now l.k) c.loop-i-test.false in
-    let o = after done l.floats l.words in record { floats_after = (λ j. (sym (puts_none width o) j).floats) ∙ (λ j. (puts_on width (sym e j).val o).floats) ∙ l.invariant.6; words_after = (λ j. (sym (puts_none width o) j).words) ∙ (λ j. (puts_on width (sym e j).val o).words) ∙ l.invariant.7 }
+    let o = after done l.floats l.words in record {
+      floats_after = (λ j. (sym (puts_none width o) j).floats) ∙ (λ j. (puts_on width (sym e j).val o).floats)
+          ∙ l.invariant.6;
+      words_after = (λ j. (sym (puts_none width o) j).words) ∙ (λ j. (puts_on width (sym e j).val o).words)
+          ∙ l.invariant.7;
+    }
 
 pub loop-i-init : goal.loop-i-init
 loop-i-init c = (

@@ -13,11 +13,13 @@ use Rattle.reader.specs.ReadOf.{lines_from, places_in, layers_in, puts_on}
 use Rattle.reader.proofs.read.load_puts.Given as goal
 
 abbrev pub invariant-loop-i : goal.invariant-loop-i
-invariant-loop-i l = (l.i ≤ l.n) × (length l.floats ≡ length l.initial.floats) × (length l.words ≡ length l.initial.words) × (store_check width l.floats l.words ≡ Passed)
+invariant-loop-i l = (l.i ≤ l.n) × (length l.floats ≡ length l.initial.floats)
+    × (length l.words ≡ length l.initial.words) × (store_check width l.floats l.words ≡ Passed)
     × (places_in (lines_from put_line (l.n - l.i) (rest l.s l.k)).val ≡ true)
     × (layers_in (lines_from put_line (l.n - l.i) (rest l.s l.k)).val ≡ true)
     × ((puts_on width (lines_from put_line (l.n - l.i) (rest l.s l.k)).val (after done l.floats l.words)).floats
-    ≡ (puts_on width (lines_from put_line l.n (rest l.s l.at)).val (after done l.initial.floats l.initial.words)).floats)
+    ≡ (puts_on width (lines_from put_line l.n (rest l.s l.at)).val
+    (after done l.initial.floats l.initial.words)).floats)
     × ((puts_on width (lines_from put_line (l.n - l.i) (rest l.s l.k)).val (after done l.floats l.words)).words
     ≡ (puts_on width (lines_from put_line l.n (rest l.s l.at)).val (after done l.initial.floats l.initial.words)).words)
 

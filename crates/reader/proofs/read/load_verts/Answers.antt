@@ -33,7 +33,10 @@ pub returns : goal.returns
 returns c =
     let a = c.args in
     let l = c.loop-i in
-    let e = from-none vert_line a.n l.i (rest a.s.now l.k) c.loop-i-test.false in record { result_value = sym (ap (λ (g : Got (List (Vals vert_line))). g.text) e) ∙ l.invariant.2; floats_after = (λ j. sets l.floats (1761 + 3 * l.i) (coords_in (sym e j).val)) ∙ l.invariant.3 }
+    let e = from-none vert_line a.n l.i (rest a.s.now l.k) c.loop-i-test.false in record {
+      result_value = sym (ap (λ (g : Got (List (Vals vert_line))). g.text) e) ∙ l.invariant.2;
+      floats_after = (λ j. sets l.floats (1761 + 3 * l.i) (coords_in (sym e j).val)) ∙ l.invariant.3;
+    }
 
 pub loop-i-init : goal.loop-i-init
 loop-i-init c = (omega arith, refl, rw sub-zero refl, rw sub-zero refl)

@@ -29,7 +29,14 @@ loop-i-preserved c =
 pub returns : goal.returns
 returns c =
     let a = c.args in
-    let l = c.loop-i in record { upper_bound = omega (arith, l.invariant.1); value = (λ fs. omega (arith, l.invariant.2 fs, ap length (puts_none width fs a.words.now 32 l.i c.loop-i-test.false))) }
+    let l = c.loop-i in record {
+      upper_bound = omega (arith, l.invariant.1);
+      value = (λ fs. omega (
+        arith,
+        l.invariant.2 fs,
+        ap length (puts_none width fs a.words.now 32 l.i c.loop-i-test.false),
+      ));
+    }
 
 pub loop-i-init : goal.loop-i-init
 loop-i-init c = (omega arith, omega arith, λ fs. omega arith)

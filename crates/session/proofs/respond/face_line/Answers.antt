@@ -25,7 +25,10 @@ add_face-p-requires c =
 
 pub settle-requires : goal.settle-requires
 settle-requires c =
-    let p = c.requires in record { small = small_as c.add_face-p.ensures.value p.fact_1; in_bounds = (p.fact_3, search rules) }
+    let p = c.requires in record {
+      small = small_as c.add_face-p.ensures.value p.fact_1;
+      in_bounds = (p.fact_3, search rules);
+    }
 
 pub returns : goal.returns
 returns c =
@@ -33,4 +36,7 @@ returns c =
     let s = session a.o a.floats.now a.words.now a.coords.now a.corners.now in
     let v = c.add_face-p.ensures in
     let e = c.settle.ensures in
-    let h = sym c.verts_due.ensures ∙ c.if-verts_due.false in record { small = e.small_2; does = saying (face_kept s a.a a.b a.c h v.value v.corners_after) e.does.0 e.does.1 }
+    let h = sym c.verts_due.ensures ∙ c.if-verts_due.false in record {
+      small = e.small_2;
+      does = saying (face_kept s a.a a.b a.c h v.value v.corners_after) e.does.0 e.does.1;
+    }

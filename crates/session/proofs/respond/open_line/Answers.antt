@@ -10,14 +10,20 @@ use Rattle.session.proofs.respond.open_line.Goals as goal
 pub settle-requires : goal.settle-requires
 settle-requires c =
     let a = c.args in
-    let b = both (leb a.verts vert_bound) (leb a.faces face_bound) c.if-taken.true in record { small = small_as c.begun-p.ensures (leb-true a.verts vert_bound b.0, leb-true a.faces face_bound b.1); in_bounds = c.requires.in_bounds }
+    let b = both (leb a.verts vert_bound) (leb a.faces face_bound) c.if-taken.true in record {
+      small = small_as c.begun-p.ensures (leb-true a.verts vert_bound b.0, leb-true a.faces face_bound b.1);
+      in_bounds = c.requires.in_bounds;
+    }
 
 pub returns-then-taken : goal.returns-then-taken
 returns-then-taken c =
     let a = c.args in
     let s = session a.o a.floats.now a.words.now a.coords.now a.corners.now in
     let e = c.settle.ensures in
-    let h = c.if-taken.true in record { small_2 = e.small_2; does = saying (opening_begun s a.radius a.verts a.faces h c.begun-p.ensures) e.does.0 e.does.1 }
+    let h = c.if-taken.true in record {
+      small_2 = e.small_2;
+      does = saying (opening_begun s a.radius a.verts a.faces h c.begun-p.ensures) e.does.0 e.does.1;
+    }
 
 pub returns : goal.returns
 returns c =

@@ -12,10 +12,16 @@ pub returns-then-due : goal.returns-then-due
 returns-then-due c =
     let a = c.args in
     let s = session a.o a.floats.now a.words.now a.coords.now a.corners.now in
-    let e = c.in_opening.ensures in record { small = e.small; does = saying (responds_due s a.l (sym c.due.ensures ∙ c.if-due.true)) e.does.0 e.does.1 }
+    let e = c.in_opening.ensures in record {
+      small = e.small;
+      does = saying (responds_due s a.l (sym c.due.ensures ∙ c.if-due.true)) e.does.0 e.does.1;
+    }
 
 pub returns : goal.returns
 returns c =
     let a = c.args in
     let s = session a.o a.floats.now a.words.now a.coords.now a.corners.now in
-    let e = c.outside.ensures in record { small = e.small_2; does = saying (responds_else s a.l (sym c.due.ensures ∙ c.if-due.false)) e.does.0 e.does.1 }
+    let e = c.outside.ensures in record {
+      small = e.small_2;
+      does = saying (responds_else s a.l (sym c.due.ensures ∙ c.if-due.false)) e.does.0 e.does.1;
+    }

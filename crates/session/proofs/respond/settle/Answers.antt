@@ -9,7 +9,10 @@ use Rattle.session.proofs.respond.settle.Goals as goal
 pub returns-then-due : goal.returns-then-due
 returns-then-due c =
     let a = c.args in
-    let s = session a.o a.floats.now a.words.now a.coords.now a.corners.now in record { small_2 = (c.requires.small, omega arith); does = saying (settled-due s (sym c.due.ensures ∙ c.if-due.true)) refl (record { next = refl; run = refl }) }
+    let s = session a.o a.floats.now a.words.now a.coords.now a.corners.now in record {
+      small_2 = (c.requires.small, omega arith);
+      does = saying (settled-due s (sym c.due.ensures ∙ c.if-due.true)) refl (record { next = refl; run = refl });
+    }
 
 pub slice_bounds-answer_open-end : goal.slice_bounds-answer_open-end
 slice_bounds-answer_open-end c =

@@ -12,7 +12,10 @@ add_vert-p-requires c =
 
 pub settle-requires : goal.settle-requires
 settle-requires c =
-    let p = c.requires in record { small = small_as c.add_vert-p.ensures.value p.fact_1; in_bounds = (search rules, p.fact_2) }
+    let p = c.requires in record {
+      small = small_as c.add_vert-p.ensures.value p.fact_1;
+      in_bounds = (search rules, p.fact_2);
+    }
 
 pub returns-then-verts_due : goal.returns-then-verts_due
 returns-then-verts_due c =
@@ -20,7 +23,10 @@ returns-then-verts_due c =
     let s = session a.o a.floats.now a.words.now a.coords.now a.corners.now in
     let v = c.add_vert-p.ensures in
     let e = c.settle.ensures in
-    let h = sym c.verts_due.ensures ∙ c.if-verts_due.true in record { small = e.small_2; does = saying (vert_kept s a.x a.y a.z h v.value v.coords_after) e.does.0 e.does.1 }
+    let h = sym c.verts_due.ensures ∙ c.if-verts_due.true in record {
+      small = e.small_2;
+      does = saying (vert_kept s a.x a.y a.z h v.value v.coords_after) e.does.0 e.does.1;
+    }
 
 pub returns : goal.returns
 returns c =

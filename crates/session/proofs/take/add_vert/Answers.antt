@@ -21,4 +21,5 @@ pub bounds-coords-at-3 : goal.bounds-coords-at-3
 bounds-coords-at-3 c = omega (arith, vert_room c.args.o (c.requires.fact_1, c.requires.fact_2))
 
 pub overflow_add-result : goal.overflow_add-result
-overflow_add-result c = Fits-under w32 _ 501 (omega (arith, vert_room c.args.o (c.requires.fact_1, c.requires.fact_2))) tt
+overflow_add-result c = Fits-under w32 _ 501 (omega (arith, vert_room c.args.o (c.requires.fact_1, c.requires.fact_2)))
+    tt

@@ -18,14 +18,19 @@ pub float_to_bits-b : goal.float_to_bits-b
 float_to_bits-b c = a_number _ _ (size_of c.requires c.abs-b.ensures) (search rules)
 
 pub returns-then-b-eq0 : goal.returns-then-b-eq0
-returns-then-b-eq0 c = (sym (zero_is _ _ (size_of c.requires c.abs-b.ensures) (search rules) c.if-b-eq0.true), omega arith)
+returns-then-b-eq0 c = (
+  sym (zero_is _ _ (size_of c.requires c.abs-b.ensures) (search rules) c.if-b-eq0.true),
+  omega arith,
+)
 
 pub split-p-requires : goal.split-p-requires
 split-p-requires c = (omega arith, below_inf _ _ (size_of c.requires c.abs-b.ensures) (search rules))
 
 pub returns-then-ex-lt1073 : goal.returns-then-ex-lt1073
-returns-then-ex-lt1073 c =
-    (sym (below_half _ _ (size_of c.requires c.abs-b.ensures) (search rules) _ _ c.split-p.ensures c.if-ex-lt1073.true), omega arith)
+returns-then-ex-lt1073 c = (
+  sym (below_half _ _ (size_of c.requires c.abs-b.ensures) (search rules) _ _ c.split-p.ensures c.if-ex-lt1073.true),
+  omega arith,
+)
 
 pub overflow_sub-ex : goal.overflow_sub-ex
 overflow_sub-ex c =
