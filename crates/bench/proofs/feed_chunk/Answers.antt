@@ -7,16 +7,16 @@ use Rattle.bench.proofs.feed_chunk.Goals as goal
 
 -- after an answer that was not written nothing is promised of what is held
 pub returns-then-not-say : goal.returns-then-not-say
-returns-then-not-say c = record { small_2 = search rules; count_after = (λ e. absurd (false≢true e)) }
+returns-then-not-say g c = record { small_2 = search rules; count_after = (λ e. absurd (false≢true e)) }
 
 pub loop-i-preserved : goal.loop-i-preserved
-loop-i-preserved c = (
+loop-i-preserved g c = (
   search rules,
   goes c.loop-i.invariant.1 c.loop-i-test.true c.feed-state.ensures.feeds.0,
 )
 
 pub returns : goal.returns
-returns c = record { small_2 = search rules; count_after = (λ e. ended c.loop-i.invariant.1 c.loop-i-test.false) }
+returns g c = record { small_2 = search rules; count_after = (λ e. ended c.loop-i.invariant.1 c.loop-i-test.false) }
 
 pub loop-i-init : goal.loop-i-init
-loop-i-init c = (search rules, from_zero refl)
+loop-i-init g c = (search rules, from_zero refl)

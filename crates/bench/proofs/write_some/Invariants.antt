@@ -2,7 +2,7 @@
 use Rattle.bench.proofs.write_some.Given as goal
 
 abbrev pub invariant-loop-turns : goal.invariant-loop-turns
-invariant-loop-turns l = Unit
+invariant-loop-turns g l = Unit
 
 abbrev pub decreases-loop-turns : goal.decreases-loop-turns
-decreases-loop-turns l = l.turns
+decreases-loop-turns g l = l.turns
