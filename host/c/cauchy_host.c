@@ -19,7 +19,7 @@ const char *cauchy_refusal_text(uint32_t no) {
     case CAUCHY_UNFINISHED: return "unfinished: work is left that this reading needs";
     case CAUCHY_SHORT_LIST: return "short list: six floats are needed for each kernel";
     case CAUCHY_BAD_MATRIX: return "bad matrix: more than 16 equations, or lengths that do not fit";
-    case CAUCHY_FLAT_PIVOT: return "flat pivot: the pivot chosen in some column is at most 1e-18 in absolute value";
+    case CAUCHY_FLAT_PIVOT: return "flat pivot: the pivot chosen in some column is at most 1e-18";
     case CAUCHY_EXPONENT: return "exponent: some exponent is farther than 1e-9 from 1";
     case CAUCHY_BAD_LINE: return "bad line: the bytes are not one whole opening and then puts";
     case CAUCHY_BAD_TRACK: return "bad track: more than 4,096 points, or lengths that do not fit";

@@ -115,9 +115,7 @@ impl Refusal {
             Refusal::Unfinished => "unfinished: work is left that this reading needs",
             Refusal::ShortList => "short list: six floats are needed for each kernel",
             Refusal::BadMatrix => "bad matrix: more than 16 equations, or lengths that do not fit",
-            Refusal::FlatPivot => {
-                "flat pivot: the pivot chosen in some column is at most 1e-18 in absolute value"
-            }
+            Refusal::FlatPivot => "flat pivot: the pivot chosen in some column is at most 1e-18",
             Refusal::Exponent => "exponent: some exponent is farther than 1e-9 from 1",
             Refusal::BadLine => "bad line: the bytes are not one whole opening and then puts",
             Refusal::BadTrack => "bad track: more than 4,096 points, or lengths that do not fit",

@@ -134,7 +134,7 @@ def solve(n: int, cells: arrays.Items) -> Solution:
     (Solution(answer=[1.0, 2.0], pivot=0.5), [1.0, 2.0])
     >>> solve(1, [0, 1])
     Traceback (most recent call last):
-    cauchy.FlatPivot: flat pivot: the pivot chosen in some column is at most 1e-18 in absolute value (no 11)
+    cauchy.FlatPivot: flat pivot: the pivot chosen in some column is at most 1e-18 (no 11)
     >>> try:
     ...     solve(2, [1, 1, 2, 1, 1, 2])
     ... except FlatPivot as flat:

@@ -102,11 +102,11 @@ class BadMatrix(Refused):
 
 
 class FlatPivot(Refused):
-    """The pivot chosen in some column of the equations is at most 1e-18 in absolute value; `column` is that column,
+    """The pivot chosen in some column of the equations is at most 1e-18; `column` is that column,
     from 0."""
 
     number = 11
-    meaning = "flat pivot: the pivot chosen in some column is at most 1e-18 in absolute value"
+    meaning = "flat pivot: the pivot chosen in some column is at most 1e-18"
 
     def __init__(self, column: int = 0) -> None:
         super().__init__(column)
