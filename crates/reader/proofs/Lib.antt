@@ -1,3 +1,4 @@
 pub mod Turns
 pub mod PutTurns
 pub mod Entries
+pub mod StepsOf

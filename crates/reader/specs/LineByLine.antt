@@ -166,9 +166,14 @@ module _ (fs : List Float) (ws : List ℕ) (s : List ℕ) where
   has-passed : Taken (load_step width fs ws s)
       → (form_check (read_of s).text ≡ Passed) × (script_check width script (length fs) (length ws) ≡ Passed)
   unfolding load_step
-  has-passed t =
-      let c = script_check width script (length fs) (length ws) in
-      passed-both (form_check (read_of s).text) c (passed (and_then (form_check (read_of s).text) c) fs ws all_done t)
+  has-passed t = go (form_check (read_of s).text) (script_check width script (length fs) (length ws)) refl refl
+    where
+      go : (a b : Checked) → form_check (read_of s).text ≡ a → script_check width script (length fs) (length ws) ≡ b
+          → (form_check (read_of s).text ≡ Passed) × (script_check width script (length fs) (length ws) ≡ Passed)
+      go Passed Passed e g = (e, g)
+      go Passed (Failed r) e g = not-zero _ (simp (e, g) at t)
+      go (Failed r) Passed e g = not-zero _ (simp (e, g) at t)
+      go (Failed r) (Failed q) e g = not-zero _ (simp (e, g) at t)
 
   -- a text that is not refused is played, line by line
   pub plays : Taken (load_step width fs ws s) → load_step width fs ws s ≡ all_done

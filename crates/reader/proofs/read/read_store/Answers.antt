@@ -9,7 +9,8 @@ use Rattle.text.specs.Text.{lost, left}
 use Rattle.script.specs.Lines.{put_line}
 use Rattle.reader.specs.ReadOf.{script_check}
 use Rattle.reader.specs.ReadLaws.{ended_in}
-use Rattle.reader.specs.StepLaws.{Parsed, limits_are, from_is, step_bad, step_refused, step_done}
+use Rattle.reader.specs.StepLaws.{Parsed, from_is}
+use Rattle.reader.proofs.StepsOf.{limits_are, step_bad, step_refused, step_done}
 use Rattle.reader.proofs.read.read_store.Goals as goal
 
 pub returns-then-not-p : goal.returns-then-not-p
