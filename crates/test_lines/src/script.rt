@@ -10,7 +10,7 @@ use density::convention::Convention;
 pub const WORD: u64 = 4_294_967_296;
 
 // In place of a number that a line does not have.
-const NO_WORD: u64 = 18_446_744_073_709_551_615;
+pub const NO_WORD: u64 = 18_446_744_073_709_551_615;
 
 // The value of a digit, 10 to 15 for a letter.
 fn digit(b: u8) -> u64 {
@@ -92,6 +92,48 @@ fn value(s: &[u8], k: u64) -> f64 {
         }
     }
     from_pattern(bits)
+}
+
+// The words of a text as decimal numbers.
+pub fn numbers(s: &[u8]) -> [u64; 8] {
+    let mut n = [NO_WORD; 8];
+    let mut k: usize = 0;
+    for i in 0..s.len() {
+        let b = s[i];
+        if k >= 8 {
+            return n;
+        }
+        if b == b' ' {
+            k += 1;
+            if k < 8 {
+                n[k] = 0;
+            }
+        } else {
+            n[k] = longer(n[k], b);
+        }
+    }
+    n
+}
+
+// The words of a text as floats by their bits; a colon is no part of a word.
+pub fn values(s: &[u8]) -> [f64; 8] {
+    let mut x = [0.0; 8];
+    let mut k: usize = 0;
+    let mut bits: u64 = 0;
+    for i in 0..s.len() {
+        let b = s[i];
+        if k >= 8 {
+            return x;
+        }
+        if b == b' ' {
+            k += 1;
+            bits = 0;
+        } else if b != b':' {
+            bits = bits << 4 | digit(b);
+            x[k] = from_pattern(bits);
+        }
+    }
+    x
 }
 
 // The call of a line, with a layer and a set of layers.
