@@ -1,15 +1,14 @@
 -- A line by its first word: of the nine forms the one that the word names says what the line means. Assumes nothing.
-use Rattle.std.specs.Prelude.{ℕ, ◌≡◌, refl, true, false, cond, List, T}
+use Rattle.std.specs.Prelude.{ℕ, ◌≡◌, refl, cond, List, T}
 use Rattle.std.proofs.Common.{◌∙◌}
 use Rattle.text.specs.Text.{Text, lost, left, Got, strip, bytes}
 use Rattle.text.specs.Form.{Form, end, either, Vals, map, choose, or_at, or, read, other, clear}
 use Rattle.text.specs.FormLaws.{choose-is, stands, begins, Leads, no_word, other_word}
 use Rattle.forms.specs.declared.line.Line.{Line}
-use Rattle.forms.specs.declared.line.Line.TheVariants.{Bad}
 use Rattle.forms.specs.Forms.{open_form, to_open, vert_form, to_vert, face_form, to_face, put_form, to_put, clear_form, to_clear}
 use Rattle.forms.specs.Forms.{reweigh_form, to_reweigh, advance_form, to_advance, density_form, to_density, report_form, to_report}
 use Rattle.forms.specs.Forms.{vert_on, to_vert_on, face_on, to_face_on, put_on, to_put_on, clear_on, to_clear_on, reweigh_on, to_reweigh_on}
-use Rattle.forms.specs.Forms.{advance_on, to_advance_on, density_on, to_density_on, line_form, to_line, if_ended, parse_line}
+use Rattle.forms.specs.Forms.{advance_on, to_advance_on, density_on, to_density_on, if_ended, parse_line}
 
 abbrev ended : Got Line → Line
 ended g = if_ended g.text g.val

@@ -1,9 +1,9 @@
 -- Theorems of how a fit ended: kept exactly where the kernel stays, no exponent exactly where alpha is a NaN, a fitted
 -- one's pivot a NaN or above 1e-18, a fallback's column among the terms; and what it does not depend on.
 -- Assumes nothing.
-use Rattle.std.specs.Prelude.{◌≡◌, Bool, true, false, cond, List, ℕ, ◌<◌, ◌≤◌, Float}
+use Rattle.std.specs.Prelude.{◌≡◌, Bool, true, false, cond, List, ℕ, ◌<◌, Float}
 use Rattle.std.proofs.Math.Path.{refl}
-use Rattle.std.proofs.Common.{sym, ap, subst, arith}
+use Rattle.std.proofs.Common.{subst, arith}
 use Rattle.std.specs.Float.{nan}
 use Rattle.std.specs.Float.Ieee.{of_bits, lt, le, eq, ne, sub}
 use Rattle.base.specs.Floats.{abs}
@@ -15,7 +15,7 @@ use Rattle.pieces.specs.declared.fit.Fit.{Fit}
 use Rattle.pieces.specs.declared.fit.Fit.TheVariants.{Kept, Fitted, Fallback, NoExponent}
 use Rattle.pieces.specs.Pieces.{delta, stays, size_of, curve_of, solved_by}
 use Rattle.pieces.specs.PieceLaws.{sized}
-use Rattle.pieces.specs.FitEnd.{ended_fit, fit_of, kind_of}
+use Rattle.pieces.specs.FitEnd.{ended_fit, fit_of}
 
 -- what each kind says of its exponent and its numbers
 abbrev Says : Float → Fit → Type 0

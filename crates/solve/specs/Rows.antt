@@ -12,7 +12,7 @@ use Rattle.base.specs.TableLaws.{table-past}
 use Rattle.base.specs.ChoiceLaws.{cond_of}
 use Rattle.base.specs.OrderLaws.{lt-nan, eq_not_lt}
 use Rattle.solve.specs.declared.eliminate.Pivot.{Pivot}
-use Rattle.solve.specs.Elimination.{Matrix, cell, Ended, reduced, flat, better, pivot_of, over, less, cleared, swept, smaller, column_at, no_pivot, eliminated}
+use Rattle.solve.specs.Elimination.{Ended, reduced, flat, better, pivot_of, over, less, cleared, swept, smaller, column_at, no_pivot, eliminated}
 use Rattle.solve.specs.Solve.{bad_matrix, flat_at, answer_at, row_of, loaded, answers, concluded, solution}
 
 -- opens every definition on the way of a computed row
