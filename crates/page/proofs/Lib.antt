@@ -1,2 +1,3 @@
 pub mod Writes
 pub mod Rows
+pub mod Pages

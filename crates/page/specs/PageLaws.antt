@@ -235,22 +235,6 @@ module _ (rs : List Row) (bs : List ℕ) where
   unfolding page_answer
   unprintable_is e = rw e
 
-  module _ (e : all_printable rs ≡ true) (g : AllFair rs) (few : length rs ≤ 32) (n : ℕ)
-      (h : n ≡ 65 * length rs + 65) where
-    pub short_is : length bs < n → printout (refused ShortPage) bs ≡ page_answer rs bs
-    unfolding page_answer
-    short_is l =
-        let k = page_length rs g few in
-        rw (e, lt-leb (length (page_of rs)) (length bs) (omega arith))
-
-    pub written_is : (bs' : List ℕ) → n ≤ length bs → bs' ≡ write bs 0 (page_of rs)
-        → printout (counted (n ∷ [])) bs' ≡ page_answer rs bs
-    unfolding page_answer
-    written_is bs' l r =
-        let k = page_length rs g few in
-        let m : length (page_of rs) ≡ n = k ∙ sym h in
-        rw (e, m, le-leb n (length bs) l, r)
-
 -- ---- the check passes only on a store that passes
 pub done-passed : (q : ℕ) (fs : List Float) (ws : List ℕ) → done_check q fs ws ≡ Passed → store_check q fs ws ≡ Passed
 unfolding done_check

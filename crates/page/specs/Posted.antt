@@ -52,43 +52,6 @@ module _ (q : ℕ) (fs : List Float) (ws bs : List ℕ) where
       (and_then (cond b Passed (Failed NoFigure)) (cond c Passed (Failed ShortPage))) bs
       (printout (counted (length (page_of rows) ∷ [])) (write bs 0 (page_of rows))))
 
-  -- a page that is not refused passed all three
-  record Good : Type 0 where
-    sound : done_check q fs ws ≡ Passed
-    figures : all_printable rows ≡ true
-    is : got ≡ printout (counted (length (page_of rows) ∷ [])) (write bs 0 (page_of rows))
-
-  good : got.reply.refusal ≡ 0 → Good
-  unfolding page_step page_answer
-  good h = go (done_check q fs ws) (all_printable rows) (leb (length (page_of rows)) (length bs)) refl refl refl h
-    where
-      go : (a : Checked) (b c : Bool) → done_check q fs ws ≡ a → all_printable rows ≡ b
-          → leb (length (page_of rows)) (length bs) ≡ c → (so a b c).reply.refusal ≡ 0 → Good
-      go (Failed e) b c x y z r = not-zero e r
-      go Passed false c x y z r = absurd (omega arith)
-      go Passed true false x y z r = absurd (omega arith)
-      go Passed true true x y z r = record { sound = x; figures = y; is = rw (x, y, z) refl }
-
-  pub posted : got.reply.refusal ≡ 0 → Posted
-  unfolding write
-  posted h =
-      let g = good h in
-      let s = fine q fs ws (done-passed q fs ws g.sound) in
-      let f : AllFair rows = rows_fair q fs ws (faces_of ws) s.places place_limit (omega arith) g.figures in
-      let k = rows-count q fs ws place_limit in
-      let few : length rows ≤ 32 = rw k (filled_most q ws place_limit) in
-      let n : length (page_of rows) ≡ size = page_length rows f few ∙ omega (arith, k) in
-      let w : wall ≡ page_of rows = ap (λ (p : Printout). take size p.bytes) g.is
-      ∙ rw (← n) (take-append_seam (page_of rows) (drop (length (page_of rows)) bs)) in
-      record {
-        reply = ap (λ (p : Printout). p.reply) g.is ∙ rw n refl;
-        lines = rw (w, ← k) (page_lines rows f few);
-        places = rw (w, ← k) (page_back rows f);
-        total = rw (w, ← k) (total_back rows f few);
-        rest = ap (λ (p : Printout). drop size p.bytes) g.is
-            ∙ rw (← n) (drop-append_seam (page_of rows) (drop (length (page_of rows)) bs));
-      }
-
   -- "a refused call changes nothing"
   pub unchanged : (got.reply.refusal ≡ 0 → ⊥) → got.bytes ≡ bs
   unfolding page_step page_answer

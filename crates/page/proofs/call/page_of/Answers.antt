@@ -5,7 +5,8 @@ use mathlib.Core.Bool.{true}
 use Prim.Native.Nat.{◌+◌, ◌*◌}
 use Rattle.layout.specs.Layout.{width}
 use Rattle.page.specs.Page.{held_rows, all_printable}
-use Rattle.page.specs.PageLaws.{rows-count, rows_fair, unprintable_is, short_is, written_is}
+use Rattle.page.specs.PageLaws.{rows-count, rows_fair, unprintable_is}
+use Rattle.page.proofs.Pages.{short_is, written_is}
 use Rattle.page.proofs.call.page_of.Goals as goal
 
 pub returns-then-not-all_printable : goal.returns-then-not-all_printable
