@@ -102,7 +102,7 @@ class BadMatrix(Refused):
 
 
 class FlatPivot(Refused):
-    """The pivot chosen in some column of the equations is at most 1e-18; `column` is that column,
+    """The pivot chosen in some column of the equations is at most 1e-18 in absolute value; `column` is that column,
     from 0."""
 
     number = 11
