@@ -225,37 +225,33 @@ def as_record(body, fields):
 
 
 def turn_body(body, place, places, todo, first="c"):
+    """An answer's body with each fact by its own name; `first` is the record of facts, at the place of the goal."""
+    # a variable that stands for a place, or for what is found from a place along a path
     env = {first: (place, [])}
     places.start, places.guessed = place, []
-    ref = r"(?:\.(?:" + WORD + r"))*"
+    path = r"((?:\.(?:" + WORD + r"))*)"
     out, pos = [], 0
 
-    def look(m):
-        name, words = m.group(1), [w for w in m.group(2).split(".") if w]
+    def found(name, words):
+        """The place from which the words are read, and the words that are left once it has been gone back to."""
         at, prefix = env[name]
-        full = list(prefix) + words
+        full = [*prefix, *(w for w in words.split(".") if w)]
         while full and full[0] == "before":
             full.pop(0)
             at = at and places.up(at)
-        return name, words, at, full
+        return at, full
 
     while True:
-        pattern = re.compile(r"(?<![^\s(){};,\[\]←])(" + "|".join(sorted(map(re.escape, env), key=len, reverse=True)) + r")(" + ref + r")(?![^\s(){}.;,\[\]])")
-        alias = re.compile(r"let (" + WORD + r") = (" + "|".join(map(re.escape, sorted(env, key=len, reverse=True))) + r")(" + ref + r") in(?=[\s(])")
-        m = pattern.search(body, pos)
+        known = "(" + "|".join(sorted(map(re.escape, env), key=len, reverse=True)) + ")"
+        m = re.compile(r"(?<![^\s(){};,\[\]←])" + known + path + r"(?![^\s(){}.;,\[\]])").search(body, pos)
         if not m:
             out.append(body[pos:])
             break
-        a = alias.search(body, pos)
+        a = re.compile(r"let (" + WORD + r") = " + known + path + r" in(?=[\s(])").search(body, pos)
         if a and a.start() <= m.start() <= a.end():
             out.append(body[pos : a.start()])
-            mm = re.match(r"()", "")
-            name, words = a.group(2), [w for w in a.group(3).split(".") if w]
-            at, prefix = env[name]
-            full = list(prefix) + words
-            while full and full[0] == "before":
-                full.pop(0)
-                at = at and places.up(at)
+            pos = a.end()
+            at, full = found(a.group(2), a.group(3))
             env[a.group(1)] = (at, full)
             if full:
                 new = places.resolve(at, full)
@@ -263,33 +259,29 @@ def turn_body(body, place, places, todo, first="c"):
                     todo.append(f"{a.group(0)}: not found")
                     new = ".".join(full)
                 out.append(f"let {a.group(1)} = {first}.{new} in")
-                pos = a.end()
             else:
-                pos = a.end()
-                while pos < len(body) and body[pos] in " \n" :
+                while pos < len(body) and body[pos] in " \n":
                     pos += 1
             continue
         out.append(body[pos : m.start()])
-        name, words, at, full = look(m)
+        pos = m.end()
+        name = m.group(1)
+        at, full = found(name, m.group(2))
         if not full:
-            if name != first or words:
+            if name != first or m.group(2):
                 todo.append(f"{m.group(0)} stands alone")
             out.append(first)
-        else:
-            new = places.resolve(at, full)
-            prefix = env[name][1]
-            if new is None:
-                todo.append(f"{m.group(0)}: no step of this name at {at}")
-                out.append(m.group(0))
-            else:
-                if "TODO" in new:
-                    todo.append(f"{m.group(0)}: {new}")
-                kept = prefix and prefix[0] != "before" and places.resolve(env[name][0], prefix)
-                if kept and name != first and (new == kept or new.startswith(kept + ".")):
-                    out.append(name + new[len(kept) :])
-                else:
-                    out.append(f"{first}.{new}")
-        pos = m.end()
+            continue
+        new, prefix = places.resolve(at, full), env[name][1]
+        if new is None:
+            todo.append(f"{m.group(0)}: no step of this name at {at}")
+            out.append(m.group(0))
+            continue
+        if "TODO" in new:
+            todo.append(f"{m.group(0)}: {new}")
+        kept = prefix and prefix[0] != "before" and places.resolve(env[name][0], prefix)
+        stands = kept and name != first and (new == kept or new.startswith(kept + "."))
+        out.append(name + new[len(kept) :] if stands else f"{first}.{new}")
     if places.guessed:
         todo.append("by name alone: " + ", ".join(places.guessed))
     return re.sub(r"not-(?:true|false) _ (c\.\S*if-not)", r"\1", "".join(out))
