@@ -1,36 +1,21 @@
 -- What an adoption that is not refused was given. Assumes nothing.
+use Rattle.base.specs.Answers.{Checked, passed}
+use Rattle.std.specs.Prelude.{Err}
 use mathlib.Core.Path.{◌≡◌, refl, sym, ◌∙◌}
 use mathlib.Core.Bool.{Bool, true, false, ◌&&◌, cond}
 use mathlib.Core.List.{List}
-use Prim.Native.Nat.{ℕ, ◌+◌, ◌*◌, ◌≤◌, ◌<◌}
+use Prim.Native.Nat.{ℕ, ◌<◌}
 use native.Mathlib.Omega.{arith}
 use borrow.Author.Tests.{ltb-true}
 use lib.Dec.{ltb, eqb}
-use lib.ListN.{length}
 use lib.Ieee.{Float}
 use Rattle.base.specs.declared.refusal.Refusal.TheVariants.{ShortStore, Unsound, NoPlace, Vacant}
-use Rattle.base.specs.declared.refusal.Checked.{Checked}
-use Rattle.base.specs.declared.refusal.Checked.TheVariants.{Passed, Failed}
-use Rattle.layout.specs.Layout.{width, place_limit, corners_from, faces_of, status_of}
+use Rattle.layout.specs.Layout.{width, place_limit, status_of}
 use Rattle.layout.specs.Soundness.{long_enough, sound, store_check}
-use Rattle.layout.specs.SoundLaws.{Fine, fine, both, long_words}
+use Rattle.layout.specs.SoundLaws.{Fine, fine, both}
 use Rattle.adopt.specs.Adopt.{adopt_check}
 
--- two tests that code makes together
-pub on : {a b x y : Bool} → a ≡ x → b ≡ y → (a && b) ≡ true → (x && y) ≡ true
-on e f h = rw (← e, ← f) h
-
-pub off : {a b x y : Bool} → a ≡ x → b ≡ y → (a && b) ≡ false → (x && y) ≡ false
-off e f h = rw (← e, ← f) h
-
 module _ (fs : List Float) (ws : List ℕ) (gs : List Float) (us : List ℕ) where
-  -- both stores are long enough
-  pub long-both : (long_enough width fs ws && long_enough width gs us) ≡ true
-      → (corners_from width + 3 * faces_of ws ≤ length ws) × (corners_from width + 3 * faces_of us ≤ length us)
-  long-both h =
-      let p = both (long_enough width fs ws) (long_enough width gs us) h in
-      (long_words width fs ws p.0, long_words width gs us p.1)
-
   -- both are sound, both places are there
   pub record Adopts (i j : ℕ) : Type 0 where
     pub here : Fine width fs ws
@@ -38,7 +23,7 @@ module _ (fs : List Float) (ws : List ℕ) (gs : List Float) (us : List ℕ) whe
     pub into : i < place_limit
     pub from : j < place_limit
 
-  pub adopt_passes : (i j : ℕ) {r : Checked} → r ≡ adopt_check width fs ws i gs us j → r ≡ Passed → Adopts i j
+  pub adopt_passes : (i j : ℕ) {r : Checked} → r ≡ adopt_check width fs ws i gs us j → r ≡ passed → Adopts i j
   unfolding adopt_check store_check
   adopt_passes i j e p =
       go (long_enough width fs ws && long_enough width gs us) (sound width ws && sound width us)
@@ -47,8 +32,8 @@ module _ (fs : List Float) (ws : List ℕ) (gs : List Float) (us : List ℕ) whe
       go : (a b d e : Bool) → (long_enough width fs ws && long_enough width gs us) ≡ a
           → (sound width ws && sound width us) ≡ b
           → (ltb i place_limit && ltb j place_limit) ≡ d
-          → cond a (cond b (cond d (cond e (Failed Vacant) Passed) (Failed NoPlace)) (Failed Unsound))
-          (Failed ShortStore) ≡ Passed → Adopts i j
+          → cond a (cond b (cond d (cond e (Err Vacant) passed) (Err NoPlace)) (Err Unsound))
+          (Err ShortStore) ≡ passed → Adopts i j
       go true true true e x y z t =
           let l = both (long_enough width fs ws) (long_enough width gs us) x in
           let s = both (sound width ws) (sound width us) y in

@@ -1,11 +1,9 @@
 -- Many hands, a call of ours, beyond 02 (docs/DECISIONS.md): a filled place of another store of the same body comes
 -- into a place of this one. This store's runs are fs and ws, its place is i; the other's runs are gs and us, its place
 -- is j; there are q words to a place. Definitions only.
-use Rattle.std.specs.Prelude.{Bool, ◌&&◌, cond, List, [], ◌∷◌, ℕ, ◌-◌, ltb, eqb, take, drop, Float}
-use Rattle.base.specs.Answers.{Answer, counted}
+use Rattle.std.specs.Prelude.{Bool, ◌&&◌, cond, List, [], ◌∷◌, ℕ, ◌-◌, ltb, eqb, take, drop, Float, Err}
+use Rattle.base.specs.Answers.{Answer, counted, Checked, passed}
 use Rattle.base.specs.declared.refusal.Refusal.TheVariants.{ShortStore, Unsound, NoPlace, Vacant}
-use Rattle.base.specs.declared.refusal.Checked.{Checked}
-use Rattle.base.specs.declared.refusal.Checked.TheVariants.{Passed, Failed}
 use Rattle.layout.specs.Layout.{place_limit, radius_of, kernel_from, pieces_from, state_from, verts_of, faces_of}
 use Rattle.layout.specs.Layout.{status_of, coords_of, corners_of}
 use Rattle.layout.specs.Runs.{write}
@@ -20,10 +18,10 @@ adopt_check q fs ws i gs us j =
     cond (long_enough q fs ws && long_enough q gs us)
     (cond (sound q ws && sound q us)
     (cond (ltb i place_limit && ltb j place_limit)
-    (cond (eqb (status_of q us j) 0) (Failed Vacant) Passed)
-    (Failed NoPlace))
-    (Failed Unsound))
-    (Failed ShortStore)
+    (cond (eqb (status_of q us j) 0) (Err Vacant) passed)
+    (Err NoPlace))
+    (Err Unsound))
+    (Err ShortStore)
 
 -- ---- of the same body: radius, V, F, coordinates and corners are equal, NaN as one
 unfoldable pub same_body_lem : ℕ → List Float → List ℕ → List Float → List ℕ → Bool

@@ -96,12 +96,12 @@ module _ {A : Type 0} (test : A → A → Bool) where
   same-snoc [] (b ∷ ys) x y e = absurd (omega arith)
   same-snoc (a ∷ xs) [] x y e = absurd (omega arith)
 
-  pub same_more : (d : A) (xs ys : List A) (i : ℕ) → length xs ≡ length ys → i < length xs
-      → same_by test (take (i + 1) xs) (take (i + 1) ys)
-      ≡ (same_by test (take i xs) (take i ys) && test (get_or xs i d) (get_or ys i d))
-  same_more d xs ys i e h =
-      rw (add-one, take-suc xs i d h, take-suc ys i d (omega arith))
-      (same-snoc (take i xs) (take i ys) (get_or xs i d) (get_or ys i d)
+  pub same_more : (xs ys : List A) (x y : A) (i : ℕ) → length xs ≡ length ys → i < length xs → x ≡ get_or xs i x
+      → y ≡ get_or ys i y
+      → same_by test (take (i + 1) xs) (take (i + 1) ys) ≡ (same_by test (take i xs) (take i ys) && test x y)
+  same_more xs ys x y i e h p q =
+      rw (add-one, take-suc xs i x h, take-suc ys i y (omega arith), ← p, ← q)
+      (same-snoc (take i xs) (take i ys) x y
       (length-take-le i xs (omega arith) ∙ sym (length-take-le i ys (omega arith))))
 
   -- all of them

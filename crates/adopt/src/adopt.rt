@@ -7,18 +7,16 @@ ghost use Rattle.adopt.specs.AdoptAnswer.{adopting};
 
 use crate::check::check_adopt;
 use crate::same::same_body;
-use base::refusal::{Checked, Refusal};
+use base::refusal::Refusal;
 use layout::left::{left_at, pieces};
 use layout::offsets::{KERNEL, KERNEL_SIZE, PIECE, PIECES_SIZE, STATE, WIDTH};
-use layout::runs::{copy_floats, copy_words};
+use layout::runs::copy;
 
-// The answer of an adoption: the pieces of the place that came across and the steps that it has left; or the other
-// store is one of another body.
+// What came across: the pieces of the place and the steps that it has left.
 #[derive(Clone, Copy)]
-pub enum Adopted {
-    Taken(u32, u64),
-    Another,
-    Refused(Refusal),
+pub struct Adopted {
+    pub pieces: u32,
+    pub left: u64,
 }
 
 // The kernel, its error and its pieces with their volumes so far.
@@ -29,13 +27,13 @@ fn take_floats(floats: &mut [f64], i: usize, other_floats: &[f64], j: usize)
         ≡ adopted_floats floats.old i other_floats.now j }
 {
     let kernel = KERNEL + KERNEL_SIZE * j;
-    copy_floats(
+    copy(
         floats,
         KERNEL + KERNEL_SIZE * i,
         &other_floats[kernel..kernel + KERNEL_SIZE],
     );
     let piece = PIECE + PIECES_SIZE * j;
-    copy_floats(
+    copy(
         floats,
         PIECE + PIECES_SIZE * i,
         &other_floats[piece..piece + PIECES_SIZE],
@@ -50,11 +48,12 @@ fn take_words(words: &mut [u32], i: usize, other_words: &[u32], j: usize)
         ≡ adopted_words width words.old i other_words.now j }
 {
     let state = STATE + WIDTH * j;
-    copy_words(words, STATE + WIDTH * i, &other_words[state..state + WIDTH]);
+    copy(words, STATE + WIDTH * i, &other_words[state..state + WIDTH]);
 }
 
 // Takes a filled place of another store of the same body into a place of this one, whatever that held: its kernel,
-// layer, pieces, error, volumes so far and steps. Where the bodies differ nothing is changed.
+// layer, pieces, error, volumes so far and steps. Where the bodies differ nothing is changed, and nothing came across.
+#[tactic(auto, unfolding(crate::specs::Adopt::adopt_step), using(crate::proofs::Adopts::adopt_passes))]
 pub fn adopt(
     floats: &mut [f64],
     words: &mut [u32],
@@ -62,24 +61,22 @@ pub fn adopt(
     other_floats: &[f64],
     other_words: &[u32],
     other_place: u32,
-) -> Adopted
+) -> Result<Option<Adopted>, Refusal>
     ensures { after (adopting result) floats.new words.new
         ≡ adopt_step width floats.old words.old place other_floats.now
         other_words.now other_place }
 {
-    match check_adopt(floats, words, place, other_floats, other_words, other_place) {
-        Checked::Failed(r) => Adopted::Refused(r),
-        Checked::Passed => {
-            if same_body(floats, words, other_floats, other_words) {
-                let j = other_place as usize;
-                let count = pieces(other_words[STATE + WIDTH * j]);
-                let left = left_at(other_words, j, other_words[1] as usize);
-                take_floats(floats, place as usize, other_floats, j);
-                take_words(words, place as usize, other_words, j);
-                Adopted::Taken(count as u32, left as u64)
-            } else {
-                Adopted::Another
-            }
-        }
+    check_adopt(floats, words, place, other_floats, other_words, other_place)?;
+    if !same_body(floats, words, other_floats, other_words) {
+        return Ok(None);
     }
+    let j = other_place as usize;
+    let count = pieces(other_words[STATE + WIDTH * j]);
+    let left = left_at(other_words, j, other_words[1] as usize);
+    take_floats(floats, place as usize, other_floats, j);
+    take_words(words, place as usize, other_words, j);
+    Ok(Some(Adopted {
+        pieces: count as u32,
+        left: left as u64,
+    }))
 }

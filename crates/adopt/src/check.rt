@@ -3,11 +3,12 @@ ghost use Rattle.std.specs.Prelude.{◌≡◌};
 ghost use Rattle.layout.specs.Layout.{width};
 ghost use Rattle.adopt.specs.Adopt.{adopt_check};
 
-use base::refusal::{Checked, Refusal};
+use base::refusal::Refusal;
 use layout::check::{long_enough, words_sound};
 use layout::offsets::{PLACES, STATE, WIDTH};
 
 // Whether a place of the other store can come into a place of this one, by the lowest refusal that applies to either.
+#[tactic(auto, unfolding(crate::specs::Adopt::adopt_check), using(layout::specs::SoundLaws::long_words))]
 pub fn check_adopt(
     floats: &[f64],
     words: &[u32],
@@ -15,24 +16,21 @@ pub fn check_adopt(
     other_floats: &[f64],
     other_words: &[u32],
     other_place: u32,
-) -> Checked
+) -> Result<(), Refusal>
     ensures { result ≡ adopt_check width floats.now words.now place
         other_floats.now other_words.now other_place }
 {
-    let long = long_enough(floats, words, WIDTH) & long_enough(other_floats, other_words, WIDTH);
-    if !long {
-        return Checked::Failed(Refusal::ShortStore);
+    if !long_enough(floats, words, WIDTH) || !long_enough(other_floats, other_words, WIDTH) {
+        return Err(Refusal::ShortStore);
     }
-    let sound = words_sound(words, WIDTH) & words_sound(other_words, WIDTH);
-    if !sound {
-        return Checked::Failed(Refusal::Unsound);
+    if !words_sound(words, WIDTH) || !words_sound(other_words, WIDTH) {
+        return Err(Refusal::Unsound);
     }
-    let there = ((place as usize) < PLACES) & ((other_place as usize) < PLACES);
-    if !there {
-        return Checked::Failed(Refusal::NoPlace);
+    if place as usize >= PLACES || other_place as usize >= PLACES {
+        return Err(Refusal::NoPlace);
     }
     if other_words[STATE + WIDTH * (other_place as usize)] == 0 {
-        return Checked::Failed(Refusal::Vacant);
+        return Err(Refusal::Vacant);
     }
-    Checked::Passed
+    Ok(())
 }

@@ -7,17 +7,15 @@ use native.Mathlib.Nat.{add-zero, sub-zero}
 use native.Mathlib.Omega.{arith}
 use lib.Dec.{ltb, eqb}
 use lib.Ieee.{Float, nan}
-use lib.ListN.{length, get_or, set, drop, length-set}
-use lib.Seq.{get_or-set_same, get_or-set_other, set-set, set-get_or, drop-set-lt}
+use lib.ListN.{length, get_or, set, length-set}
+use lib.Seq.{get_or-set_same, get_or-set_other, set-set, set-get_or}
 use borrow.Author.Tests.{lt-ltb, le-ltb, ltb-true, ltb-false, eq-eqb, ne_eqb}
 use Rattle.base.specs.Loops.{times, iterate}
 use Rattle.base.specs.LoopLaws.{times-suc, iterate-add}
 use Rattle.mesh.specs.declared.vectors.V3.{V3}
 use Rattle.mesh.specs.declared.triangles.Triangle.{Triangle}
 use Rattle.volume.specs.Volume.{face_step, volume_from}
-use Rattle.layout.specs.Layout.{centre_at, width, coords_from}
-use Rattle.layout.specs.SoundLaws.{Meshed}
-use Rattle.layout.specs.Left.{held}
+use Rattle.layout.specs.Layout.{centre_at, coords_from}
 use Rattle.advance.specs.Steps.{Work, work, one_face}
 
 module _ (t : ℕ → Triangle) (c : V3) (m base p : ℕ) where
@@ -90,28 +88,22 @@ module _ (t : ℕ → Triangle) (c : V3) (m base : ℕ) (fs : List Float) (n d b
       ∙ chunk_more t c m base (n + 1) fs n d b (omega arith) hl k hk (omega arith)
 
 -- what `chunk` leaves
-pub left_chunk : (f f' : List Float) (w : List ℕ) (vs ms : ℕ) (c : V3) (base n d k : ℕ)
+pub left_chunk : (t : ℕ → Triangle) (f f' : List Float) (ms : ℕ) (c : V3) (base n d k : ℕ)
     → f'
     ≡ set f (base + 3 * n + 2)
-    (volume_from (held width f w vs ms) c (get_or f (base + 3 * n) nan) d (d + k) (get_or f (base + 3 * n + 2) nan))
-    → f' ≡ chunked (held width f w vs ms) c ms base (n + 1) f n d k
+    (volume_from t c (get_or f (base + 3 * n) nan) d (d + k) (get_or f (base + 3 * n + 2) nan))
+    → f' ≡ chunked t c ms base (n + 1) f n d k
 unfolding volume_from
-left_chunk f f' w vs ms c base n d k r = let e : d + k - d ≡ k = omega arith in rw e at r
-
-pub meshed_same : (f f₀ : List Float) (w : List ℕ) (vs ms : ℕ) → length f ≡ length f₀ → Meshed width f₀ w vs ms
-    → Meshed width f w vs ms
-meshed_same f f₀ w vs ms e m =
-    record { floats = rw e m.floats; words = m.words; verts = m.verts; faces = m.faces; corners = m.corners }
+left_chunk t f f' ms c base n d k r = let e : d + k - d ≡ k = omega arith in rw e at r
 
 -- ---- the loop over a place's pieces
-module _ (f₀ : List Float) (w : List ℕ) (vs ms i p n₀ d₀ b₀ : ℕ) where
+module _ (t : ℕ → Triangle) (f₀ : List Float) (ms i p n₀ d₀ b₀ : ℕ) where
   abbrev pub stepHere : Work → Work
-  stepHere = one_face (held width f₀ w vs ms) (centre_at f₀ i) ms (225 + 48 * i) p
+  stepHere = one_face t (centre_at f₀ i) ms (225 + 48 * i) p
 
   -- where it stands
   pub record Going (f : List Float) (n d b : ℕ) : Type 0 where
     pub long : length f ≡ length f₀
-    pub mesh : drop coords_from f ≡ drop coords_from f₀
     pub fits : n ≤ p
     pub part : n < p → d < ms
     pub low : d ≤ ms
@@ -130,10 +122,7 @@ module _ (f₀ : List Float) (w : List ℕ) (vs ms i p n₀ d₀ b₀ : ℕ) whe
       ∙ ap (λ (j : ℕ). iterate stepHere j (work f₀ n₀ d₀ b₀)) (sym e)))
 
   module _ (hf : coords_from ≤ length f₀) (hi : i < 32) (hp : p ≤ 16) (f : List Float) (n d b : ℕ) (g : Going f n d b)
-      (h : n < p) (hb : b ≡ 0 → ⊥) where
-    abbrev t : ℕ → Triangle
-    t = held width f₀ w vs ms
-
+      (h : n < p) (hb : 0 < b) where
     abbrev next : ℕ → List Float
     next k = chunked t (centre_at f₀ i) ms (225 + 48 * i) p f n d k
 
@@ -148,7 +137,6 @@ module _ (f₀ : List Float) (w : List ℕ) (vs ms i p n₀ d₀ b₀ : ℕ) whe
         let l = g.long in (
           record {
             long = length-set f _ _ ∙ l;
-            mesh = drop-set-lt coords_from f (225 + 48 * i + 3 * n + 2) _ (omega arith) ∙ g.mesh;
             fits = omega arith;
             part = λ _. omega arith;
             low = omega arith;
@@ -165,7 +153,6 @@ module _ (f₀ : List Float) (w : List ℕ) (vs ms i p n₀ d₀ b₀ : ℕ) whe
         let l = g.long in (
           record {
             long = length-set f _ _ ∙ l;
-            mesh = drop-set-lt coords_from f (225 + 48 * i + 3 * n + 2) _ (omega arith) ∙ g.mesh;
             fits = omega arith;
             part = λ _. omega arith;
             low = omega arith;
@@ -179,18 +166,15 @@ module _ (f₀ : List Float) (w : List ℕ) (vs ms i p n₀ d₀ b₀ : ℕ) whe
 
     -- what `run_piece` leaves
     pub turn : (r : Work)
-        → r ≡ iterate (one_face (held width f w vs ms) (centre_at f₀ i) ms (225 + 48 * i) (n + 1)) b (work f n d b)
+        → r ≡ iterate (one_face t (centre_at f₀ i) ms (225 + 48 * i) (n + 1)) b (work f n d b)
         → Onward r
-    turn r e = go (ltb b (ms - d)) refl
+    turn r q = go (ltb b (ms - d)) refl
       where
         z : d < ms
         z = g.part h
 
         l : 225 + 48 * i + 3 * n + 2 < length f
         l = rw g.long (omega arith)
-
-        q : r ≡ iterate (one_face t (centre_at f₀ i) ms (225 + 48 * i) (n + 1)) b (work f n d b)
-        q = rw g.mesh at e
 
         go : (x : Bool) → ltb b (ms - d) ≡ x → Onward r
         go true u =

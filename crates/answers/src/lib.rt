@@ -1,9 +1,10 @@
 // The program's answers, each written as a line without its newline at a position of a run; each answers the position
 // after it, and leaves all other words as they were. These functions are internal (each has a `requires`): a line wants
 // room for 256 bytes from its position, and takes 255 at most.
+// The run and the position are two arguments and no struct: what is proved speaks of both, as `Wrote` does.
 #![tactic(auto)]
 
-ghost use Rattle.std.specs.Prelude.{◌++◌, ◌+◌, ◌≤◌, length};
+ghost use Rattle.std.specs.Prelude.{[], ◌∷◌, ◌++◌, ◌+◌, ◌≤◌, length};
 ghost use Rattle.text.specs.Print.{Wrote, decimal_text};
 ghost use Rattle.text.specs.Form.{end, print, three, ◌&◌};
 ghost use Rattle.answers.specs.Answers.{open_answer, put_answer, density_answer, advance_answer, clear_answer, reweigh_answer, counts, report_answer, report_in, no_answer};
@@ -11,7 +12,8 @@ ghost use Rattle.answers.specs.Answers.{open_answer, put_answer, density_answer,
 use density::report::MassReport;
 use text::write::{write_bytes, write_real};
 
-// The bytes `p`, and a decimal number, where there is room for any.
+// The bytes `p`, and a decimal number, where there is room for any: text's own asks for the room of the very number,
+// which a line with room for 256 bytes would have to add up.
 fn write_number(out: &mut [u8], at: usize, p: &[u8], n: u64) -> usize
     requires { at + length p.now + 20 ≤ length out.old }
     ensures upper_bound { result ≤ at + length p.now + 20 }
@@ -64,14 +66,23 @@ pub fn write_advance(out: &mut [u8], at: usize, done: u64, left: u64) -> usize
     write_bytes(out, b, b"))")
 }
 
+// The bytes `p`, a number and a bracket: an answer of one number.
+fn write_one(out: &mut [u8], at: usize, p: &[u8], n: u32) -> usize
+    requires { at + length p.now + 21 ≤ length out.old }
+    ensures upper_bound { result ≤ at + length p.now + 21 }
+    ensures wrote { Wrote out.old at ((p.now ++ decimal_text n) ++ 41 ∷ []) result out.new }
+{
+    let a = write_number(out, at, p, n as u64);
+    write_bytes(out, a, b")")
+}
+
 // (clear P)
 pub fn write_clear(out: &mut [u8], at: usize, place: u32) -> usize
     requires { at + 256 ≤ length out.old }
     ensures upper_bound { result ≤ at + 255 }
     ensures wrote { Wrote out.old at (print clear_answer (place & tt)) result out.new }
 {
-    let a = write_number(out, at, b"(clear ", place as u64);
-    write_bytes(out, a, b")")
+    write_one(out, at, b"(clear ", place)
 }
 
 // (reweigh P)
@@ -80,8 +91,7 @@ pub fn write_reweigh(out: &mut [u8], at: usize, place: u32) -> usize
     ensures upper_bound { result ≤ at + 255 }
     ensures wrote { Wrote out.old at (print reweigh_answer (place & tt)) result out.new }
 {
-    let a = write_number(out, at, b"(reweigh ", place as u64);
-    write_bytes(out, a, b")")
+    write_one(out, at, b"(reweigh ", place)
 }
 
 // The bytes `p`, and h h h.
@@ -134,6 +144,5 @@ pub fn write_no(out: &mut [u8], at: usize, number: u32) -> usize
     ensures upper_bound { result ≤ at + 255 }
     ensures wrote { Wrote out.old at (print no_answer (number & tt)) result out.new }
 {
-    let a = write_number(out, at, b"(no ", number as u64);
-    write_bytes(out, a, b")")
+    write_one(out, at, b"(no ", number)
 }

@@ -1,3 +1,4 @@
 pub mod Joins
 pub mod Parts
 pub mod Points
+pub mod Laws

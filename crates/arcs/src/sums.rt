@@ -8,20 +8,20 @@ ghost use Rattle.powers.specs.Arc.{arc_core};
 ghost use Rattle.arcs.specs.Stages.{StepsLeft, AllStepsLeft};
 
 // The steps of the series at q from that of from - 1 down to that of `to`, as `powers::arc` has them.
+#[tactic(auto, using(crate::proofs::Laws::turns))]
 fn steps(q: f64, a: f64, from: u32, to: u32) -> f64
     requires { (to ≤ from) × (from ≤ 11) × StepsLeft from q a }
     ensures { StepsLeft to q result }
 {
     let mut a = a;
-    let mut k = from;
-    while k > to {
-        k -= 1;
+    for k in (to..from).rev() {
         a = 1.0 / ((2 * k + 1) as f64) - q * a;
     }
     a
 }
 
 // The first four steps.
+#[tactic(auto, using(crate::proofs::Laws::fills_all, crate::proofs::Parts::all_left))]
 fn first_steps(n: usize, v: &[f64], g: &mut [f64])
     requires { (n ≤ length v.now) × (n ≤ length g.old) }
     ensures { AllStepsLeft 7 n v.now g.new }
@@ -33,6 +33,7 @@ fn first_steps(n: usize, v: &[f64], g: &mut [f64])
 }
 
 // Four more.
+#[tactic(auto, using(crate::proofs::Laws::fills_all))]
 fn next_steps(n: usize, v: &[f64], g: &mut [f64])
     requires { (n ≤ length v.now) × (n ≤ length g.old) × AllStepsLeft 7 n v.now g.old }
     ensures { AllStepsLeft 3 n v.now g.new }

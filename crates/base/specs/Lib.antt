@@ -1,5 +1,6 @@
 pub mod Loops
 pub mod LoopLaws
+pub mod TimesLaws
 pub mod TableLaws
 pub mod FillLaws
 pub mod Floats

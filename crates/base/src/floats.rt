@@ -1,4 +1,5 @@
-// A float's sign, absolute value and bits. No function here has a `requires`.
+// A float's sign, absolute value and bits. No function here has a `requires`: so the library's `is_sign_negative` and
+// `to_bits`, which ask that their argument be no NaN, are not enough, and its `abs` and `max` say less of zeros.
 ghost use Rattle.std.specs.Prelude.{◌≡◌};
 ghost use Rattle.std.specs.Float.{binary64};
 ghost use Rattle.std.specs.Float.Ieee.{of_bits, to_bits};
@@ -15,6 +16,7 @@ pub fn is_negative(x: f64) -> bool
 }
 
 // r, its sign turned where that of x is minus.
+#[tactic(auto, unfolding(crate::specs::Floats::signed))]
 pub fn signed(x: f64, r: f64) -> f64
     ensures { result ≡ signed x r }
 {
@@ -29,6 +31,7 @@ pub fn abs(x: f64) -> f64
 }
 
 // The greater of a, which is no NaN, and b, which is passed over if it is one.
+#[tactic(auto, unfolding(crate::specs::Floats::greater))]
 pub fn greater_of(a: f64, b: f64) -> f64
     ensures { result ≡ greater a b }
 {

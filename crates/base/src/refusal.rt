@@ -51,53 +51,34 @@ pub enum Refusal {
     Unclosed,
 }
 
-// What a check of a call's arguments finds: nothing, or the one refusal that is answered.
-#[derive(Clone, Copy)]
-pub enum Checked {
-    Passed,
-    Failed(Refusal),
-}
-
-// What a call answers whose value is a float.
-#[derive(Clone, Copy)]
-pub enum Measured {
-    Value(f64),
-    Refused(Refusal),
-}
-
-// What a call answers that prints into lent bytes: how many bytes.
-#[derive(Clone, Copy)]
-pub enum Printed {
-    Bytes(u64),
-    Refused(Refusal),
-}
-
 // The number of a refusal in 01 or 02.
-pub fn refusal_number(refusal: Refusal) -> u32
-    ensures { result ≡ number refusal }
-{
-    match refusal {
-        Refusal::Ragged => 1,
-        Refusal::Oversize => 2,
-        Refusal::LooseCorner => 3,
-        Refusal::ShortStore => 4,
-        Refusal::Unsound => 5,
-        Refusal::NoPlace => 6,
-        Refusal::Vacant => 7,
-        Refusal::Unfinished => 8,
-        Refusal::ShortList => 9,
-        Refusal::BadMatrix => 10,
-        Refusal::FlatPivot => 11,
-        Refusal::Exponent => 12,
-        Refusal::BadLine => 13,
-        Refusal::BadTrack => 14,
-        Refusal::ManyKernels => 15,
-        Refusal::NoLayer => 16,
-        Refusal::NoFigure => 17,
-        Refusal::ShortPage => 18,
-        Refusal::ShortText => 19,
-        Refusal::BadKernelLine => 20,
-        Refusal::LoadersDiffer => 21,
-        Refusal::Unclosed => 22,
+impl From<Refusal> for u32 {
+    ghost from_gives = { λ refusal no. no ≡ number refusal };
+
+    fn from(refusal: Refusal) -> u32 {
+        match refusal {
+            Refusal::Ragged => 1,
+            Refusal::Oversize => 2,
+            Refusal::LooseCorner => 3,
+            Refusal::ShortStore => 4,
+            Refusal::Unsound => 5,
+            Refusal::NoPlace => 6,
+            Refusal::Vacant => 7,
+            Refusal::Unfinished => 8,
+            Refusal::ShortList => 9,
+            Refusal::BadMatrix => 10,
+            Refusal::FlatPivot => 11,
+            Refusal::Exponent => 12,
+            Refusal::BadLine => 13,
+            Refusal::BadTrack => 14,
+            Refusal::ManyKernels => 15,
+            Refusal::NoLayer => 16,
+            Refusal::NoFigure => 17,
+            Refusal::ShortPage => 18,
+            Refusal::ShortText => 19,
+            Refusal::BadKernelLine => 20,
+            Refusal::LoadersDiffer => 21,
+            Refusal::Unclosed => 22,
+        }
     }
 }

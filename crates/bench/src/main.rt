@@ -1,7 +1,7 @@
 // The program `bench`: 01's lines on standard input, an answer a line on standard output.
 #![tactic(auto)]
 
-ghost use Rattle.std.specs.Prelude.{◌≡◌, true, ◌≤◌, length};
+ghost use Rattle.std.specs.Prelude.{◌≡◌, ◌≤◌, length, IfSome};
 ghost use Rattle.session.specs.Session.{Small, session, idle};
 ghost use Rattle.program.specs.Bytes.{held_with, held_after};
 ghost use Rattle.program.specs.Bench.{held_at_first, Reached};
@@ -34,9 +34,8 @@ fn ended(rt: &impl Clock, got: &io::Result<usize>) -> bool {
 fn write_some(rt: &(impl Print + Clock), bytes: &[u8]) -> usize
     ensures { result ≤ length bytes.now }
 {
-    let mut turns = u64::MAX;
-    while turns > 0 {
-        turns -= 1;
+    // A loop without end, counted so that it is proved to end.
+    for _ in 0..u64::MAX {
         match rt.write_some(bytes) {
             Ok(put) => return put,
             Err(error) => {
@@ -49,31 +48,25 @@ fn write_some(rt: &(impl Print + Clock), bytes: &[u8]) -> usize
     0
 }
 
-// Writes the first `n` bytes of `out`; false where they cannot be written.
+// Writes the first `n` bytes of `out`; false where they cannot be written. (A `while`, since a write answers how much
+// it wrote.)
 fn say(rt: &(impl Print + Clock), out: &[u8], n: usize) -> bool {
     if n > out.len() {
         return false;
     }
-    let mut done: usize = 0;
-    while done < n {
-        let more = write_some(rt, &out[done..n]);
+    let mut left = &out[..n];
+    while !left.is_empty() {
+        let more = write_some(rt, left);
         if more == 0 {
             return false;
         }
-        done += more;
+        left = &left[more..];
     }
     true
 }
 
-// What is held after some bytes, and whether each answer was written.
-#[derive(Clone, Copy)]
-struct Fed {
-    state: State,
-    said: bool,
-}
-
 // The first `n` bytes of a chunk, each answer written where its line ends. After an answer that was not written none
-// is. What is held is what some bytes left of the store of zeros, and stays so.
+// is, and no state is answered. What is held is what some bytes left of the store of zeros, and stays so.
 fn feed_chunk(
     rt: &(impl Print + Clock),
     st: State,
@@ -85,31 +78,27 @@ fn feed_chunk(
     coords: &mut [f64; 1500],
     corners: &mut [u32; 3000],
     out: &mut [u8; 512],
-) -> Fed
+) -> Option<State>
     requires small_1 { Small st.opening }
     requires small_2 { n ≤ 4096 }
     requires reached { Reached
         (held_with (session st.opening floats.old words.old coords.old corners.old) line.old
         st.count) }
-    ensures small_2 { Small result.state.opening }
-    ensures count_after { result.said ≡ true → held_with
-        (session result.state.opening floats.new words.new coords.new
-        corners.new)
-        line.new result.state.count
+    ensures { IfSome result (λ state. Small state.opening
+        × (held_with (session state.opening floats.new words.new coords.new corners.new) line.new
+        state.count
         ≡ held_after chunk.now n (held_with
         (session st.opening floats.old words.old coords.old corners.old)
-        line.old st.count) }
+        line.old st.count))) }
 {
     let mut state = st;
-    let mut i = 0;
-    while i < n {
+    for i in 0..n {
         state = program::feed(state, chunk[i], line, floats, words, coords, corners, out);
         if !say(rt, out, state.wrote) {
-            return Fed { state, said: false };
+            return None;
         }
-        i += 1;
     }
-    Fed { state, said: true }
+    Some(state)
 }
 
 // The end of the input, and its answer if it has one.
@@ -149,19 +138,18 @@ fn serve(
     let mut chunk = [0u8; 4096];
     let mut input = rt.reader();
     let mut st = program::start();
-    let mut turns = u64::MAX;
-    while turns > 0 {
-        turns -= 1;
+    // A loop without end, counted as in `write_some`.
+    for turn in 0..u64::MAX {
         let got = input.read(&mut chunk);
         if ended(rt, &got) {
             break;
         }
         let n = got.unwrap_or(0);
         let fed = feed_chunk(rt, st, &chunk, n, line, floats, words, coords, corners, out);
-        if !fed.said {
+        let Some(state) = fed else {
             return;
-        }
-        st = fed.state;
+        };
+        st = state;
     }
     finish(rt, st, line, floats, words, coords, corners, out);
 }

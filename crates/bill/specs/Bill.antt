@@ -1,10 +1,9 @@
 -- 02, L3, "The bill before the work": "Given kernels and a mesh's V and F, work out a step count and a list length in
 -- floats without fitting anything." No radius is given, so none matters. Definitions only.
-use Rattle.std.specs.Prelude.{ℕ, zero, suc, ◌+◌, ◌*◌, ◌/◌, cond, List, [], ◌∷◌, leb, length, Float}
-use Rattle.base.specs.Answers.{Answer, counted, and_then, granted}
+use Rattle.std.specs.Result.{result_and}
+use Rattle.std.specs.Prelude.{ℕ, zero, suc, ◌+◌, ◌*◌, ◌/◌, cond, List, [], ◌∷◌, leb, length, Float, Err}
+use Rattle.base.specs.Answers.{Answer, counted, granted, Checked, passed}
 use Rattle.base.specs.declared.refusal.Refusal.TheVariants.{Oversize, ManyKernels}
-use Rattle.base.specs.declared.refusal.Checked.{Checked}
-use Rattle.base.specs.declared.refusal.Checked.TheVariants.{Passed, Failed}
 use Rattle.kernel.specs.Kernels.{kernel_at, list_check}
 use Rattle.mesh.specs.Checks.{above_limit}
 use Rattle.pieces.specs.Pieces.{most_pieces}
@@ -33,8 +32,8 @@ bill_limit = 32
 -- "V or F above the limit is 2 as before; 15 when there are more than 32 kernels, after 9"
 unfoldable pub bill_check : List Float → ℕ → ℕ → Checked
 bill_check kernels verts faces =
-    and_then (cond (above_limit verts faces) (Failed Oversize) Passed)
-    (and_then (list_check kernels) (cond (leb (length kernels / 6) bill_limit) Passed (Failed ManyKernels)))
+    result_and (cond (above_limit verts faces) (Err Oversize) passed)
+    (result_and (list_check kernels) (cond (leb (length kernels / 6) bill_limit) passed (Err ManyKernels)))
 
 -- steps, then floats
 unfoldable pub bill_of : List Float → ℕ → ℕ → Answer

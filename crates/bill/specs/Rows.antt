@@ -1,5 +1,5 @@
 -- What 02 says of a bill, row by row: which calls are refused, and what is assumed of an exponent. Assumes nothing.
-use Rattle.std.specs.Prelude.{◌≡◌, refl, Bool, true, false, ◌⊎◌, List, [], ◌∷◌, ℕ, ◌/◌, ◌%◌, ◌≤◌, ◌<◌, length, get_or, Float}
+use Rattle.std.specs.Prelude.{◌≡◌, refl, Bool, true, false, ◌⊎◌, List, [], ◌∷◌, ℕ, ◌/◌, ◌%◌, ◌≤◌, ◌<◌, length, get_or, Float, Ok, Err}
 use Rattle.std.proofs.Common.{sym, ap, inl, inr, arith, lt-ltb, le-ltb, eq-eqb, ne_eqb, le-leb}
 use Rattle.std.proofs.Math.Bool.{or-true}
 use Rattle.std.specs.Float.{nan, inf}
@@ -7,10 +7,8 @@ use Rattle.std.specs.Float.Ieee.{of_bits, lt, le, sub}
 use Rattle.std.proofs.lemmas.Bool.{lt-leb}
 use Rattle.base.specs.Floats.{bits, +0, abs}
 use Rattle.base.specs.Constants.{one, two}
-use Rattle.base.specs.Answers.{Answer, refused, counted, granted}
+use Rattle.base.specs.Answers.{Answer, refused, counted, granted, Checked}
 use Rattle.base.specs.declared.refusal.Refusal.TheVariants.{Oversize, ShortList, ManyKernels}
-use Rattle.base.specs.declared.refusal.Checked.{Checked}
-use Rattle.base.specs.declared.refusal.Checked.TheVariants.{Passed, Failed}
 use Rattle.kernel.specs.Kernels.{list_check}
 use Rattle.mesh.specs.Checks.{above_limit}
 use Rattle.pieces.specs.Pieces.{size_of, most_pieces}
@@ -64,8 +62,8 @@ due-is kernels verts faces steps floats h = go (bill_check kernels verts faces) 
     go : (c : Checked) → granted c (counted (bill_steps kernels faces ∷ bill_floats kernels ∷ []))
         ≡ counted (steps ∷ floats ∷ [])
         → (steps ≡ bill_steps kernels faces) × (floats ≡ bill_floats kernels)
-    go Passed e = (sym (ap (λ (a : Answer). get_or a.counts 0 0) e), sym (ap (λ (a : Answer). get_or a.counts 1 0) e))
-    go (Failed r) e = let z : ◌≡◌ {A = ℕ} 0 2 = ap (λ (a : Answer). length a.counts) e in absurd (omega arith)
+    go (Ok _) e = (sym (ap (λ (a : Answer). get_or a.counts 0 0) e), sym (ap (λ (a : Answer). get_or a.counts 1 0) e))
+    go (Err r) e = let z : ◌≡◌ {A = ℕ} 0 2 = ap (λ (a : Answer). length a.counts) e in absurd (omega arith)
 
 -- ---- what is assumed of an exponent, by computation
 

@@ -1,7 +1,7 @@
 -- What a call is, case by case. Assumes nothing.
 use Prim.Native.Nat.{ℕ, ◌≤◌}
 use mathlib.Core.Path.{◌≡◌, refl, sym, subst, ◌∙◌}
-use mathlib.Core.List.{List, [], ◌∷◌}
+use mathlib.Core.List.{List}
 use lib.Ieee.{Float}
 use Rattle.text.specs.Print.{Wrote}
 use Rattle.density.specs.declared.convention.Convention.{Convention}
@@ -11,10 +11,11 @@ use Rattle.store.specs.Calls.{clear_step, reweigh_step}
 use Rattle.store.specs.Puts.{put_step_lem}
 use Rattle.advance.specs.Steps.{advance_step}
 use Rattle.readings.specs.Readings.{read_step, density, report}
+use Rattle.forms.specs.declared.line.Put.{Put as Placing}
 use Rattle.forms.specs.declared.line.Call.{Call}
 use Rattle.forms.specs.declared.line.Call.TheVariants.{Put, Clear, Reweigh, Advance, Density, Report}
 use Rattle.calls.specs.Texts.{put_text, density_text, advance_text, clear_text, reweigh_text, report_text}
-use Rattle.calls.specs.Calls.{Called, called, looked, as_kernel, call_of}
+use Rattle.calls.specs.Calls.{Called, called, looked, call_of}
 
 -- what a call leaves: the runs, and its text from the start of the bytes o
 abbrev Made : Called → List Float → List ℕ → List ℕ → ℕ → List ℕ → Type 0
@@ -43,9 +44,8 @@ looking e m =
     calling e (record { upper_bound = m.upper_bound; floats_after = refl; words_after = refl; wrote = m.wrote })
 
 -- ---- each call
-pub put_call_lem : (fs : List Float) (ws : List ℕ) {c : Call} {place : ℕ} {x y z sigma w alpha : Float}
-    → c ≡ Put place x y z sigma w alpha →
-    call_of fs ws c ≡ called (put_text place) (put_step_lem width fs ws place (as_kernel x y z sigma w alpha) 0)
+pub put_call_lem : (fs : List Float) (ws : List ℕ) {c : Call} {p : Placing} → c ≡ Put p
+    → call_of fs ws c ≡ called (put_text p.place) (put_step_lem width fs ws p.place p.kernel 0)
 unfolding call_of
 put_call_lem fs ws e = rw (e) refl
 
@@ -64,8 +64,8 @@ pub advance_call : (fs : List Float) (ws : List ℕ) {c : Call} {n : ℕ} → c 
 unfolding call_of
 advance_call fs ws e = rw (e) refl
 
-pub density_call : (fs : List Float) (ws : List ℕ) {c : Call} {v : Convention} {x y z : Float} → c ≡ Density v x y z →
-    call_of fs ws c ≡ looked fs ws (density_text (read_step width fs ws all_layers (density v (x ∷ y ∷ z ∷ []))).reply)
+pub density_call : (fs : List Float) (ws : List ℕ) {c : Call} {v : Convention} {p : List Float} → c ≡ Density v p →
+    call_of fs ws c ≡ looked fs ws (density_text (read_step width fs ws all_layers (density v p)).reply)
 unfolding call_of
 density_call fs ws e = rw (e) refl
 

@@ -1,9 +1,8 @@
 -- 01, "Remainder", program `bench`: a call, what it leaves of the store and what it prints. Definitions only.
-use Rattle.std.specs.Prelude.{ℕ, List, [], ◌∷◌, Float}
+use Rattle.std.specs.Prelude.{ℕ, List, Float}
 use Rattle.base.specs.Refusals.{number}
 use Rattle.base.specs.Answers.{Answer}
 use Rattle.base.specs.declared.refusal.Refusal.TheVariants.{BadLine}
-use Rattle.kernel.specs.declared.kernel.Kernel.{Kernel}
 use Rattle.layout.specs.Layout.{width}
 use Rattle.layout.specs.Layers.{all_layers}
 use Rattle.layout.specs.After.{After}
@@ -31,16 +30,11 @@ looked fs ws text = record { floats = fs; words = ws; text = text }
 abbrev pub bad_text : List ℕ
 bad_text = no_text (number BadLine)
 
-abbrev pub as_kernel : Float → Float → Float → Float → Float → Float → Kernel
-as_kernel x y z sigma w alpha = record { c = x ∷ y ∷ z ∷ []; sigma = sigma; w = w; alpha = alpha }
-
 -- 02, L5: "The bench puts in layer 0 and reads with all sixteen."
 unfoldable pub call_of : List Float → List ℕ → Call → Called
-call_of fs ws (Put place x y z sigma w alpha) =
-    called (put_text place) (put_step_lem width fs ws place (as_kernel x y z sigma w alpha) 0)
+call_of fs ws (Put p) = called (put_text p.place) (put_step_lem width fs ws p.place p.kernel 0)
 call_of fs ws (Clear place) = called (clear_text place) (clear_step width fs ws place)
 call_of fs ws (Reweigh place w) = called (reweigh_text place) (reweigh_step width fs ws place w)
 call_of fs ws (Advance n) = called advance_text (advance_step width fs ws n)
-call_of fs ws (Density v x y z) =
-    looked fs ws (density_text (read_step width fs ws all_layers (density v (x ∷ y ∷ z ∷ []))).reply)
+call_of fs ws (Density v p) = looked fs ws (density_text (read_step width fs ws all_layers (density v p)).reply)
 call_of fs ws (Report v) = looked fs ws (report_text (read_step width fs ws all_layers (report v)).reply)

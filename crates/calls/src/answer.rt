@@ -1,5 +1,6 @@
 // A call on the store, and its answer written as a line from the start of a run of 512 bytes; each answers the line's
-// length.
+// length. Each matches by itself: a function of all would take the writing of the values as a closure, and its contract
+// would have to say when that may be called and what it writes, which is longer than the match.
 ghost use Rattle.std.specs.Prelude.{◌≡◌, [], ◌∷◌, ◌≤◌};
 ghost use Rattle.base.specs.Refusals.{number};
 ghost use Rattle.text.specs.Print.{Wrote};
@@ -12,19 +13,19 @@ ghost use Rattle.readings.specs.Readings.{read_step};
 ghost use Rattle.readings.specs.Readings;
 ghost use Rattle.calls.specs.Texts.{no_text, open_text, put_text, density_text, advance_text, clear_text, reweigh_text, report_text};
 
-use advance::advance::{Advanced, advance};
+use advance::advance::advance;
 use answers::{
     write_advance, write_clear, write_density, write_no, write_open, write_put, write_report,
     write_reweigh,
 };
-use base::refusal::{Measured, Refusal, refusal_number};
+use base::refusal::Refusal;
 use density::convention::Convention;
 use kernel::kernel::Kernel;
 use readings::at_point::density;
-use reports::reports::{ReportRead, report};
-use store::edit::{Edited, clear, reweigh};
-use store::open::{Opened, open};
-use store::put::{Placed, put};
+use reports::reports::report;
+use store::edit::{clear, reweigh};
+use store::open::open;
+use store::put::put;
 use text::write::write_bytes;
 
 // The program puts into this layer, and reads with all sixteen.
@@ -46,7 +47,7 @@ pub fn answer_no(out: &mut [u8; 512], refusal: Refusal) -> usize
     ensures upper_bound { result ≤ 256 }
     ensures wrote { Wrote out.old 0 (no_text (number refusal)) result out.new }
 {
-    let at = write_no(out, 0, refusal_number(refusal));
+    let at = write_no(out, 0, u32::from(refusal));
     newline(out, at)
 }
 
@@ -69,11 +70,11 @@ pub fn answer_open(
         corners.now).reply) result out.new }
 {
     match open(floats, words, radius, xyz, corners) {
-        Opened::Mesh(verts, faces) => {
-            let at = write_open(out, 0, verts, faces);
+        Ok(mesh) => {
+            let at = write_open(out, 0, mesh.verts, mesh.faces);
             newline(out, at)
         }
-        Opened::Refused(r) => answer_no(out, r),
+        Err(refusal) => answer_no(out, refusal),
     }
 }
 
@@ -93,11 +94,11 @@ pub fn answer_put(
         out.new }
 {
     match put(floats, words, place, k, LAYER) {
-        Placed::Needs(pieces, need, _) => {
-            let at = write_put(out, 0, place, pieces, need);
+        Ok(placed) => {
+            let at = write_put(out, 0, place, placed.pieces, placed.steps);
             newline(out, at)
         }
-        Placed::Refused(r) => answer_no(out, r),
+        Err(refusal) => answer_no(out, refusal),
     }
 }
 
@@ -111,11 +112,11 @@ pub fn answer_clear(floats: &mut [f64], words: &mut [u32], place: u32, out: &mut
         out.new }
 {
     match clear(floats, words, place) {
-        Edited::Done => {
+        Ok(()) => {
             let at = write_clear(out, 0, place);
             newline(out, at)
         }
-        Edited::Refused(r) => answer_no(out, r),
+        Err(refusal) => answer_no(out, refusal),
     }
 }
 
@@ -137,11 +138,11 @@ pub fn answer_reweigh(
         out.new }
 {
     match reweigh(floats, words, place, weight) {
-        Edited::Done => {
+        Ok(()) => {
             let at = write_reweigh(out, 0, place);
             newline(out, at)
         }
-        Edited::Refused(r) => answer_no(out, r),
+        Err(refusal) => answer_no(out, refusal),
     }
 }
 
@@ -161,11 +162,11 @@ pub fn answer_advance(
         out.new }
 {
     match advance(floats, words, budget) {
-        Advanced::Steps { done, left } => {
-            let at = write_advance(out, 0, done, left);
+        Ok(steps) => {
+            let at = write_advance(out, 0, steps.done, steps.left);
             newline(out, at)
         }
-        Advanced::Refused(r) => answer_no(out, r),
+        Err(refusal) => answer_no(out, refusal),
     }
 }
 
@@ -183,11 +184,11 @@ pub fn answer_density(
         (Readings.density v point)).reply) result out.new }
 {
     match density(floats, words, v, ALL_LAYERS, point) {
-        Measured::Value(x) => {
+        Ok(x) => {
             let at = write_density(out, 0, x);
             newline(out, at)
         }
-        Measured::Refused(r) => answer_no(out, r),
+        Err(refusal) => answer_no(out, refusal),
     }
 }
 
@@ -199,15 +200,10 @@ pub fn answer_report(floats: &[f64], words: &[u32], v: Convention, out: &mut [u8
         out.new }
 {
     match report(floats, words, v, ALL_LAYERS) {
-        ReportRead::Report {
-            mass,
-            filled,
-            pieces,
-            error,
-        } => {
-            let at = write_report(out, 0, mass, filled, pieces, error);
+        Ok(t) => {
+            let at = write_report(out, 0, t.mass, t.filled, t.pieces, t.error);
             newline(out, at)
         }
-        ReportRead::Refused(r) => answer_no(out, r),
+        Err(refusal) => answer_no(out, refusal),
     }
 }

@@ -7,7 +7,6 @@ use crate::answer::{
     answer_advance, answer_clear, answer_density, answer_put, answer_report, answer_reweigh,
 };
 use forms::line::Call;
-use kernel::kernel::Kernel;
 
 // Makes a call, and writes its answer.
 pub fn call(c: Call, floats: &mut [f64], words: &mut [u32], out: &mut [u8; 512]) -> usize
@@ -18,30 +17,11 @@ pub fn call(c: Call, floats: &mut [f64], words: &mut [u32], out: &mut [u8; 512])
         out.new }
 {
     match c {
-        Call::Put {
-            place,
-            x,
-            y,
-            z,
-            sigma,
-            w,
-            alpha,
-        } => answer_put(
-            floats,
-            words,
-            place,
-            Kernel {
-                c: [x, y, z],
-                sigma,
-                w,
-                alpha,
-            },
-            out,
-        ),
+        Call::Put(p) => answer_put(floats, words, p.place, p.kernel, out),
         Call::Clear(place) => answer_clear(floats, words, place, out),
         Call::Reweigh(place, weight) => answer_reweigh(floats, words, place, weight, out),
         Call::Advance(budget) => answer_advance(floats, words, budget, out),
-        Call::Density(v, x, y, z) => answer_density(floats, words, v, [x, y, z], out),
+        Call::Density(v, point) => answer_density(floats, words, v, point, out),
         Call::Report(v) => answer_report(floats, words, v, out),
     }
 }

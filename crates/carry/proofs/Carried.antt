@@ -1,4 +1,5 @@
 -- What a carry that is not refused was given, and the places' records one after another. Assumes nothing.
+use Rattle.base.specs.Answers.{passed}
 use mathlib.Core.Path.{◌≡◌, refl, sym, ◌∙◌}
 use mathlib.Core.Bool.{Bool, true, false}
 use mathlib.Core.List.{List, [], ◌∷◌}
@@ -10,7 +11,6 @@ use lib.Dec.{leb}
 use lib.ListN.{length, set, length-set, length-append}
 use lib.Ieee.{Float}
 use borrow.Author.Tests.{leb-true}
-use Rattle.base.specs.declared.refusal.Checked.TheVariants.{Passed}
 use Rattle.layout.specs.Layout.{width, place_limit, coords_from, corners_from, verts_of, faces_of, status_of}
 use Rattle.layout.specs.Layout.{finished_of, done_of}
 use Rattle.layout.specs.Runs.{write}
@@ -25,7 +25,7 @@ pub record Carries (fs : List Float) (ws : List ℕ) (gs : List Float) (us : Lis
   pub words : corners_from width + 3 * faces_of ws ≤ length us
   pub floats : coords_from + 3 * verts_of ws ≤ length gs
 
-pub carry_passes : (fs : List Float) (ws : List ℕ) (gs : List Float) (us : List ℕ) → carry_check fs ws gs us ≡ Passed
+pub carry_passes : (fs : List Float) (ws : List ℕ) (gs : List Float) (us : List ℕ) → carry_check fs ws gs us ≡ passed
     → Carries fs ws gs us
 unfolding carry_check store_check
 carry_passes fs ws gs us h = go (long_enough old_width fs ws) (room_for ws gs us) (sound old_width ws) refl refl refl

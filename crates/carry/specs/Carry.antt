@@ -1,10 +1,8 @@
 -- 02, L6: "Turn an opened store of the old form into the new one, in fresh lent runs, with every kernel in layer 0."
 -- The old runs are fs and ws, the new ones gs and us. Definitions only.
-use Rattle.std.specs.Prelude.{Bool, ◌&&◌, cond, List, [], ◌∷◌, ◌++◌, ℕ, zero, suc, ◌+◌, ◌*◌, leb, length, take, Float}
-use Rattle.base.specs.Answers.{counted}
+use Rattle.std.specs.Prelude.{Bool, ◌&&◌, cond, List, [], ◌∷◌, ◌++◌, ℕ, zero, suc, ◌+◌, ◌*◌, leb, length, take, Float, Err}
+use Rattle.base.specs.Answers.{counted, Checked, passed}
 use Rattle.base.specs.declared.refusal.Refusal.TheVariants.{ShortStore, Unsound}
-use Rattle.base.specs.declared.refusal.Checked.{Checked}
-use Rattle.base.specs.declared.refusal.Checked.TheVariants.{Passed, Failed}
 use Rattle.layout.specs.Layout.{place_limit, width, coords_from, corners_from, verts_of, faces_of, status_of}
 use Rattle.layout.specs.Layout.{finished_of, done_of, corners_of}
 use Rattle.layout.specs.Runs.{write}
@@ -40,8 +38,8 @@ room_for ws gs us =
 
 unfoldable pub carry_check : List Float → List ℕ → List Float → List ℕ → Checked
 carry_check fs ws gs us =
-    cond (long_enough old_width fs ws && room_for ws gs us) (cond (sound old_width ws) Passed (Failed Unsound))
-    (Failed ShortStore)
+    cond (long_enough old_width fs ws && room_for ws gs us) (cond (sound old_width ws) passed (Err Unsound))
+    (Err ShortStore)
 
 -- ---- the call: it answers V and F, as an opening does, and leaves what lies past the store in the new runs
 unfoldable pub carry_step : List Float → List ℕ → List Float → List ℕ → After

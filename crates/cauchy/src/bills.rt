@@ -4,7 +4,7 @@ ghost use Rattle.bill.specs.Bill.{bill_of};
 ghost use Rattle.crossing.specs.Bills.{bill_from};
 
 use bill::bill;
-use crossing::bills::{CauchyBill, bill_of};
+use crossing::bills::CauchyBill;
 
 // The bill of a list of kernels on a mesh of so many vertices and faces, whatever its radius: 2, 9 or 15.
 // Nothing is fitted.
@@ -12,5 +12,5 @@ use crossing::bills::{CauchyBill, bill_of};
 pub extern "C" fn cauchy_bill(kernels: &[f64], verts: u32, faces: u32) -> CauchyBill
     ensures { result ≡ bill_from (bill_of kernels.now verts faces) }
 {
-    bill_of(bill(kernels, verts, faces))
+    CauchyBill::from(bill(kernels, verts, faces))
 }

@@ -3,10 +3,11 @@
 ghost use Rattle.std.specs.Prelude.{◌≡◌};
 ghost use Rattle.convert.specs.Convert.{conversion};
 ghost use Rattle.crossing.specs.Crossing.{lent, lent_from};
-ghost use Rattle.crossing.specs.Files.{converted_from, loader_of};
+ghost use Rattle.crossing.specs.Files.{loader_of};
+ghost use Rattle.crossing.specs.Sources.{written_from};
 
 use convert::convert::convert;
-use crossing::files::{converted_of, loader_of};
+use crossing::files::loader_of;
 use crossing::sources::CauchyKernels;
 
 // Writes the kernels of a file's bracket lines, in metres, six floats each, as a loader makes them, 0 the
@@ -19,8 +20,8 @@ pub extern "C" fn cauchy_convert(
     out: &mut [f64],
 ) -> CauchyKernels
     ensures { lent result out.new
-        ≡ lent_from converted_from (conversion lines.now default_alpha (loader_of loader)
+        ≡ lent_from written_from (conversion lines.now default_alpha (loader_of loader)
         out.old) }
 {
-    converted_of(convert(lines, default_alpha, loader_of(loader), out))
+    CauchyKernels::from(convert(lines, default_alpha, loader_of(loader), out))
 }

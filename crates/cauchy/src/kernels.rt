@@ -6,10 +6,8 @@ ghost use Rattle.pieces.specs.Kernels.{decomposition};
 ghost use Rattle.pieces.specs.Lists.{list_decomposition};
 ghost use Rattle.crossing.specs.Crossing.{lent, lent_from, solved_from, crossed_kernel, kernel_pieces_from, list_pieces_from};
 
-use crossing::kernels::{
-    CauchyFileKernel, CauchyListPieces, CauchyPieces, CauchySolved, exponent_of, list_pieces_of,
-    pieces_of, solved_of,
-};
+use crossing::kernels::{CauchyFileKernel, CauchyListPieces, CauchyPieces, CauchySolved};
+use crossing::sources::optional;
 use kernel::file::{Kilometres, kernel_from_file};
 use kernel::kernel::Kernel;
 use pieces::kernels::decompose_into;
@@ -22,7 +20,7 @@ pub extern "C" fn cauchy_solve(n: usize, cells: &[f64], answer: &mut [f64]) -> C
     ensures { lent result answer.new
         ≡ lent_from solved_from (solution n cells.now answer.old) }
 {
-    solved_of(solve_linear_system(n, cells, answer))
+    CauchySolved::from(solve_linear_system(n, cells, answer))
 }
 
 // Carries one file kernel across, with the file's default exponent.
@@ -34,7 +32,7 @@ pub extern "C" fn cauchy_kernel_from_file(k: CauchyFileKernel, default: f64) -> 
     kernel_from_file(
         Kilometres(c, k.sigma),
         k.w,
-        exponent_of(k.given, k.alpha),
+        optional(k.given, k.alpha),
         default,
     )
 }
@@ -46,7 +44,7 @@ pub extern "C" fn cauchy_decompose(k: Kernel, radius: f64, out: &mut [f64]) -> C
     ensures { lent result out.new
         ≡ lent_from kernel_pieces_from (decomposition k radius out.old) }
 {
-    pieces_of(decompose_into(k, radius, out))
+    CauchyPieces::from(decompose_into(k, radius, out))
 }
 
 // Writes the pieces of all kernels of a list, in its order, as kernels of six floats each; 9 where the
@@ -60,5 +58,5 @@ pub extern "C" fn cauchy_decompose_list(
     ensures { lent result out.new
         ≡ lent_from list_pieces_from (list_decomposition kernels.now radius out.old) }
 {
-    list_pieces_of(decompose_list(kernels, radius, out))
+    CauchyListPieces::from(decompose_list(kernels, radius, out))
 }

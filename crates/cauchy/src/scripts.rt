@@ -6,8 +6,8 @@ ghost use Rattle.reader.specs.ReadOf.{load_step};
 ghost use Rattle.crossing.specs.Crossing.{lent};
 ghost use Rattle.crossing.specs.StoreCrossing.{crossed, across, printed_from, loaded_from};
 
-use crossing::scripts::{CauchyLoaded, loaded_of};
-use crossing::stores::{CauchyBytes, bytes_of};
+use crossing::scripts::CauchyLoaded;
+use crossing::stores::CauchyBytes;
 use reader::read::read_store;
 use writer::write_store;
 
@@ -17,7 +17,7 @@ pub extern "C" fn cauchy_store_write(floats: &[f64], words: &[u32], bytes: &mut 
     ensures { lent result bytes.new
         ≡ printed_from (write_step width floats.now words.now bytes.old) }
 {
-    bytes_of(write_store(floats, words, bytes))
+    CauchyBytes::from(write_store(floats, words, bytes))
 }
 
 // Makes two runs the store that lines of text describe: 13, 2, 3, 4, 6 or 16. What the runs held does not matter, and
@@ -31,5 +31,5 @@ pub extern "C" fn cauchy_store_read(
     ensures { crossed result floats.new words.new
         ≡ across loaded_from (load_step width floats.old words.old bytes.now) }
 {
-    loaded_of(read_store(floats, words, bytes))
+    CauchyLoaded::from(read_store(floats, words, bytes))
 }

@@ -7,10 +7,10 @@ ghost use Rattle.weights.specs.Weights.{normalized};
 ghost use Rattle.weights.specs.Calibration.{calibrated};
 ghost use Rattle.crossing.specs.Volumes.{value_from};
 ghost use Rattle.crossing.specs.Crossing.{lent, lent_from};
-ghost use Rattle.crossing.specs.Sources.{kernels_from, mean_of};
+ghost use Rattle.crossing.specs.Sources.{kernels_from, optional};
 
-use crossing::sources::{CauchyKernels, kernels_of, mean_of};
-use crossing::volumes::{CauchyValue, value_of};
+use crossing::sources::{CauchyKernels, kernels_of, optional};
+use crossing::volumes::CauchyValue;
 use mesh::vectors::V3;
 use source::density::density_at;
 use source::volume::{kernel_volume, mesh_enclosed_volume};
@@ -22,7 +22,7 @@ use weights::normalize::normalize_kernels;
 pub extern "C" fn cauchy_source_density_at(kernels: &[f64], point: V3) -> CauchyValue
     ensures { result ≡ value_from (density_at kernels.now point) }
 {
-    value_of(density_at(kernels, point))
+    CauchyValue::from(density_at(kernels, point))
 }
 
 // The volume of a kernel inside the mesh.
@@ -35,7 +35,7 @@ pub extern "C" fn cauchy_source_kernel_volume(
 ) -> CauchyValue
     ensures { result ≡ value_from (volume_answer xyz.now faces.now c sigma) }
 {
-    value_of(kernel_volume(xyz, faces, c, sigma))
+    CauchyValue::from(kernel_volume(xyz, faces, c, sigma))
 }
 
 // The volume that the mesh encloses, without its sign.
@@ -43,7 +43,7 @@ pub extern "C" fn cauchy_source_kernel_volume(
 pub extern "C" fn cauchy_source_enclosed_volume(xyz: &[f64], faces: &[u32]) -> CauchyValue
     ensures { result ≡ value_from (enclosed_answer xyz.now faces.now) }
 {
-    value_of(mesh_enclosed_volume(xyz, faces))
+    CauchyValue::from(mesh_enclosed_volume(xyz, faces))
 }
 
 // Brings a list of kernels to a target mass inside the mesh, and writes them.
@@ -77,9 +77,9 @@ pub extern "C" fn cauchy_source_calibrate(
 ) -> CauchyKernels
     ensures { lent result out.new
         ≡ lent_from (kernels_from (length kernels.now / 6))
-        (calibrated xyz.now faces.now kernels.now (mean_of given mean) total
+        (calibrated xyz.now faces.now kernels.now (optional given mean) total
         out.old) }
 {
-    let outcome = calibrate_kernels(xyz, faces, kernels, mean_of(given, mean), total, out);
+    let outcome = calibrate_kernels(xyz, faces, kernels, optional(given, mean), total, out);
     kernels_of(outcome, kernels.len() / 6)
 }

@@ -25,13 +25,12 @@ ghost use Rattle.crossing.specs.StoreCrossing.{crossed, across, opened_from, pla
 use adopt::adopt::adopt;
 use advance::advance::advance;
 use carry::carry::carry;
+use crossing::meshes::number_of;
 use crossing::stores::{
     CauchyAdopted, CauchyBytes, CauchyConvention, CauchyFinished, CauchyListed, CauchyOpened,
-    CauchyPlaced, CauchySqueezed, CauchySteps, CauchyStoreReport, CauchyTrack, adopted_of,
-    bytes_of, convention_of, edit_number, finished_of, listed_of, opened_of, placed_of, report_of,
-    squeezed_of, steps_of, track_of,
+    CauchyPlaced, CauchySqueezed, CauchySteps, CauchyStoreReport, CauchyTrack,
 };
-use crossing::volumes::{CauchyValue, value_of};
+use crossing::volumes::CauchyValue;
 use kernel::kernel::Kernel;
 use mesh::vectors::V3;
 use page::call::page;
@@ -59,7 +58,7 @@ pub extern "C" fn cauchy_store_open(
         ≡ across opened_from (open_step width floats.old words.old radius xyz.now
         faces.now) }
 {
-    opened_of(open(floats, words, radius, xyz, faces))
+    CauchyOpened::from(open(floats, words, radius, xyz, faces))
 }
 
 // Carries a store of the form before layers, with three words to a place, into other runs as a store of today's form,
@@ -76,7 +75,7 @@ pub extern "C" fn cauchy_store_carry(
         ≡ across opened_from (carry_step old_floats.now old_words.now floats.old
         words.old) }
 {
-    opened_of(carry(old_floats, old_words, floats, words))
+    CauchyOpened::from(carry(old_floats, old_words, floats, words))
 }
 
 // Puts a kernel, in metres, into a place, whatever it held, in a layer from 0 to 15: 4, 5, 6 or 16.
@@ -91,7 +90,7 @@ pub extern "C" fn cauchy_store_put(
     ensures { crossed result floats.new words.new
         ≡ across placed_from (put_step_lem width floats.old words.old place k layer) }
 {
-    placed_of(put(floats, words, place, k, layer))
+    CauchyPlaced::from(put(floats, words, place, k, layer))
 }
 
 // Empties a place; answers 0, 4, 5, 6 or 7.
@@ -100,7 +99,7 @@ pub extern "C" fn cauchy_store_clear(floats: &mut [f64], words: &mut [u32], plac
     ensures { crossed result floats.new words.new
         ≡ across number_from (clear_step width floats.old words.old place) }
 {
-    edit_number(clear(floats, words, place))
+    number_of(clear(floats, words, place))
 }
 
 // Gives the kernel of a place the weight w, its work kept; answers 0, 4, 5, 6 or 7.
@@ -114,7 +113,7 @@ pub extern "C" fn cauchy_store_reweigh(
     ensures { crossed result floats.new words.new
         ≡ across number_from (reweigh_step width floats.old words.old place w) }
 {
-    edit_number(reweigh(floats, words, place, w))
+    number_of(reweigh(floats, words, place, w))
 }
 
 // Squeezes the vertices that no face uses out of a store: 4 or 5.
@@ -123,7 +122,7 @@ pub extern "C" fn cauchy_store_squeeze(floats: &mut [f64], words: &mut [u32]) ->
     ensures { crossed result floats.new words.new
         ≡ across squeezed_from (squeeze_step width floats.old words.old) }
 {
-    squeezed_of(squeeze(floats, words))
+    CauchySqueezed::from(squeeze(floats, words))
 }
 
 // Does up to `budget` steps of the work left, one face of one piece each: 4 or 5. A process killed inside
@@ -137,7 +136,7 @@ pub extern "C" fn cauchy_store_advance(
     ensures { crossed result floats.new words.new
         ≡ across steps_from (advance_step width floats.old words.old budget) }
 {
-    steps_of(advance(floats, words, budget))
+    CauchySteps::from(advance(floats, words, budget))
 }
 
 // Takes a filled place of another store of the same body into a place of this one, whatever that held: 4 or 5 of either
@@ -156,7 +155,7 @@ pub extern "C" fn cauchy_store_adopt(
         ≡ across adopted_from (adopt_step width floats.old words.old place
         other_floats.now other_words.now other_place) }
 {
-    adopted_of(adopt(floats, words, place, other_floats, other_words, other_place))
+    CauchyAdopted::from(adopt(floats, words, place, other_floats, other_words, other_place))
 }
 
 // A reading sees the places whose layers are in its set `layers`, bit l for layer l; 16 where a bit from 16 on is set.
@@ -173,10 +172,10 @@ pub extern "C" fn cauchy_store_density(
     ensures { result ≡ value_from (read_step width floats.now words.now layers
         (Readings.density (convention_of convention) (point_values point))).reply }
 {
-    value_of(density(
+    CauchyValue::from(density(
         floats,
         words,
-        convention_of(convention),
+        convention.into(),
         layers,
         [point.x, point.y, point.z],
     ))
@@ -193,7 +192,7 @@ pub extern "C" fn cauchy_store_report(
     ensures { result ≡ store_report_from (read_step width floats.now words.now layers
         (Readings.report (convention_of convention))).reply }
 {
-    report_of(report(floats, words, convention_of(convention), layers))
+    CauchyStoreReport::from(report(floats, words, convention.into(), layers))
 }
 
 // The report of those places in the layers that have no work left, while others may: 4, 5 or 16, never 8.
@@ -207,7 +206,7 @@ pub extern "C" fn cauchy_store_finished(
     ensures { result ≡ finished_from (finished_step width floats.now words.now layers
         (convention_of convention)) }
 {
-    finished_of(finished(floats, words, convention_of(convention), layers))
+    CauchyFinished::from(finished(floats, words, convention.into(), layers))
 }
 
 // Writes the store's pieces as kernels of six floats each, weights rescaled: 4, 5, 16, 8 or 9. Floats of `out`
@@ -224,7 +223,7 @@ pub extern "C" fn cauchy_store_list(
         ≡ lent_from listed_from (read_step width floats.now words.now layers
         (Readings.list (convention_of convention) out.old)) }
 {
-    listed_of(list(floats, words, convention_of(convention), layers, out))
+    CauchyListed::from(list(floats, words, convention.into(), layers, out))
 }
 
 // Writes the density at each point of a track, three coordinates a point, in point order: 4, 5, 16, 8 or 14. Floats of
@@ -242,14 +241,7 @@ pub extern "C" fn cauchy_store_track(
         ≡ lent_from track_from (read_step width floats.now words.now layers
         (Readings.track (convention_of convention) points.now out.old)) }
 {
-    track_of(track(
-        floats,
-        words,
-        convention_of(convention),
-        layers,
-        points,
-        out,
-    ))
+    CauchyTrack::from(track(floats, words, convention.into(), layers, points, out))
 }
 
 // Writes the wall page of a store with no work left: 4, 5, 8, 17 or 18. Bytes of `out` past it stay.
@@ -258,5 +250,5 @@ pub extern "C" fn cauchy_store_page(floats: &[f64], words: &[u32], out: &mut [u8
     ensures { lent result out.new
         ≡ printed_from (page_step width floats.now words.now out.old) }
 {
-    bytes_of(page(floats, words, out))
+    CauchyBytes::from(page(floats, words, out))
 }

@@ -7,7 +7,7 @@ ghost use Rattle.density.specs.Densitize.{densitized};
 ghost use Rattle.mass.specs.Homogeneous.{homogeneous_call};
 ghost use Rattle.crossing.specs.Volumes.{value_from, point_from, report_from};
 
-use crossing::volumes::{CauchyPoint, CauchyReport, CauchyValue, point_of, report_of, value_of};
+use crossing::volumes::{CauchyPoint, CauchyReport, CauchyValue};
 use density::densitize::densitize;
 use mass::calls::{body_volume, kernel_field_mass, kernel_volume, volume_centroid};
 use mass::homogeneous::homogeneous;
@@ -18,7 +18,7 @@ use mesh::vectors::V3;
 pub extern "C" fn cauchy_kernel_volume(xyz: &[f64], faces: &[u32], c: V3, sigma: f64) -> CauchyValue
     ensures { result ≡ value_from (kernel_volume_call xyz.now faces.now c sigma) }
 {
-    value_of(kernel_volume(xyz, faces, c, sigma))
+    CauchyValue::from(kernel_volume(xyz, faces, c, sigma))
 }
 
 // The enclosed volume, signed.
@@ -26,7 +26,7 @@ pub extern "C" fn cauchy_kernel_volume(xyz: &[f64], faces: &[u32], c: V3, sigma:
 pub extern "C" fn cauchy_body_volume(xyz: &[f64], faces: &[u32]) -> CauchyValue
     ensures { result ≡ value_from (body_volume_call xyz.now faces.now) }
 {
-    value_of(body_volume(xyz, faces))
+    CauchyValue::from(body_volume(xyz, faces))
 }
 
 // The centroid of the enclosed volume, zeros where that is tiny or no number.
@@ -34,7 +34,7 @@ pub extern "C" fn cauchy_body_volume(xyz: &[f64], faces: &[u32]) -> CauchyValue
 pub extern "C" fn cauchy_volume_centroid(xyz: &[f64], faces: &[u32]) -> CauchyPoint
     ensures { result ≡ point_from (volume_centroid_call xyz.now faces.now) }
 {
-    point_of(volume_centroid(xyz, faces))
+    CauchyPoint::from(volume_centroid(xyz, faces))
 }
 
 // The mass of a list of kernels inside the mesh.
@@ -42,7 +42,7 @@ pub extern "C" fn cauchy_volume_centroid(xyz: &[f64], faces: &[u32]) -> CauchyPo
 pub extern "C" fn cauchy_field_mass(xyz: &[f64], faces: &[u32], kernels: &[f64]) -> CauchyValue
     ensures { result ≡ value_from (field_mass_call xyz.now faces.now kernels.now) }
 {
-    value_of(kernel_field_mass(xyz, faces, kernels))
+    CauchyValue::from(kernel_field_mass(xyz, faces, kernels))
 }
 
 // The density of a list of kernels at a point.
@@ -50,7 +50,7 @@ pub extern "C" fn cauchy_field_mass(xyz: &[f64], faces: &[u32], kernels: &[f64])
 pub extern "C" fn cauchy_densitize(kernels: &[f64], point: V3) -> CauchyValue
     ensures { result ≡ value_from (densitized kernels.now (point_values point)) }
 {
-    value_of(densitize(kernels, [point.x, point.y, point.z]))
+    CauchyValue::from(densitize(kernels, [point.x, point.y, point.z]))
 }
 
 // The report of a body of this bulk density, which is taken as it is given.
@@ -58,5 +58,5 @@ pub extern "C" fn cauchy_densitize(kernels: &[f64], point: V3) -> CauchyValue
 pub extern "C" fn cauchy_homogeneous(bulk: f64, xyz: &[f64], faces: &[u32]) -> CauchyReport
     ensures { result ≡ report_from (homogeneous_call bulk xyz.now faces.now) }
 {
-    report_of(homogeneous(bulk, xyz, faces))
+    CauchyReport::from(homogeneous(bulk, xyz, faces))
 }

@@ -1,9 +1,8 @@
 -- 02, L13, "Is the delivered mesh closed?". Definitions only.
-use Rattle.std.specs.Prelude.{ℕ, ◌+◌, Bool, true, not, ◌&&◌, cond, List, [], ◌∷◌, eqb}
+use Rattle.std.specs.Result.{result_and}
+use Rattle.std.specs.Prelude.{ℕ, ◌+◌, Bool, true, not, ◌&&◌, cond, List, [], ◌∷◌, eqb, Err}
 use Rattle.base.specs.declared.refusal.Refusal.TheVariants.{Unclosed}
-use Rattle.base.specs.declared.refusal.Checked.{Checked}
-use Rattle.base.specs.declared.refusal.Checked.TheVariants.{Passed, Failed}
-use Rattle.base.specs.Answers.{and_then}
+use Rattle.base.specs.Answers.{Checked, passed}
 use Rattle.mesh.specs.Checks.{mesh_check}
 
 -- a directed edge, from a corner of a face to the face's next
@@ -55,4 +54,4 @@ passes corners = distinct_corners corners && each (once (edges corners)) (edges 
 -- "1, 2 and 3 apply first; 22 when a mesh doesn't pass"
 unfoldable pub closed_check : ℕ → List ℕ → Checked
 closed_check coordinates corners =
-    and_then (mesh_check coordinates corners) (cond (passes corners) Passed (Failed Unclosed))
+    result_and (mesh_check coordinates corners) (cond (passes corners) passed (Err Unclosed))

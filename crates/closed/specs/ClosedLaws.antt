@@ -1,5 +1,6 @@
 -- Laws of closed meshes: what one face adds, and that numbers in pairs are edges in pairs. Assumes nothing.
-use Rattle.std.specs.Prelude.{◌≡◌, refl, Bool, true, false, not, ◌&&◌, cond, List, [], ◌∷◌, ℕ, suc, ◌+◌, ◌*◌, ◌/◌, ◌%◌}
+use Rattle.base.specs.Answers.{passed}
+use Rattle.std.specs.Prelude.{◌≡◌, refl, Bool, true, false, not, ◌&&◌, cond, List, [], ◌∷◌, ℕ, suc, ◌+◌, ◌*◌, ◌/◌, ◌%◌, Err}
 use Rattle.std.specs.Prelude.{◌≤◌, ◌<◌, eqb, ltb, length, get_or, drop}
 use Rattle.std.proofs.Common.{sym, ap, ◌∙◌, true≢false, arith, eq-eqb, ltb-true, ltb-false, eqb-true}
 use Rattle.std.proofs.Math.Bool.{and_assoc, and-true, and-eq-true_iff}
@@ -14,9 +15,8 @@ use Rattle.closed.specs.Held.{tally, Matched, Unmatched}
 use Rattle.closed.specs.HeldLaws.{peel, few}
 use Rattle.base.specs.declared.refusal.Refusal.TheVariants.{Ragged, Oversize, LooseCorner, Unclosed}
 use Rattle.base.specs.declared.refusal.Refusal.{Refusal}
-use Rattle.base.specs.declared.refusal.Checked.TheVariants.{Passed, Failed}
 use Rattle.mesh.specs.Checks.{vertex_limit, face_limit, ragged, oversize, all_below, mesh_check}
-use Rattle.mesh.specs.CheckLaws.{passed-sound}
+use Rattle.mesh.specs.CheckLaws.{passed_sound}
 use Rattle.mesh.specs.Corners.{Below, below-greater}
 
 -- ---- what one face adds
@@ -291,16 +291,16 @@ swept {ks = ks} d h s true f = passes-is ks d (matched_once d h s (f.0 refl))
 swept {ks = ks} d h s false f = passes-is ks d (unmatched_fails d h s (f.1 refl))
 
 -- ---- a mesh that passes the check of 1, 2 and 3
-pub passed-below : (n : ℕ) (ks : List ℕ) → mesh_check n ks ≡ Passed → Below (n / 3) ks
-passed-below n ks h =
-    let s = passed-sound {n = n} {corners = ks} h in record { corner = λ k l. let g = s.corner k l in omega arith }
+pub passed_below : (n : ℕ) (ks : List ℕ) → mesh_check n ks ≡ passed → Below (n / 3) ks
+passed_below n ks h =
+    let s = passed_sound {n = n} {corners = ks} h in record { corner = λ k l. let g = s.corner k l in omega arith }
 
-pub passed_limits : (n : ℕ) (ks : List ℕ) → mesh_check n ks ≡ Passed → (n / 3 ≤ 1048576) × (length ks ≤ 6291456)
+pub passed_limits : (n : ℕ) (ks : List ℕ) → mesh_check n ks ≡ passed → (n / 3 ≤ 1048576) × (length ks ≤ 6291456)
 unfolding mesh_check
 passed_limits n ks h = go (ragged n ks) (oversize n ks) (all_below (n / 3) ks) refl refl h
   where
     go : (a b d : Bool) → ragged n ks ≡ a → oversize n ks ≡ b
-        → cond a (Failed Ragged) (cond b (Failed Oversize) (cond d Passed (Failed LooseCorner))) ≡ Passed
+        → cond a (Err Ragged) (cond b (Err Oversize) (cond d passed (Err LooseCorner))) ≡ passed
         → (n / 3 ≤ 1048576) × (length ks ≤ 6291456)
     go false false true ea eb w =
         let r = eqb-true (length ks % 3) 0
@@ -314,11 +314,11 @@ passed_limits n ks h = go (ragged n ks) (oversize n ks) (all_below (n / 3) ks) r
     go true b d ea eb w = let z : ◌≡◌ {A = ℕ} 0 1 = cc in absurd (omega arith)
 
 -- ---- the answer
-pub closed_is : (n : ℕ) (ks : List ℕ) (t : Bool) → mesh_check n ks ≡ Passed → t ≡ passes ks
-    → cond t Passed (Failed Unclosed) ≡ closed_check n ks
+pub closed_is : (n : ℕ) (ks : List ℕ) (t : Bool) → mesh_check n ks ≡ passed → t ≡ passes ks
+    → cond t passed (Err Unclosed) ≡ closed_check n ks
 unfolding closed_check
 closed_is n ks t e d = rw (e, ← d) refl
 
-pub closed_failed : (n : ℕ) (ks : List ℕ) (r : Refusal) → mesh_check n ks ≡ Failed r → Failed r ≡ closed_check n ks
+pub closed_failed : (n : ℕ) (ks : List ℕ) (r : Refusal) → mesh_check n ks ≡ Err r → Err r ≡ closed_check n ks
 unfolding closed_check
 closed_failed n ks r e = rw e refl

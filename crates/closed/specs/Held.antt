@@ -1,7 +1,7 @@
 -- The numbers of the faces' edges, and the words of a batch that hold them. What the internal contracts speak of;
 -- definitions only.
 use Rattle.std.specs.Prelude.{ℕ, ◌+◌, ◌*◌, ◌/◌, ◌≤◌, ◌<◌, ◌≡◌, List, [], ◌∷◌, length, get_or, drop}
-use Rattle.edges.specs.declared.ranges.Batch.{Batch}
+use Rattle.closed.specs.declared.gather.Batch.{Batch}
 use Rattle.edges.specs.Numbers.{code}
 use Rattle.sort.specs.Order.{is, copies, All, Within}
 
@@ -18,12 +18,10 @@ pub record Cut (end : ℕ) (xs : List ℕ) (n m : ℕ) : Type 0 where
   pub above : All (λ (x : ℕ). end ≤ x) xs m n
   pub under : (j : ℕ) → j + 1 ≡ m → get_or xs j 0 < end
 
--- a batch of the range from low on: every word is a number of the range, and there is room for the words and for the
--- list of ends
+-- a batch of the range from low on: every word is a number of the range, and there is room for the words
 pub record Sound (low : ℕ) (b : Batch) (xs : List ℕ) : Type 0 where
   pub long : length xs ≡ 61440
   pub room : b.count ≤ 61440
-  pub listed : b.depth ≤ 384
   pub first : low ≤ 1099511627776
   pub last : b.end ≤ 1099511627776
   pub within : Within (2 * low) (2 * b.end) xs b.count

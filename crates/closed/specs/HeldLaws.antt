@@ -8,7 +8,7 @@ use Rattle.std.proofs.lemmas.Bool.{eqb-false}
 use Rattle.mesh.specs.Corners.{Below}
 use Rattle.near.specs.Near.{inside, NoneWithin, behind, Listed}
 use Rattle.near.specs.NearLaws.{within_part, inside_no}
-use Rattle.edges.specs.declared.ranges.Batch.{Batch}
+use Rattle.closed.specs.declared.gather.Batch.{Batch}
 use Rattle.edges.specs.Numbers.{code, Faced}
 use Rattle.sort.specs.Order.{is, copies, All, Rising, Ordered}
 use Rattle.sort.specs.OrderLaws.{is_yes, is_no, is-pair, copies-next, copies-le, copies-past, copies-none, copies-two}
@@ -43,18 +43,17 @@ tally-few c (x ∷ y ∷ z ∷ l) h = absurd (omega arith)
 -- ---- a batch that grows
 -- a batch of n words
 abbrev pub counted : Batch → ℕ → Batch
-counted b n = record { count = n; end = b.end; depth = b.depth }
+counted b n = record { count = n; end = b.end }
 
-pub gathered_none : {ks xs : List ℕ} {low : ℕ} {b : Batch} → b.count ≡ 0 → b.depth ≤ 384 → length xs ≡ 61440
+pub gathered_none : {ks xs : List ℕ} {low : ℕ} {b : Batch} → b.count ≡ 0 → length xs ≡ 61440
     → b.end ≤ 1099511627776 → low < b.end → Gathered ks low b xs 0
 unfolding copies
-gathered_none {ks} {xs} {low} {b} z d l e h =
+gathered_none {ks} {xs} {low} {b} z l e h =
     record {
       sound =
           record {
             long = l;
             room = omega arith;
-            listed = d;
             first = omega arith;
             last = e;
             within = all_none (omega arith);
@@ -75,7 +74,6 @@ face_put {ks} {low} {i} g h r f =
           record {
             long = f.long ∙ s.long;
             room = let e = f.more in omega arith;
-            listed = s.listed;
             first = s.first;
             last = s.last;
             within = f.within s.within;
@@ -135,9 +133,8 @@ module _ {low m : ℕ} {b : Batch} {xs ys : List ℕ} (t : Sound low b xs) (four
       let v = o.rising.order i (m - 1) (omega arith) (omega arith) (omega arith) in
       omega arith
 
-  pub halved : {d : ℕ} → d ≤ 384
-      → Halved low b xs (record { count = m; end = get_or ys (b.count / 2) 0 / 2; depth = d }) ys
-  halved l =
+  pub halved : Halved low b xs (record { count = m; end = get_or ys (b.count / 2) 0 / 2 }) ys
+  halved =
       let f = k.fewer in
       let n = b.count in
       let v = (inner (n / 2) (omega arith)).1 in
@@ -148,7 +145,6 @@ module _ {low m : ℕ} {b : Batch} {xs ys : List ℕ} (t : Sound low b xs) (four
             record {
               long = o.moved.long ∙ t.long;
               room = omega arith;
-              listed = l;
               first = t.first;
               last = omega arith;
               within = record { at = λ i a h. ((inner i (omega arith)).0, earlier i h) };

@@ -4,31 +4,28 @@ ghost use Rattle.closed.specs.Closed.{distinct_corners, passes, closed_check};
 ghost use Rattle.mesh.specs.Corners.{Below};
 
 use crate::sweep::sweep;
-use base::refusal::{Checked, Refusal};
+use base::refusal::Refusal;
 use mesh::check::check_mesh;
+use mesh::corners::Corners;
 
-// Whether no face names a corner twice.
-fn distinct(corners: &[u32]) -> bool
-    requires { length corners.now ≤ 6291456 }
-    ensures { result ≡ distinct_corners corners.now }
+// Whether no face names a corner twice. By face number, since its invariant drops the corners of the faces passed by.
+fn distinct(corners: Corners) -> bool
+    ensures { result ≡ distinct_corners corners.entry.list.now }
 {
     let mut all = true;
-    let mut i: usize = 0;
-    while i + 2 < corners.len() {
-        let a = corners[i];
-        let b = corners[i + 1];
-        let c = corners[i + 2];
+    for face in 0..corners.face_count() {
+        let a = corners.list[3 * face];
+        let b = corners.list[3 * face + 1];
+        let c = corners.list[3 * face + 2];
         all = all & (a != b) & (b != c) & (c != a);
-        i += 3;
     }
     all
 }
 
 // Whether the faces of a mesh of v vertices pass.
-fn passes(corners: &[u32], v: u64) -> bool
-    requires fact_1 { (length corners.now ≤ 6291456) × (v ≤ 1048576) }
-    requires fact_2 { Below v corners.now }
-    ensures { result ≡ passes corners.now }
+fn passes(corners: Corners, v: u64) -> bool
+    requires { (v ≤ 1048576) × Below v corners.list.now }
+    ensures { result ≡ passes corners.entry.list.now }
 {
     if !distinct(corners) {
         return false;
@@ -37,17 +34,14 @@ fn passes(corners: &[u32], v: u64) -> bool
 }
 
 // Refusals 1, 2 and 3 of a mesh, the lowest that applies; else 22 where it is not closed.
-pub fn check_closed(xyz: &[f64], faces: &[u32]) -> Checked
+#[tactic(auto, unfolding(crate::specs::Closed::closed_check))]
+pub fn check_closed(xyz: &[f64], faces: &[u32]) -> Result<(), Refusal>
     ensures { result ≡ closed_check (length xyz.now) faces.now }
 {
-    let checked = check_mesh(xyz, faces);
-    match checked {
-        Checked::Failed(r) => Checked::Failed(r),
-        Checked::Passed => {
-            if passes(faces, (xyz.len() / 3) as u64) {
-                return Checked::Passed;
-            }
-            Checked::Failed(Refusal::Unclosed)
-        }
+    check_mesh(xyz, faces)?;
+    let corners = Corners { list: faces };
+    if passes(corners, (xyz.len() / 3) as u64) {
+        return Ok(());
     }
+    Err(Refusal::Unclosed)
 }

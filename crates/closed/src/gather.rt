@@ -1,33 +1,39 @@
 // The numbers of a range, gathered from the faces into a batch of words.
 // Internal: a function with a `requires` is called by proved code alone.
 ghost use Rattle.std.specs.Prelude.{◌≡◌, List, ℕ, ◌+◌, ◌*◌, ◌%◌, ◌≤◌, ◌<◌, length, get_or};
-ghost use Rattle.mesh.specs.Corners.{Below};
-ghost use Rattle.near.specs.Near.{Spanned};
 ghost use Rattle.closed.specs.Held.{Cut, Sound, Gathered, Halved};
 
 use edges::numbers::put_at;
-use edges::ranges::{Batch, push};
+use edges::ranges::Ends;
 use near::list::list_near;
-use near::spans::{misses, summarize};
+use near::spans::{CornerRange, Faces};
 use sort::arrange::order;
 
-// How many of the first n words, which are in order, are below `end`.
+// A range as far as it is gathered: how many words there are, which are all its numbers, and where it ends. The words
+// and the range's first number stand beside it: a batch that held them would be moved about, and the stack has no room
+// for two.
+#[derive(Clone, Copy)]
+pub struct Batch {
+    pub count: usize,
+    pub end: u64,
+}
+
+// How many of the first n words, which are in order, are below `end`. The n stands beside the words, and they are gone
+// through by index, since `Cut` speaks of the first n of all.
 fn below(words: &[u64], n: usize, end: u64) -> usize
     requires { n ≤ length words.now }
     ensures { Cut end words.now n result }
 {
-    let mut m = n;
-    while 0 < m {
-        if words[m - 1] < end {
-            return m;
+    for i in (0..n).rev() {
+        if words[i] < end {
+            return i + 1;
         }
-        m -= 1;
     }
-    m
+    0
 }
 
 // A full batch, cut down to the lesser half of its words; the end that it had is listed.
-fn halve(low: u64, batch: Batch, words: &mut [u64], ends: &mut [u64; 384]) -> Batch
+fn halve(low: u64, batch: Batch, words: &mut [u64], ends: &mut Ends) -> Batch
     requires fact_1 { 4 ≤ batch.count }
     requires fact_2 { Sound low batch words.old }
     ensures { Halved low batch words.old result words.new }
@@ -36,18 +42,12 @@ fn halve(low: u64, batch: Batch, words: &mut [u64], ends: &mut [u64; 384]) -> Ba
     order(words, n, 2 * low, 2 * batch.end);
     let end = words[n / 2] / 2;
     let count = below(words, n / 2, 2 * end);
-    let depth = push(ends, batch.depth, batch.end);
-    Batch { count, end, depth }
+    ends.push(batch.end);
+    Batch { count, end }
 }
 
 // A batch with room for the numbers of so many faces more: the batch, or where that has no room its lesser half.
-fn make_room(
-    faces: usize,
-    low: u64,
-    batch: Batch,
-    words: &mut [u64],
-    ends: &mut [u64; 384],
-) -> Batch
+fn make_room(faces: usize, low: u64, batch: Batch, words: &mut [u64], ends: &mut Ends) -> Batch
     requires fact_1 { faces ≤ 256 }
     requires fact_2 { Sound low batch words.old }
     ensures { (result.count + 3 * faces ≤ 61440) × (result.end ≤ batch.end)
@@ -61,101 +61,64 @@ fn make_room(
 }
 
 // The numbers of up to 256 faces, added to a batch. Where the span of their stretch misses the batch's range, none of
-// them is looked at. Else the faces that have a corner near the range are listed first, and the others passed over.
+// them is looked at. Else the faces that have a corner near the range are listed first, and the others passed over. The
+// list is gone through by index, since `Listed` speaks of the first words of the whole list, not of a cut of it.
 fn take_faces(
-    corners: &[u32],
-    spans: &[u32],
+    faces: &Faces,
     from: usize,
-    faces: usize,
+    count: usize,
     low: u64,
     batch: Batch,
     words: &mut [u64],
-    ends: &mut [u64; 384],
-    list: &mut [usize],
+    ends: &mut Ends,
+    list: &mut [usize; 256],
 ) -> Batch
-    requires fact_1 { (faces ≤ 256) × (length list.old ≡ 256) × (3 * (from + faces) ≤ length corners.now)
-        × (length corners.now ≤ 6291456) × (from % 256 ≡ 0) }
-    requires fact_2 { Below 1048576 corners.now }
-    requires fact_3 { Spanned corners.now spans.now (length corners.now) }
-    requires fact_4 { Gathered corners.now low batch words.old (3 * from) }
+    requires fact_1 { (count ≤ 256)
+        × (3 * (from + count) ≤ length faces.now.corners.list.now) × (from % 256 ≡ 0) }
+    requires fact_2 { Gathered faces.now.corners.list.now low batch words.old (3 * from) }
     ensures { (result.end ≤ batch.end)
-        × Gathered corners.now low result words.new (3 * (from + faces)) }
+        × Gathered faces.now.corners.list.now low result words.new (3 * (from + count)) }
 {
-    let first = (low / 1_048_576) as u32;
-    let last = (batch.end / 1_048_576) as u32;
-    if misses(spans[from / 1024], first, last) {
+    let range = CornerRange {
+        first: (low / 1_048_576) as u32,
+        last: (batch.end / 1_048_576) as u32,
+    };
+    if range.misses(faces.spans[from / 1024]) {
         return batch;
     }
-    let near = list_near(corners, from, faces, first, last, list);
+    let near = list_near(faces.corners, from, count, range, list);
     let room = make_room(near, low, batch, words, ends);
     let mut n = room.count;
-    let mut k: usize = 0;
-    while k < near {
-        n = put_at(corners, list[k], words, n, low, room.end);
-        k += 1;
+    for k in 0..near {
+        n = put_at(faces.corners, list[k], words, n, low, room.end);
     }
     Batch {
         count: n,
         end: room.end,
-        depth: room.depth,
     }
 }
 
 // Every number 2k or 2k + 1 of the faces, with k one of low .. end - 1, added to an empty batch; where these are too
 // many, the end is lowered.
-pub fn gather_by_spans(
-    corners: &[u32],
-    spans: &[u32],
-    low: u64,
-    empty: Batch,
-    words: &mut [u64],
-    ends: &mut [u64; 384],
-) -> Batch
-    requires fact_1 { length corners.now ≤ 6291456 }
-    requires fact_2 { Below 1048576 corners.now }
-    requires fact_3 { Spanned corners.now spans.now (length corners.now) }
-    requires fact_4 { Gathered corners.now low empty words.old 0 }
+pub fn gather(faces: &Faces, low: u64, empty: Batch, words: &mut [u64], ends: &mut Ends) -> Batch
+    requires { Gathered faces.now.corners.list.now low empty words.old 0 }
     ensures { (result.end ≤ empty.end)
-        × Gathered corners.now low result words.new (length corners.now) }
+        × Gathered faces.now.corners.list.now low result words.new (length faces.now.corners.list.now) }
 {
-    let faces = corners.len() / 3;
+    let n = faces.corners.face_count();
     let mut list = [0usize; 256];
     let mut batch = empty;
-    let mut from: usize = 0;
-    while from + 256 <= faces {
-        batch = take_faces(
-            corners, spans, from, 256, low, batch, words, ends, &mut list,
-        );
-        from += 256;
+    for k in 0..n / 256 {
+        batch = take_faces(faces, 256 * k, 256, low, batch, words, ends, &mut list);
     }
     take_faces(
-        corners,
-        spans,
-        from,
-        faces - from,
+        faces,
+        n / 256 * 256,
+        n % 256,
         low,
         batch,
         words,
         ends,
         &mut list,
     )
-}
-
-// The same, by spans that are made here.
-pub fn gather(
-    corners: &[u32],
-    low: u64,
-    empty: Batch,
-    words: &mut [u64],
-    ends: &mut [u64; 384],
-) -> Batch
-    requires fact_1 { length corners.now ≤ 6291456 }
-    requires fact_2 { Below 1048576 corners.now }
-    requires fact_3 { Gathered corners.now low empty words.old 0 }
-    ensures { (result.end ≤ empty.end)
-        × Gathered corners.now low result words.new (length corners.now) }
-{
-    let mut spans = [0u32; 2049];
-    summarize(corners, &mut spans);
-    gather_by_spans(corners, &spans, low, empty, words, ends)
 }

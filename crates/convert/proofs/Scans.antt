@@ -9,6 +9,7 @@ use lib.Dec.{eqb}
 use lib.ListN.{length}
 use lib.Ieee.{Float}
 use borrow.Author.Tests.{eqb-true, eqb-false}
+use Rattle.std.proofs.Math.Decide.{dec_lt}
 use Rattle.text.specs.Text.{Text, lost, left, Got, rest, got}
 use Rattle.text.specs.TextLaws.{rest_out, rest_end, rest_all, rest_cons, rest-none}
 use Rattle.convert.specs.Loaders.{alike, all_alike_lem}
@@ -124,12 +125,10 @@ module _ (s : List ℕ) (d : Float) where
       found z (ap (λ (m : ℕ). file_lines m (rest s k)) e ∙ none_asked (rest s k))
 
 -- whether a position is the text's end
-pub ended_is : (s : List ℕ) (k : ℕ) → length s ≤ k → eqb k (length s) ≡ ended (rest s k)
-ended_is s k h = go (eqb k (length s)) refl
+pub ended_is : (s : List ℕ) (k : ℕ) → eqb k (length s) ≡ ended (rest s k)
+ended_is s k = go (eqb k (length s)) refl (dec_lt k (length s))
   where
-    go : (b : Bool) → eqb k (length s) ≡ b → b ≡ ended (rest s k)
-    go true e = sym (ap (λ (j : ℕ). ended (rest s j)) (eqb-true k (length s) e) ∙ ap ended (rest_end s))
-    go false e = let n = eqb-false k (length s) e in sym (ap ended (rest_out s k (omega (arith, n))))
-
-pub not-ended : (s : List ℕ) (k : ℕ) → k < length s → false ≡ ended (rest s k)
-not-ended s k h = sym (ap ended (rest_cons s k h))
+    go : (b : Bool) → eqb k (length s) ≡ b → Dec (k < length s) → b ≡ ended (rest s k)
+    go true e d = sym (ap (λ (j : ℕ). ended (rest s j)) (eqb-true k (length s) e) ∙ ap ended (rest_end s))
+    go false e (yes h) = sym (ap ended (rest_cons s k h))
+    go false e (no h) = let n = eqb-false k (length s) e in sym (ap ended (rest_out s k (omega (arith, n, h))))

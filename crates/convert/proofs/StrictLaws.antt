@@ -1,21 +1,21 @@
 -- The strict form holds to both loaders, by the laws of the single kernels. Assumes nothing.
+use Rattle.std.specs.Result.{result_and}
 use Rattle.std.proofs.Math.Path.{◌≡◌, refl}
 use Rattle.std.proofs.Common.{arith}
-use Rattle.std.specs.Prelude.{Bool, cond, ℕ, ◌*◌, T, leb, Float}
+use Rattle.std.specs.Prelude.{Bool, cond, ℕ, ◌*◌, T, leb, Float, Err}
 use Rattle.std.proofs.Math.Bool.{true, false}
 use mathlib.Core.List.{List, [], ◌∷◌, map}
 use Rattle.std.proofs.Math.ListN.{length}
 use Rattle.std.specs.Float.{binary64}
 use Rattle.std.specs.Float.Ieee.{fits}
-use Rattle.base.specs.Answers.{refused, counted, Outcome, outcome, guarded_run, and_then}
+use Rattle.base.specs.Answers.{refused, counted, Outcome, outcome, guarded_run, passed}
 use Rattle.base.specs.declared.refusal.Refusal.TheVariants.{BadKernelLine, ShortList, LoadersDiffer}
-use Rattle.base.specs.declared.refusal.Checked.TheVariants.{Passed, Failed}
 use Rattle.text.specs.Text.{left}
 use Rattle.convert.specs.Loaders.{loaded, all_alike_lem}
 use Rattle.convert.specs.Lines.{filed, all_lines}
 use Rattle.convert.specs.Convert.{laid_from, conversion_check, conversion}
 use Rattle.convert.specs.ConvertLaws.{all_equal, all_alike, above_equal, all_formed, Equal, AsBoth, StrictHolds}
-use Rattle.convert.specs.declared.file.Loader.TheVariants.{Native, Source, Strict}
+use Rattle.convert.specs.declared.file.Loader.TheVariants.{Native, Strict}
 
 module _ (s : List ℕ) (d : Float) (xs : List Float) where
   accepted : Equal s d → AsBoth s d xs
@@ -32,16 +32,16 @@ module _ (s : List ℕ) (d : Float) (xs : List Float) where
         go true e = absurd (n (all_equal d (filed s) g (all_formed (length s) (left s)) e))
         go false e = refl
 
-    refused-21 : (Equal s d → ⊥) → conversion_check s d Native (length xs) ≡ Passed
+    refused-21 : (Equal s d → ⊥) → conversion_check s d Native (length xs) ≡ passed
         → conversion s d Strict xs ≡ outcome (refused LoadersDiffer) xs
     unfolding conversion
     refused-21 n p = rw (not_alike n) (go (all_lines s) (leb (6 * length (filed s)) (length xs))
         (outcome (counted (length (filed s) ∷ [])) (laid_from (map (loaded Strict d) (filed s)) 0 xs)) p)
       where
-        go : (a b : Bool) (o : Outcome) → and_then (cond a Passed (Failed BadKernelLine))
-            (and_then (cond b Passed (Failed ShortList)) Passed) ≡ Passed
-            → guarded_run (and_then (cond a Passed (Failed BadKernelLine))
-            (and_then (cond b Passed (Failed ShortList)) (Failed LoadersDiffer))) xs o
+        go : (a b : Bool) (o : Outcome) → result_and (cond a passed (Err BadKernelLine))
+            (result_and (cond b passed (Err ShortList)) passed) ≡ passed
+            → guarded_run (result_and (cond a passed (Err BadKernelLine))
+            (result_and (cond b passed (Err ShortList)) (Err LoadersDiffer))) xs o
             ≡ outcome (refused LoadersDiffer) xs
         go true true o p = refl
         go true false o p = absurd (let z : ◌≡◌ {A = ℕ} 0 1 = cc in omega arith)
@@ -54,8 +54,8 @@ module _ (s : List ℕ) (d : Float) (xs : List Float) where
         (laid_from (map (loaded Strict d) (filed s)) 0 xs) h)
       where
         go : (a b c : Bool) (n : ℕ) (ys : List Float)
-            → (guarded_run (and_then (cond a Passed (Failed BadKernelLine))
-            (and_then (cond b Passed (Failed ShortList)) (cond c Passed (Failed LoadersDiffer)))) xs
+            → (guarded_run (result_and (cond a passed (Err BadKernelLine))
+            (result_and (cond b passed (Err ShortList)) (cond c passed (Err LoadersDiffer)))) xs
             (outcome (counted (n ∷ [])) ys)).reply.refusal ≡ 0 → c ≡ true
         go true true true n ys h = refl
         go true true false n ys h = absurd (omega arith)

@@ -1,9 +1,8 @@
 -- 02, L11: the converter, from bytes to a lent run. Definitions only.
-use Rattle.std.specs.Prelude.{ℕ, suc, ◌*◌, Bool, cond, List, [], ◌∷◌, map, length, Float}
-use Rattle.base.specs.Answers.{counted, Outcome, outcome, guarded_run, room_check, and_then}
+use Rattle.std.specs.Result.{result_and}
+use Rattle.std.specs.Prelude.{ℕ, suc, ◌*◌, Bool, cond, List, [], ◌∷◌, map, length, Float, Err}
+use Rattle.base.specs.Answers.{counted, Outcome, outcome, guarded_run, room_check, Checked, passed}
 use Rattle.base.specs.declared.refusal.Refusal.TheVariants.{BadKernelLine, LoadersDiffer}
-use Rattle.base.specs.declared.refusal.Checked.{Checked}
-use Rattle.base.specs.declared.refusal.Checked.TheVariants.{Passed, Failed}
 use Rattle.kernel.specs.declared.kernel.Kernel.{Kernel}
 use Rattle.kernel.specs.Kernels.{kernel_set}
 use Rattle.convert.specs.Loaders.{loaded, all_alike_lem}
@@ -13,13 +12,13 @@ use Rattle.convert.specs.declared.file.Loader.TheVariants.{Native, Source, Stric
 
 -- "20 when a line isn't of this form, ahead of 9"
 abbrev pub line_check : Bool → Checked
-line_check good = cond good Passed (Failed BadKernelLine)
+line_check good = cond good passed (Err BadKernelLine)
 
 -- "21 when the strict form finds differing kernels, after 9"
 abbrev pub strict_check : Loader → Bool → Checked
-strict_check Native same = Passed
-strict_check Source same = Passed
-strict_check Strict same = cond same Passed (Failed LoadersDiffer)
+strict_check Native same = passed
+strict_check Source same = passed
+strict_check Strict same = cond same passed (Err LoadersDiffer)
 
 -- "six floats per line, in order": kernels from place i of a run on, words past them as they were
 -- (layout's `write` would say it of all floats at once, but only where there is room, and this crate uses no store)
@@ -30,8 +29,8 @@ laid_from (k ∷ ks) i xs = laid_from ks (suc i) (kernel_set xs i k)
 -- 20, 9, 21, of the lines s and a run of so much room
 abbrev pub conversion_check : List ℕ → Float → Loader → ℕ → Checked
 conversion_check s default loader room =
-    and_then (line_check (all_lines s))
-    (and_then (room_check (6 * length (filed s)) room) (strict_check loader (all_alike_lem default (filed s))))
+    result_and (line_check (all_lines s))
+    (result_and (room_check (6 * length (filed s)) room) (strict_check loader (all_alike_lem default (filed s))))
 
 -- "writes six floats per line, in order, and answers the kernel count"
 unfoldable pub conversion : List ℕ → Float → Loader → List Float → Outcome

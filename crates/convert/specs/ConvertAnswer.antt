@@ -1,9 +1,7 @@
 -- 02's number and value for each case of a converter's answer. Definitions only.
-use Rattle.std.specs.Prelude.{[], ◌∷◌}
-use Rattle.base.specs.Answers.{Answer, refused, counted}
-use Rattle.convert.specs.declared.convert.Converted.{Converted}
-use Rattle.convert.specs.declared.convert.Converted.TheVariants.{Written, Refused}
+use Rattle.std.specs.Prelude.{ℕ, Result}
+use Rattle.base.specs.Answers.{Answer, counted_as}
+use Rattle.base.specs.declared.refusal.Refusal.{Refusal}
 
-abbrev pub converted_as : Converted → Answer
-converted_as (Written n) = counted (n ∷ [])
-converted_as (Refused r) = refused r
+abbrev pub converted_as : Result ℕ Refusal → Answer
+converted_as = counted_as

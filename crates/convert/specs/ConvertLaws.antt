@@ -1,8 +1,8 @@
 -- Theorems of the converter: the strict form "accepts exactly the lists on which both give equal kernels", there all
 -- three write the same, and a list whose exponents are above 0 is one of them. Assumes nothing.
 use Rattle.std.proofs.Math.Path.{◌≡◌, refl}
-use Rattle.std.proofs.Common.{sym, ap, ◌∙◌, inl, inr, arith, eq-eqb, eqb-true}
-use Rattle.std.specs.Prelude.{Bool, cond, ℕ, zero, suc, ◌*◌, T, leb, Float}
+use Rattle.std.proofs.Common.{sym, ap, ◌∙◌, inl, inr, eq-eqb, eqb-true}
+use Rattle.std.specs.Prelude.{Bool, cond, ℕ, zero, suc, T, Float, None, Option, Some}
 use Rattle.std.proofs.Math.Bool.{true, false, and-eq-true_iff}
 use mathlib.Core.List.{List, [], ◌∷◌, map}
 use Rattle.std.proofs.Math.ListN.{length}
@@ -10,18 +10,15 @@ use Rattle.std.specs.Float.{binary64}
 use Rattle.std.specs.Float.Ieee.{lt, fits, of_bits, to_bits}
 use Rattle.std.specs.Float.Ieee.Bits.{of_bits-to_bits, of_bits-fits}
 use Rattle.base.specs.Floats.{+0}
-use Rattle.base.specs.Answers.{refused, counted, Outcome, outcome, guarded_run, and_then}
-use Rattle.base.specs.declared.refusal.Refusal.TheVariants.{BadKernelLine, ShortList, LoadersDiffer}
-use Rattle.base.specs.declared.refusal.Checked.TheVariants.{Passed, Failed}
+use Rattle.base.specs.Answers.{refused, outcome, passed}
+use Rattle.base.specs.declared.refusal.Refusal.TheVariants.{LoadersDiffer}
 use Rattle.kernel.specs.declared.kernel.Kernel.{Kernel}
-use Rattle.kernel.specs.declared.file.Exponent.{Exponent}
-use Rattle.kernel.specs.declared.file.Exponent.TheVariants.{Given, Missing}
 use Rattle.kernel.specs.File.{exponent_or, from_file}
 use Rattle.text.specs.Text.{Text, lost, left, bytes, literal, float, pattern}
 use Rattle.text.specs.Form.{read, map as mapped, or_at}
-use Rattle.convert.specs.Loaders.{native_of, source_of, given_or, loaded, same_bits_lem, same_kernel, alike, all_alike_lem}
-use Rattle.convert.specs.Lines.{given_form, missing_form, to_exponent, file_line, file_lines, filed, all_lines}
-use Rattle.convert.specs.Convert.{laid_from, conversion_check, conversion}
+use Rattle.convert.specs.Loaders.{native_of, source_of, given_or, same_bits_lem, same_kernel, alike, all_alike_lem}
+use Rattle.convert.specs.Lines.{given_form, missing_form, to_exponent, file_line, file_lines, filed}
+use Rattle.convert.specs.Convert.{conversion_check, conversion}
 use Rattle.convert.specs.declared.file.FileKernel.{FileKernel}
 use Rattle.convert.specs.declared.file.Loader.TheVariants.{Native, Source, Strict}
 
@@ -36,23 +33,23 @@ same-is x y f g h =
     ∙ of_bits-to_bits binary64 y g
 
 -- a given exponent is of the format
-abbrev pub Formed : Exponent → Type 0
-Formed (Given alpha) = T (fits binary64 alpha)
-Formed Missing = Unit {0}
+abbrev pub Formed : Option Float → Type 0
+Formed (Some alpha) = T (fits binary64 alpha)
+Formed None = Unit {0}
 
-or-fits : (e : Exponent) (d : Float) → Formed e → T (fits binary64 d) → T (fits binary64 (exponent_or e d))
+or-fits : (e : Option Float) (d : Float) → Formed e → T (fits binary64 d) → T (fits binary64 (exponent_or e d))
 unfolding exponent_or
-or-fits (Given a) d f g = go (lt +0 a)
+or-fits (Some a) d f g = go (lt +0 a)
   where
     go : (b : Bool) → T (fits binary64 (cond b a d))
     go true = f
     go false = g
-or-fits Missing d f g = g
+or-fits None d f g = g
 
-given-fits : (e : Exponent) (d : Float) → Formed e → T (fits binary64 d) → T (fits binary64 (given_or e d))
+given-fits : (e : Option Float) (d : Float) → Formed e → T (fits binary64 d) → T (fits binary64 (given_or e d))
 unfolding given_or
-given-fits (Given a) d f g = f
-given-fits Missing d f g = g
+given-fits (Some a) d f g = f
+given-fits None d f g = g
 
 -- ---- one line
 
@@ -111,18 +108,18 @@ all_alike d (f ∷ fs) e =
     (equal_alike d f (ap (λ (l : List Kernel). first_of l (native_of d f)) e), all_alike d fs (ap others_of e))
 
 -- an exponent above 0, which both loaders keep, or a missing one, for which both take the default
-abbrev pub Above : Exponent → Type 0
-Above (Given alpha) = lt +0 alpha ≡ true
-Above Missing = Unit {0}
+abbrev pub Above : Option Float → Type 0
+Above (Some alpha) = lt +0 alpha ≡ true
+Above None = Unit {0}
 
 abbrev pub AllAbove : List FileKernel → Type 0
 AllAbove [] = Unit {0}
 AllAbove (f ∷ fs) = Above f.exponent × AllAbove fs
 
-above_same : (e : Exponent) (d : Float) → Above e → exponent_or e d ≡ given_or e d
+above_same : (e : Option Float) (d : Float) → Above e → exponent_or e d ≡ given_or e d
 unfolding exponent_or given_or
-above_same (Given a) d h = rw h refl
-above_same Missing d h = refl
+above_same (Some a) d h = rw h refl
+above_same None d h = refl
 
 pub above_equal : (d : Float) (fs : List FileKernel) → AllAbove fs → map (native_of d) fs ≡ map (source_of d) fs
 above_equal d [] h = refl
@@ -168,7 +165,7 @@ pub record StrictHolds (s : List ℕ) (d : Float) (xs : List Float) : Type 0 whe
   -- equal kernels are accepted
   pub accepts : Equal s d → AsBoth s d xs
   -- others are refused, where the native loader refuses nothing
-  pub refuses : (Equal s d → ⊥) → conversion_check s d Native (length xs) ≡ Passed
+  pub refuses : (Equal s d → ⊥) → conversion_check s d Native (length xs) ≡ passed
       → conversion s d Strict xs ≡ outcome (refused LoadersDiffer) xs
   -- what is accepted is equal, and all three give the same run
   pub only_equal : (conversion s d Strict xs).reply.refusal ≡ 0 → Equal s d × AsBoth s d xs

@@ -1,10 +1,8 @@
 -- What 20 tells apart: bytes are read whole exactly where they spell lines, each float by any of its patterns; printed
 -- lines do. Assumes nothing.
-use Rattle.std.specs.Prelude.{◌≡◌, refl, true, List, [], ◌∷◌, ◌++◌, ◌⊎◌, ℕ, zero, suc, ◌≤◌, length}
+use Rattle.std.specs.Prelude.{◌≡◌, refl, true, List, [], ◌∷◌, ◌++◌, ◌⊎◌, ℕ, zero, suc, ◌≤◌, length, Float, None, Option, Some}
 use Rattle.std.proofs.Common.{sym, ap, subst, ◌∙◌, inl, inr, arith, le_refl}
 use Rattle.std.proofs.lemmas.Bool.{false≢true}
-use Rattle.kernel.specs.declared.file.Exponent.{Exponent}
-use Rattle.kernel.specs.declared.file.Exponent.TheVariants.{Given, Missing}
 use Rattle.text.specs.Text.{Text, lost, left}
 use Rattle.text.specs.Form.{Form, end, real, either, Vals, read, print, Spells, Fit, map, say, three, ◌&◌}
 use Rattle.text.specs.FormLaws.{printed, reads, spells}
@@ -14,16 +12,16 @@ use Rattle.convert.specs.declared.file.FileKernel.{FileKernel}
 
 -- ---- a line's values, and back
 
-abbrev pub of_exponent : Exponent → Vals given_form ⊎ Vals missing_form
-of_exponent (Given alpha) = inl (alpha & tt)
-of_exponent Missing = inr tt
+abbrev pub of_exponent : Option Float → Vals given_form ⊎ Vals missing_form
+of_exponent (Some alpha) = inl (alpha & tt)
+of_exponent None = inr tt
 
 abbrev pub of_file : FileKernel → Vals kernel_form
 of_file f = f.x & f.y & f.z & f.sigma & f.w & of_exponent f.exponent & tt
 
-to_of_exponent : (e : Exponent) → to_exponent (of_exponent e, tt) ≡ e
-to_of_exponent (Given alpha) = refl
-to_of_exponent Missing = refl
+to_of_exponent : (e : Option Float) → to_exponent (of_exponent e, tt) ≡ e
+to_of_exponent (Some alpha) = refl
+to_of_exponent None = refl
 
 to_of : (f : FileKernel) → to_file (of_file f) ≡ f
 to_of f =

@@ -1,10 +1,8 @@
 -- 02, L11: "one bracket line per kernel, (kernel (c h h h) (sigma h) (w h) (alpha h)), with (alpha none) for a missing
 -- exponent", "each ending in a newline". Definitions only.
-use Rattle.std.specs.Prelude.{ℕ, zero, suc, Bool, true, false, List, [], ◌∷◌, length}
+use Rattle.std.specs.Prelude.{ℕ, zero, suc, Bool, true, false, List, [], ◌∷◌, length, Float, None, Option, Some}
 use Rattle.text.specs.Text.{Text, lost, left, Got}
 use Rattle.text.specs.Form.{Form, end, real, either, Vals, map, choose, read, say, three}
-use Rattle.kernel.specs.declared.file.Exponent.{Exponent}
-use Rattle.kernel.specs.declared.file.Exponent.TheVariants.{Given, Missing}
 use Rattle.convert.specs.declared.file.FileKernel.{FileKernel}
 
 -- ---- one line
@@ -15,16 +13,16 @@ given_form = real end
 abbrev pub missing_form : Form
 missing_form = say "none" end
 
-abbrev pub to_given : Vals given_form → Exponent
-to_given v = Given v.0
+abbrev pub to_given : Vals given_form → Option Float
+to_given v = Some v.0
 
-abbrev pub to_missing : Vals missing_form → Exponent
-to_missing v = Missing
+abbrev pub to_missing : Vals missing_form → Option Float
+to_missing v = None
 
 abbrev pub exponent_form : Form
 exponent_form = either given_form missing_form end
 
-abbrev pub to_exponent : Vals exponent_form → Exponent
+abbrev pub to_exponent : Vals exponent_form → Option Float
 to_exponent = choose to_given to_missing
 
 abbrev pub kernel_form : Form

@@ -1,11 +1,9 @@
 -- 02, L11, "One kernel file, two loaders": what each loader makes of a file kernel. Definitions only.
-use Rattle.std.specs.Prelude.{Bool, true, ◌&&◌, List, [], ◌∷◌, eqb, get_or, Float}
+use Rattle.std.specs.Prelude.{Bool, true, ◌&&◌, List, [], ◌∷◌, eqb, get_or, Float, None, Option, Some}
 use Rattle.std.specs.Float.{nan, binary64}
 use Rattle.std.specs.Float.Ieee.{to_bits}
 use Rattle.kernel.specs.declared.kernel.Kernel.{Kernel}
 use Rattle.kernel.specs.declared.file.Kilometres.{Kilometres}
-use Rattle.kernel.specs.declared.file.Exponent.{Exponent}
-use Rattle.kernel.specs.declared.file.Exponent.TheVariants.{Given, Missing}
 use Rattle.kernel.specs.File.{in_metres, from_file}
 use Rattle.convert.specs.declared.file.FileKernel.{FileKernel}
 use Rattle.convert.specs.declared.file.Loader.{Loader}
@@ -20,9 +18,9 @@ unfoldable pub native_of : Float → FileKernel → Kernel
 native_of default f = from_file (lengths_of f) f.w f.exponent default
 
 -- "`parse_density_text` keeps it": `entry.alpha.unwrap_or(file.alpha_default)`
-unfoldable pub given_or : Exponent → Float → Float
-given_or (Given alpha) default = alpha
-given_or Missing default = default
+unfoldable pub given_or : Option Float → Float → Float
+given_or (Some alpha) default = alpha
+given_or None default = default
 
 unfoldable pub source_of : Float → FileKernel → Kernel
 source_of default f =

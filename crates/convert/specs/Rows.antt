@@ -1,6 +1,6 @@
 -- What 02 and its readings say of the converter, row by row: which calls are refused, and exponents on which the
 -- loaders differ or agree. Assumes nothing.
-use Rattle.std.specs.Prelude.{◌≡◌, refl, true, false, List, [], ◌∷◌, map, ℕ, ◌*◌, ◌<◌, ◌≤◌, length, Float}
+use Rattle.std.specs.Prelude.{◌≡◌, refl, true, false, List, [], ◌∷◌, map, ℕ, ◌*◌, ◌<◌, ◌≤◌, length, Float, Some}
 use Rattle.std.proofs.Common.{sym, ◌∙◌, arith, le-leb}
 use Rattle.std.specs.Float.{nan}
 use Rattle.std.specs.Float.Ieee.{lt, of_bits, to_bits}
@@ -9,7 +9,6 @@ use Rattle.base.specs.Floats.{bits, +0}
 use Rattle.base.specs.Constants.{one}
 use Rattle.base.specs.Answers.{refused, counted, outcome}
 use Rattle.base.specs.declared.refusal.Refusal.TheVariants.{BadKernelLine, ShortList}
-use Rattle.kernel.specs.declared.file.Exponent.TheVariants.{Given}
 use Rattle.kernel.specs.File.{exponent_or}
 use Rattle.convert.specs.Loaders.{native_of, source_of, given_or, loaded, alike}
 use Rattle.convert.specs.Lines.{file_lines, filed, all_lines}
@@ -57,16 +56,16 @@ no_lines d Strict xs = rw (le-leb 0 (length xs) (omega arith)) refl
 -- ---- exponents that are not above 0
 
 -- -0 given and the default +0: other bits
-pub zeros_differ : (f : FileKernel) → f.exponent ≡ Given (bits 0x8000_0000_0000_0000) → alike +0 f ≡ false
+pub zeros_differ : (f : FileKernel) → f.exponent ≡ Some (bits 0x8000_0000_0000_0000) → alike +0 f ≡ false
 unfolding exponent_or given_or to_bits lt of_bits
 zeros_differ f e = sym (alike_by_exponent +0 f) ∙ rw e refl
 
 -- a NaN given and the default NaN: NaN is one
-pub nans_agree : (f : FileKernel) → f.exponent ≡ Given nan → alike nan f ≡ true
+pub nans_agree : (f : FileKernel) → f.exponent ≡ Some nan → alike nan f ≡ true
 unfolding exponent_or given_or to_bits lt of_bits
 nans_agree f e = sym (alike_by_exponent nan f) ∙ rw e refl
 
 -- a NaN given and another default: native replaces it, source keeps it
-pub nan_differs : (f : FileKernel) → f.exponent ≡ Given nan → alike one f ≡ false
+pub nan_differs : (f : FileKernel) → f.exponent ≡ Some nan → alike one f ≡ false
 unfolding exponent_or given_or to_bits lt of_bits
 nan_differs f e = sym (alike_by_exponent one f) ∙ rw e refl

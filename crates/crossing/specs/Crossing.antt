@@ -1,14 +1,13 @@
 -- What crosses to C: of each answer its number, 01's (0 where the call is not refused), beside its values, 0 where it
 -- has none. Definitions only.
-use Rattle.std.specs.Prelude.{ℕ, ◌+◌, cond, List, eqb, get_or, Float}
+use Rattle.std.specs.Prelude.{ℕ, ◌+◌, List, get_or, Float}
 use Rattle.base.specs.Answers.{Answer, Outcome}
 use Rattle.base.specs.Floats.{+0}
 use Rattle.kernel.specs.declared.kernel.Kernel.{Kernel}
-use Rattle.kernel.specs.declared.file.Exponent.{Exponent}
-use Rattle.kernel.specs.declared.file.Exponent.TheVariants.{Given, Missing}
 use Rattle.kernel.specs.File.{from_file}
 use Rattle.pieces.specs.declared.fit.Fit.{Fit}
 use Rattle.pieces.specs.FitEnd.{kind_of, column_of, pivot_told}
+use Rattle.crossing.specs.Sources.{optional}
 use Rattle.crossing.specs.declared.kernels.CauchyFileKernel.{CauchyFileKernel}
 use Rattle.crossing.specs.declared.kernels.CauchySolved.{CauchySolved}
 use Rattle.crossing.specs.declared.kernels.CauchyFit.{CauchyFit}
@@ -35,12 +34,9 @@ number_from a = a.refusal
 abbrev pub solved_from : Answer → CauchySolved
 solved_from a = record { no = a.refusal; column = get_or a.counts 0 0; pivot = get_or a.floats 0 +0 }
 
--- ---- a file's kernel: the exponent is missing where `given` is 0
-abbrev pub exponent_of : ℕ → Float → Exponent
-exponent_of given alpha = cond (eqb given 0) Missing (Given alpha)
-
+-- ---- a file's kernel, whose exponent may be missing
 abbrev pub crossed_kernel : CauchyFileKernel → Float → Kernel
-crossed_kernel k default = from_file (k.c, k.sigma) k.w (exponent_of k.given k.alpha) default
+crossed_kernel k default = from_file (k.c, k.sigma) k.w (optional k.given k.alpha) default
 
 -- ---- how a fit ended
 abbrev pub fit_crossed : Fit → CauchyFit

@@ -3,7 +3,7 @@ ghost use Rattle.std.specs.Prelude.{◌≡◌};
 ghost use Rattle.bill.specs.BillAnswer.{billed};
 ghost use Rattle.crossing.specs.Bills.{bill_from};
 
-use base::refusal::refusal_number;
+use base::refusal::Refusal;
 use bill::Billed;
 
 // The number, then the most steps that puts of the kernels charge, and the most floats that a list of them
@@ -16,19 +16,21 @@ pub struct CauchyBill {
     pub floats: u64,
 }
 
-pub fn bill_of(b: Billed) -> CauchyBill
-    ensures { result ≡ bill_from (billed b) }
-{
-    match b {
-        Billed::Due { steps, floats } => CauchyBill {
-            no: 0,
-            steps,
-            floats,
-        },
-        Billed::Refused(r) => CauchyBill {
-            no: refusal_number(r),
-            steps: 0,
-            floats: 0,
-        },
+impl From<Result<Billed, Refusal>> for CauchyBill {
+    ghost from_gives = { λ answer c. c ≡ bill_from (billed answer) };
+
+    fn from(answer: Result<Billed, Refusal>) -> CauchyBill {
+        match answer {
+            Ok(bill) => CauchyBill {
+                no: 0,
+                steps: bill.steps,
+                floats: bill.floats,
+            },
+            Err(refusal) => CauchyBill {
+                no: u32::from(refusal),
+                steps: 0,
+                floats: 0,
+            },
+        }
     }
 }

@@ -1,36 +1,17 @@
-// What C gets of a conversion of a kernel file, and the loader that it names by a number.
+// The loader of a kernel file that C names by a number.
 ghost use Rattle.std.specs.Prelude.{◌≡◌};
-ghost use Rattle.convert.specs.ConvertAnswer.{converted_as};
-ghost use Rattle.crossing.specs.Files.{converted_from, loader_of};
+ghost use Rattle.crossing.specs.Files.{loader_of};
 
-use crate::sources::CauchyKernels;
-use base::refusal::refusal_number;
-use convert::convert::Converted;
 use convert::file::Loader;
 
-pub fn converted_of(o: Converted) -> CauchyKernels
-    ensures { result ≡ converted_from (converted_as o) }
-{
-    match o {
-        Converted::Written(n) => CauchyKernels {
-            no: 0,
-            kernels: n as u64,
-        },
-        Converted::Refused(r) => CauchyKernels {
-            no: refusal_number(r),
-            kernels: 0,
-        },
-    }
-}
-
+// No `From`: the numbers are C's, and the loader another crate's.
+#[tactic(auto, unfolding(crate::specs::Files::loader_of))]
 pub fn loader_of(loader: u32) -> Loader
     ensures { result ≡ loader_of loader }
 {
-    if loader == 0 {
-        return Loader::Native;
+    match loader {
+        0 => Loader::Native,
+        1 => Loader::Source,
+        _ => Loader::Strict,
     }
-    if loader == 1 {
-        return Loader::Source;
-    }
-    Loader::Strict
 }

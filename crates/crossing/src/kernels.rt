@@ -4,14 +4,13 @@ ghost use Rattle.std.specs.Prelude.{◌≡◌};
 ghost use Rattle.solve.specs.Solve.{solved_as};
 ghost use Rattle.pieces.specs.Kernels.{decomposed_as};
 ghost use Rattle.pieces.specs.Lists.{listed_as};
-ghost use Rattle.crossing.specs.Crossing.{solved_from, exponent_of, fit_crossed, no_fit, kernel_pieces_from, list_pieces_from};
+ghost use Rattle.crossing.specs.Crossing.{solved_from, fit_crossed, no_fit, kernel_pieces_from, list_pieces_from};
 
-use base::refusal::{Refusal, refusal_number};
-use kernel::file::Exponent;
+use base::refusal::Refusal;
 use pieces::fit::Fit;
 use pieces::kernels::Decomposed;
 use pieces::lists::DecomposedList;
-use solve::Solve;
+use solve::Unsolved;
 
 // A kernel as its file has it, lengths in kilometres. The exponent is missing where `given` is 0.
 #[repr(C)]
@@ -66,62 +65,56 @@ pub struct CauchyListPieces {
     pub error: f64,
 }
 
-pub fn solved_of(s: Solve) -> CauchySolved
-    ensures { result ≡ solved_from (solved_as s) }
-{
-    match s {
-        Solve::Solved(pivot) => CauchySolved {
-            no: 0,
-            column: 0,
-            pivot,
-        },
-        Solve::Flat(column) => CauchySolved {
-            no: refusal_number(Refusal::FlatPivot),
-            column,
-            pivot: 0.0,
-        },
-        Solve::Refused(r) => CauchySolved {
-            no: refusal_number(r),
-            column: 0,
-            pivot: 0.0,
-        },
+impl From<Result<f64, Unsolved>> for CauchySolved {
+    ghost from_gives = { λ answer c. c ≡ solved_from (solved_as answer) };
+
+    fn from(answer: Result<f64, Unsolved>) -> CauchySolved {
+        match answer {
+            Ok(pivot) => CauchySolved {
+                no: 0,
+                column: 0,
+                pivot,
+            },
+            Err(Unsolved::Flat(flat)) => CauchySolved {
+                no: u32::from(Refusal::FlatPivot),
+                column: flat.column,
+                pivot: 0.0,
+            },
+            Err(Unsolved::Refused(refusal)) => CauchySolved {
+                no: u32::from(refusal),
+                column: 0,
+                pivot: 0.0,
+            },
+        }
     }
 }
 
-pub fn exponent_of(given: u32, alpha: f64) -> Exponent
-    ensures { result ≡ exponent_of given alpha }
-{
-    if given == 0 {
-        return Exponent::Missing;
-    }
-    Exponent::Given(alpha)
-}
+impl From<Fit> for CauchyFit {
+    ghost from_gives = { λ fit c. c ≡ fit_crossed fit };
 
-// How a fit ended, as C gets it.
-pub fn fit_of(f: Fit) -> CauchyFit
-    ensures { result ≡ fit_crossed f }
-{
-    match f {
-        Fit::Kept => CauchyFit {
-            kind: 0,
-            column: 0,
-            pivot: 0.0,
-        },
-        Fit::Fitted(pivot) => CauchyFit {
-            kind: 1,
-            column: 0,
-            pivot,
-        },
-        Fit::Fallback(column) => CauchyFit {
-            kind: 2,
-            column,
-            pivot: 0.0,
-        },
-        Fit::NoExponent => CauchyFit {
-            kind: 3,
-            column: 0,
-            pivot: 0.0,
-        },
+    fn from(fit: Fit) -> CauchyFit {
+        match fit {
+            Fit::Kept => CauchyFit {
+                kind: 0,
+                column: 0,
+                pivot: 0.0,
+            },
+            Fit::Fitted(pivot) => CauchyFit {
+                kind: 1,
+                column: 0,
+                pivot,
+            },
+            Fit::Fallback(column) => CauchyFit {
+                kind: 2,
+                column,
+                pivot: 0.0,
+            },
+            Fit::NoExponent => CauchyFit {
+                kind: 3,
+                column: 0,
+                pivot: 0.0,
+            },
+        }
     }
 }
 
@@ -136,47 +129,44 @@ pub fn no_fit() -> CauchyFit
     }
 }
 
-pub fn pieces_of(d: Decomposed) -> CauchyPieces
-    ensures { result ≡ kernel_pieces_from (decomposed_as d) }
-{
-    match d {
-        Decomposed::Written(n, e, f) => CauchyPieces {
-            no: 0,
-            pieces: n as u64,
-            error: e,
-            fit: fit_of(f),
-        },
-        Decomposed::Refused(r) => {
-            let fit = no_fit();
-            CauchyPieces {
-                no: refusal_number(r),
+impl From<Result<Decomposed, Refusal>> for CauchyPieces {
+    ghost from_gives = { λ answer c. c ≡ kernel_pieces_from (decomposed_as answer) };
+
+    fn from(answer: Result<Decomposed, Refusal>) -> CauchyPieces {
+        match answer {
+            Ok(decomposed) => CauchyPieces {
+                no: 0,
+                pieces: decomposed.pieces as u64,
+                error: decomposed.error,
+                fit: CauchyFit::from(decomposed.fit),
+            },
+            Err(refusal) => CauchyPieces {
+                no: u32::from(refusal),
                 pieces: 0,
                 error: 0.0,
-                fit,
-            }
+                fit: no_fit(),
+            },
         }
     }
 }
 
-pub fn list_pieces_of(d: DecomposedList) -> CauchyListPieces
-    ensures { result ≡ list_pieces_from (listed_as d) }
-{
-    match d {
-        DecomposedList::Written {
-            kernels,
-            pieces,
-            error,
-        } => CauchyListPieces {
-            no: 0,
-            kernels: kernels as u64,
-            pieces: pieces as u64,
-            error,
-        },
-        DecomposedList::Refused(r) => CauchyListPieces {
-            no: refusal_number(r),
-            kernels: 0,
-            pieces: 0,
-            error: 0.0,
-        },
+impl From<Result<DecomposedList, Refusal>> for CauchyListPieces {
+    ghost from_gives = { λ answer c. c ≡ list_pieces_from (listed_as answer) };
+
+    fn from(answer: Result<DecomposedList, Refusal>) -> CauchyListPieces {
+        match answer {
+            Ok(decomposed) => CauchyListPieces {
+                no: 0,
+                kernels: decomposed.kernels as u64,
+                pieces: decomposed.pieces as u64,
+                error: decomposed.error,
+            },
+            Err(refusal) => CauchyListPieces {
+                no: u32::from(refusal),
+                kernels: 0,
+                pieces: 0,
+                error: 0.0,
+            },
+        }
     }
 }

@@ -3,7 +3,7 @@ ghost use Rattle.std.specs.Prelude.{◌≡◌};
 ghost use Rattle.reader.specs.Answers.{loaded};
 ghost use Rattle.crossing.specs.StoreCrossing.{loaded_from};
 
-use base::refusal::refusal_number;
+use base::refusal::Refusal;
 use reader::read::Loaded;
 
 // The number, then the vertices and faces of the mesh and the lines of puts that were taken.
@@ -16,21 +16,23 @@ pub struct CauchyLoaded {
     pub puts: u64,
 }
 
-pub fn loaded_of(d: Loaded) -> CauchyLoaded
-    ensures { result ≡ loaded_from (loaded d) }
-{
-    match d {
-        Loaded::Counts(verts, faces, puts) => CauchyLoaded {
-            no: 0,
-            verts,
-            faces,
-            puts,
-        },
-        Loaded::Refused(r) => CauchyLoaded {
-            no: refusal_number(r),
-            verts: 0,
-            faces: 0,
-            puts: 0,
-        },
+impl From<Result<Loaded, Refusal>> for CauchyLoaded {
+    ghost from_gives = { λ answer c. c ≡ loaded_from (loaded answer) };
+
+    fn from(answer: Result<Loaded, Refusal>) -> CauchyLoaded {
+        match answer {
+            Ok(counts) => CauchyLoaded {
+                no: 0,
+                verts: counts.verts,
+                faces: counts.faces,
+                puts: counts.puts,
+            },
+            Err(refusal) => CauchyLoaded {
+                no: u32::from(refusal),
+                verts: 0,
+                faces: 0,
+                puts: 0,
+            },
+        }
     }
 }

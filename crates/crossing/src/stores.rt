@@ -1,34 +1,24 @@
 // What C gets of each call on a store, and a convention as C gives it.
 ghost use Rattle.std.specs.Prelude.{◌≡◌};
 ghost use Rattle.store.specs.OpenAnswer.{opened};
-ghost use Rattle.store.specs.EditAnswer.{edited};
 ghost use Rattle.store.specs.PutAnswer.{placed};
 ghost use Rattle.advance.specs.AdvanceAnswer.{advanced};
 ghost use Rattle.adopt.specs.AdoptAnswer.{adopting};
-ghost use Rattle.squeeze.specs.SqueezeAnswer.{squeezed_as};
 ghost use Rattle.reports.specs.FinishedAnswer.{finished_read};
-ghost use Rattle.reports.specs.ListAnswer.{list_read};
 ghost use Rattle.reports.specs.ReportAnswer.{report_read};
-ghost use Rattle.track.specs.TrackAnswer.{track_read};
-ghost use Rattle.base.specs.Answers.{printed_as};
-ghost use Rattle.crossing.specs.Crossing.{number_from};
+ghost use Rattle.base.specs.Answers.{counted_as};
 ghost use Rattle.crossing.specs.StoreCrossing.{opened_from, placed_from, steps_from, adopted_from, squeezed_from, convention_of, store_report_from, finished_from, listed_from, track_from, bytes_from};
 
-use crate::kernels::{CauchyFit, fit_of, no_fit};
+use crate::kernels::{CauchyFit, no_fit};
 use crate::volumes::no_report;
 use adopt::adopt::Adopted;
 use advance::advance::Advanced;
-use base::refusal::{Printed, refusal_number};
+use base::refusal::Refusal;
 use density::convention::Convention;
 use density::report::MassReport;
-use reports::finished::FinishedRead;
-use reports::listing::ListRead;
-use reports::reports::ReportRead;
-use squeeze::squeeze::Squeezed;
-use store::edit::Edited;
+use reports::reports::{Finished, Totals};
 use store::open::Opened;
 use store::put::Placed;
-use track::tracks::TrackRead;
 
 // 01's number, then the vertices and faces of the mesh.
 #[repr(C)]
@@ -77,101 +67,103 @@ pub struct CauchyAdopted {
     pub left: u64,
 }
 
-pub fn opened_of(o: Opened) -> CauchyOpened
-    ensures { result ≡ opened_from (opened o) }
-{
-    match o {
-        Opened::Mesh(verts, faces) => CauchyOpened {
-            no: 0,
-            verts,
-            faces,
-        },
-        Opened::Refused(r) => CauchyOpened {
-            no: refusal_number(r),
-            verts: 0,
-            faces: 0,
-        },
-    }
-}
+impl From<Result<Opened, Refusal>> for CauchyOpened {
+    ghost from_gives = { λ answer c. c ≡ opened_from (opened answer) };
 
-pub fn placed_of(p: Placed) -> CauchyPlaced
-    ensures { result ≡ placed_from (placed p) }
-{
-    match p {
-        Placed::Needs(pieces, need, f) => CauchyPlaced {
-            no: 0,
-            pieces,
-            need,
-            fit: fit_of(f),
-        },
-        Placed::Refused(r) => {
-            let fit = no_fit();
-            CauchyPlaced {
-                no: refusal_number(r),
-                pieces: 0,
-                need: 0,
-                fit,
-            }
+    fn from(answer: Result<Opened, Refusal>) -> CauchyOpened {
+        match answer {
+            Ok(opened) => CauchyOpened {
+                no: 0,
+                verts: opened.verts,
+                faces: opened.faces,
+            },
+            Err(refusal) => CauchyOpened {
+                no: u32::from(refusal),
+                verts: 0,
+                faces: 0,
+            },
         }
     }
 }
 
-pub fn edit_number(e: Edited) -> u32
-    ensures { result ≡ number_from (edited e) }
-{
-    match e {
-        Edited::Done => 0,
-        Edited::Refused(r) => refusal_number(r),
+impl From<Result<Placed, Refusal>> for CauchyPlaced {
+    ghost from_gives = { λ answer c. c ≡ placed_from (placed answer) };
+
+    fn from(answer: Result<Placed, Refusal>) -> CauchyPlaced {
+        match answer {
+            Ok(placed) => CauchyPlaced {
+                no: 0,
+                pieces: placed.pieces,
+                need: placed.steps,
+                fit: CauchyFit::from(placed.fit),
+            },
+            Err(refusal) => CauchyPlaced {
+                no: u32::from(refusal),
+                pieces: 0,
+                need: 0,
+                fit: no_fit(),
+            },
+        }
     }
 }
 
-pub fn squeezed_of(s: Squeezed) -> CauchySqueezed
-    ensures { result ≡ squeezed_from (squeezed_as s) }
-{
-    match s {
-        Squeezed::Freed(freed) => CauchySqueezed { no: 0, freed },
-        Squeezed::Refused(r) => CauchySqueezed {
-            no: refusal_number(r),
-            freed: 0,
-        },
+impl From<Result<u32, Refusal>> for CauchySqueezed {
+    ghost from_gives = { λ answer c. c ≡ squeezed_from (counted_as answer) };
+
+    fn from(answer: Result<u32, Refusal>) -> CauchySqueezed {
+        match answer {
+            Ok(freed) => CauchySqueezed { no: 0, freed },
+            Err(refusal) => CauchySqueezed {
+                no: u32::from(refusal),
+                freed: 0,
+            },
+        }
     }
 }
 
-pub fn steps_of(a: Advanced) -> CauchySteps
-    ensures { result ≡ steps_from (advanced a) }
-{
-    match a {
-        Advanced::Steps { done, left } => CauchySteps { no: 0, done, left },
-        Advanced::Refused(r) => CauchySteps {
-            no: refusal_number(r),
-            done: 0,
-            left: 0,
-        },
+impl From<Result<Advanced, Refusal>> for CauchySteps {
+    ghost from_gives = { λ answer c. c ≡ steps_from (advanced answer) };
+
+    fn from(answer: Result<Advanced, Refusal>) -> CauchySteps {
+        match answer {
+            Ok(steps) => CauchySteps {
+                no: 0,
+                done: steps.done,
+                left: steps.left,
+            },
+            Err(refusal) => CauchySteps {
+                no: u32::from(refusal),
+                done: 0,
+                left: 0,
+            },
+        }
     }
 }
 
-pub fn adopted_of(a: Adopted) -> CauchyAdopted
-    ensures { result ≡ adopted_from (adopting a) }
-{
-    match a {
-        Adopted::Taken(pieces, left) => CauchyAdopted {
-            no: 0,
-            same_body: 1,
-            pieces,
-            left,
-        },
-        Adopted::Another => CauchyAdopted {
-            no: 0,
-            same_body: 0,
-            pieces: 0,
-            left: 0,
-        },
-        Adopted::Refused(r) => CauchyAdopted {
-            no: refusal_number(r),
-            same_body: 0,
-            pieces: 0,
-            left: 0,
-        },
+impl From<Result<Option<Adopted>, Refusal>> for CauchyAdopted {
+    ghost from_gives = { λ answer c. c ≡ adopted_from (adopting answer) };
+
+    fn from(answer: Result<Option<Adopted>, Refusal>) -> CauchyAdopted {
+        match answer {
+            Ok(Some(adopted)) => CauchyAdopted {
+                no: 0,
+                same_body: 1,
+                pieces: adopted.pieces,
+                left: adopted.left,
+            },
+            Ok(None) => CauchyAdopted {
+                no: 0,
+                same_body: 0,
+                pieces: 0,
+                left: 0,
+            },
+            Err(refusal) => CauchyAdopted {
+                no: u32::from(refusal),
+                same_body: 0,
+                pieces: 0,
+                left: 0,
+            },
+        }
     }
 }
 
@@ -232,111 +224,104 @@ pub struct CauchyBytes {
     pub bytes: u64,
 }
 
-pub fn convention_of(v: CauchyConvention) -> Convention
-    ensures { result ≡ convention_of v }
-{
-    if v.kind == 0 {
-        return Convention::Raw;
-    }
-    if v.kind == 1 {
-        return Convention::Rho0(v.bulk);
-    }
-    Convention::Mass(v.target, v.bulk)
-}
+impl From<CauchyConvention> for Convention {
+    ghost from_gives = { λ v convention. convention ≡ convention_of v };
 
-pub fn report_of(d: ReportRead) -> CauchyStoreReport
-    ensures { result ≡ store_report_from (report_read d) }
-{
-    match d {
-        ReportRead::Report {
-            mass,
-            filled,
-            pieces,
-            error,
-        } => CauchyStoreReport {
-            no: 0,
-            report: mass,
-            kernels: filled,
-            pieces,
-            error,
-        },
-        ReportRead::Refused(r) => {
-            let report = no_report();
-            CauchyStoreReport {
-                no: refusal_number(r),
-                report,
-                kernels: 0,
-                pieces: 0,
-                error: 0.0,
-            }
+    fn from(v: CauchyConvention) -> Convention {
+        match v.kind {
+            0 => Convention::Raw,
+            1 => Convention::Rho0(v.bulk),
+            _ => Convention::Mass(v.target, v.bulk),
         }
     }
 }
 
-pub fn finished_of(d: FinishedRead) -> CauchyFinished
-    ensures { result ≡ finished_from (finished_read d) }
-{
-    match d {
-        FinishedRead::Report {
-            mass,
-            filled,
-            pieces,
-            error,
-            passed,
-        } => CauchyFinished {
-            no: 0,
-            report: mass,
-            kernels: filled,
-            pieces,
-            error,
-            passed_over: passed,
-        },
-        FinishedRead::Refused(r) => {
-            let report = no_report();
-            CauchyFinished {
-                no: refusal_number(r),
-                report,
+impl From<Result<Totals, Refusal>> for CauchyStoreReport {
+    ghost from_gives = { λ answer c. c ≡ store_report_from (report_read answer) };
+
+    fn from(answer: Result<Totals, Refusal>) -> CauchyStoreReport {
+        match answer {
+            Ok(totals) => CauchyStoreReport {
+                no: 0,
+                report: totals.mass,
+                kernels: totals.filled,
+                pieces: totals.pieces,
+                error: totals.error,
+            },
+            Err(refusal) => CauchyStoreReport {
+                no: u32::from(refusal),
+                report: no_report(),
+                kernels: 0,
+                pieces: 0,
+                error: 0.0,
+            },
+        }
+    }
+}
+
+impl From<Result<Finished, Refusal>> for CauchyFinished {
+    ghost from_gives = { λ answer c. c ≡ finished_from (finished_read answer) };
+
+    fn from(answer: Result<Finished, Refusal>) -> CauchyFinished {
+        match answer {
+            Ok(finished) => CauchyFinished {
+                no: 0,
+                report: finished.totals.mass,
+                kernels: finished.totals.filled,
+                pieces: finished.totals.pieces,
+                error: finished.totals.error,
+                passed_over: finished.passed,
+            },
+            Err(refusal) => CauchyFinished {
+                no: u32::from(refusal),
+                report: no_report(),
                 kernels: 0,
                 pieces: 0,
                 error: 0.0,
                 passed_over: 0,
-            }
+            },
         }
     }
 }
 
-pub fn listed_of(d: ListRead) -> CauchyListed
-    ensures { result ≡ listed_from (list_read d) }
-{
-    match d {
-        ListRead::Pieces(pieces) => CauchyListed { no: 0, pieces },
-        ListRead::Refused(r) => CauchyListed {
-            no: refusal_number(r),
-            pieces: 0,
-        },
+impl From<Result<u32, Refusal>> for CauchyListed {
+    ghost from_gives = { λ answer c. c ≡ listed_from (counted_as answer) };
+
+    fn from(answer: Result<u32, Refusal>) -> CauchyListed {
+        match answer {
+            Ok(pieces) => CauchyListed { no: 0, pieces },
+            Err(refusal) => CauchyListed {
+                no: u32::from(refusal),
+                pieces: 0,
+            },
+        }
     }
 }
 
-pub fn track_of(d: TrackRead) -> CauchyTrack
-    ensures { result ≡ track_from (track_read d) }
-{
-    match d {
-        TrackRead::Points(points) => CauchyTrack { no: 0, points },
-        TrackRead::Refused(r) => CauchyTrack {
-            no: refusal_number(r),
-            points: 0,
-        },
+impl From<Result<u32, Refusal>> for CauchyTrack {
+    ghost from_gives = { λ answer c. c ≡ track_from (counted_as answer) };
+
+    fn from(answer: Result<u32, Refusal>) -> CauchyTrack {
+        match answer {
+            Ok(points) => CauchyTrack { no: 0, points },
+            Err(refusal) => CauchyTrack {
+                no: u32::from(refusal),
+                points: 0,
+            },
+        }
     }
 }
 
-pub fn bytes_of(d: Printed) -> CauchyBytes
-    ensures { result ≡ bytes_from (printed_as d) }
-{
-    match d {
-        Printed::Bytes(bytes) => CauchyBytes { no: 0, bytes },
-        Printed::Refused(r) => CauchyBytes {
-            no: refusal_number(r),
-            bytes: 0,
-        },
+impl From<Result<u64, Refusal>> for CauchyBytes {
+    ghost from_gives = { λ answer c. c ≡ bytes_from (counted_as answer) };
+
+    fn from(answer: Result<u64, Refusal>) -> CauchyBytes {
+        match answer {
+            Ok(bytes) => CauchyBytes { no: 0, bytes },
+            Err(refusal) => CauchyBytes {
+                no: u32::from(refusal),
+                bytes: 0,
+            },
+        }
     }
 }

@@ -5,10 +5,8 @@ ghost use Rattle.mass.specs.Calls.{located_as};
 ghost use Rattle.mass.specs.Homogeneous.{reported_as};
 ghost use Rattle.crossing.specs.Volumes.{value_from, point_from, no_report, report_from};
 
-use base::refusal::{Measured, refusal_number};
+use base::refusal::Refusal;
 use density::report::MassReport;
-use mass::calls::Located;
-use mass::homogeneous::Reported;
 use mesh::vectors::V3;
 
 // 01's number and a float.
@@ -35,31 +33,35 @@ pub struct CauchyReport {
     pub report: MassReport,
 }
 
-pub fn value_of(m: Measured) -> CauchyValue
-    ensures { result ≡ value_from (measured_as m) }
-{
-    match m {
-        Measured::Value(value) => CauchyValue { no: 0, value },
-        Measured::Refused(r) => CauchyValue {
-            no: refusal_number(r),
-            value: 0.0,
-        },
+impl From<Result<f64, Refusal>> for CauchyValue {
+    ghost from_gives = { λ answer c. c ≡ value_from (measured_as answer) };
+
+    fn from(answer: Result<f64, Refusal>) -> CauchyValue {
+        match answer {
+            Ok(value) => CauchyValue { no: 0, value },
+            Err(refusal) => CauchyValue {
+                no: u32::from(refusal),
+                value: 0.0,
+            },
+        }
     }
 }
 
-pub fn point_of(l: Located) -> CauchyPoint
-    ensures { result ≡ point_from (located_as l) }
-{
-    match l {
-        Located::At(at) => CauchyPoint { no: 0, at },
-        Located::Refused(r) => CauchyPoint {
-            no: refusal_number(r),
-            at: V3 {
-                x: 0.0,
-                y: 0.0,
-                z: 0.0,
+impl From<Result<V3, Refusal>> for CauchyPoint {
+    ghost from_gives = { λ answer c. c ≡ point_from (located_as answer) };
+
+    fn from(answer: Result<V3, Refusal>) -> CauchyPoint {
+        match answer {
+            Ok(at) => CauchyPoint { no: 0, at },
+            Err(refusal) => CauchyPoint {
+                no: u32::from(refusal),
+                at: V3 {
+                    x: 0.0,
+                    y: 0.0,
+                    z: 0.0,
+                },
             },
-        },
+        }
     }
 }
 
@@ -78,17 +80,16 @@ pub fn no_report() -> MassReport
     }
 }
 
-pub fn report_of(d: Reported) -> CauchyReport
-    ensures { result ≡ report_from (reported_as d) }
-{
-    match d {
-        Reported::Report(report) => CauchyReport { no: 0, report },
-        Reported::Refused(r) => {
-            let report = no_report();
-            CauchyReport {
-                no: refusal_number(r),
-                report,
-            }
+impl From<Result<MassReport, Refusal>> for CauchyReport {
+    ghost from_gives = { λ answer c. c ≡ report_from (reported_as answer) };
+
+    fn from(answer: Result<MassReport, Refusal>) -> CauchyReport {
+        match answer {
+            Ok(report) => CauchyReport { no: 0, report },
+            Err(refusal) => CauchyReport {
+                no: u32::from(refusal),
+                report: no_report(),
+            },
         }
     }
 }

@@ -1,10 +1,17 @@
 -- Laws of finite values and of the scale by mass. Assumes nothing.
 use Rattle.std.specs.Prelude.{◌≡◌, refl, true, false, Float}
-use Rattle.std.specs.Float.{nan, inf, fin}
+use Rattle.std.specs.Float.{nan, inf, fin, float_is_finite}
 use Rattle.std.specs.Float.Ieee.{lt}
 use Rattle.base.specs.Floats.{◌⊘◌, abs}
 use Rattle.density.specs.declared.convention.Convention.TheVariants.{Mass}
 use Rattle.density.specs.Conventions.{target_of, finite, scalable, mass_scale, applied_scale_lem}
+
+-- what is finite is what std calls so
+pub finite_is : (x : Float) → float_is_finite x ≡ finite x
+unfolding float_is_finite finite
+finite_is nan = refl
+finite_is (inf s) = refl
+finite_is (fin s m e) = refl
 
 -- what is finite is what is below the infinity in size
 pub below_infinity : (x : Float) → lt (abs x) (inf false) ≡ finite x

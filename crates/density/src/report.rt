@@ -18,6 +18,7 @@ pub struct MassReport {
 }
 
 // The report under a convention, of the unscaled pieces' mass and their density at the origin.
+#[tactic(auto, unfolding(crate::specs::Reports::report_of))]
 pub fn report_of(v: Convention, raw: f64, rho0: f64, volume: f64) -> MassReport
     ensures { result ≡ report_of v raw rho0 volume }
 {
@@ -30,11 +31,12 @@ pub fn report_of(v: Convention, raw: f64, rho0: f64, volume: f64) -> MassReport
         applied_scale: applied,
         applied_mass: raw * applied,
         target_mass: target_of(v),
-        volume: volume,
+        volume,
     }
 }
 
 // The report of a body of one density, which is taken as it is given.
+#[tactic(auto, unfolding(crate::specs::Reports::homogeneous_of))]
 pub fn homogeneous_of(bulk: f64, volume: f64) -> MassReport
     ensures { result ≡ homogeneous_of bulk volume }
 {
@@ -45,6 +47,6 @@ pub fn homogeneous_of(bulk: f64, volume: f64) -> MassReport
         applied_scale: 1.0,
         applied_mass: bulk * volume,
         target_mass: 0.0,
-        volume: volume,
+        volume,
     }
 }

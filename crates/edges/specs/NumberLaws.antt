@@ -1,8 +1,9 @@
 -- Laws of the numbers of edges, and of the words that they are put into. Assumes nothing.
 use Rattle.std.specs.Prelude.{◌≡◌, ℕ, ◌+◌, ◌*◌, ◌<◌, ◌≤◌, Bool, true, false, cond, ◌&&◌, List, length, ◌==◌, ◌≢◌}
-use Rattle.std.specs.Prelude.{nat_le, nat_lt, slice_index, slice_set, refl}
+use Rattle.std.specs.Int.{from_bool}
+use Rattle.std.specs.Prelude.{min, max, nat_le, nat_lt, slice_index, slice_set, refl}
 use Rattle.std.proofs.Common.{sym, ap, ◌∙◌, true≢false, add-zero, add-one, arith, length-set, get_or-set_same}
-use Rattle.std.proofs.Common.{get_or-set_other, le-leb, lt-ltb, leb-true, ltb-true, eqb-true}
+use Rattle.std.proofs.Common.{get_or-set_other, le-leb, lt-ltb, leb-true, leb-false, ltb-true, ltb-false, eqb-true}
 use Rattle.std.proofs.Math.Bool.{and-eq-true_iff}
 use Rattle.std.proofs.lemmas.Bool.{eqb-false}
 use Rattle.sort.specs.Order.{is, copies, Within}
@@ -30,16 +31,17 @@ put_one c low end x n xs h a b = go (nat_le low x && nat_lt x end) refl
         rw (add-zero n) (omega arith)
 
 -- ---- the number of an edge, from its lesser corner, its greater corner and its direction
-pub code_picked : (a b : ℕ) {x y z : ℕ} → x ≡ cond (nat_lt a b) a b → y ≡ cond (nat_lt a b) b a
-    → z ≡ cond (nat_lt a b) 0 1
-    → 2 * (x * 1048576 + y) + z ≡ code a b
+pub code_of : (a b : ℕ) → 2 * (min a b * 1048576 + max a b) + from_bool (nat_le b a) ≡ code a b
 unfolding code
-code_picked a b {x} {y} {z} = go (nat_lt a b)
+code_of a b = go (nat_lt a b) refl (nat_le b a) refl
   where
-    go : (t : Bool) → x ≡ cond t a b → y ≡ cond t b a → z ≡ cond t 0 1
-        → 2 * (x * 1048576 + y) + z ≡ cond t (2 * (a * 1048576 + b)) (2 * (b * 1048576 + a) + 1)
-    go true e f g = omega arith
-    go false e f g = omega arith
+    go : (t : Bool) → nat_lt a b ≡ t → (u : Bool) → nat_le b a ≡ u
+        → 2 * (min a b * 1048576 + max a b) + from_bool u
+        ≡ cond t (2 * (a * 1048576 + b)) (2 * (b * 1048576 + a) + 1)
+    go true e false f = let h = ltb-true a b e in omega arith
+    go false e true f = let h = leb-true b a f in omega arith
+    go true e true f = let h = ltb-true a b e in let g = leb-true b a f in absurd (omega arith)
+    go false e false f = let h = ltb-false a b e in let g = leb-false b a f in absurd (omega arith)
 
 -- ---- puts
 taken-one : (low end x : ℕ) → taken low end x ≤ 1

@@ -3,141 +3,113 @@
 // have room. Where few corners have many of the numbers, lots are too coarse: then a sample of the numbers is put in
 // order and divided into equal shares.
 // Internal: a function with a `requires` is called by proved code alone.
-ghost use Rattle.std.specs.Prelude.{◌≡◌, ◌<◌, ◌≤◌, length};
-ghost use Rattle.mesh.specs.Corners.{Below};
+ghost use Rattle.std.specs.Prelude.{◌<◌, ◌≤◌};
 ghost use Rattle.sort.specs.Order.{Within};
 
 use crate::numbers::put_at;
-use crate::ranges::push;
+use crate::ranges::Ends;
+use mesh::corners::Corners;
 use sort::arrange::order;
+
+// How many words the sweep has for a batch of numbers.
+pub const WORDS: usize = 61_440;
+
+// How many lots there are: each is counted in a word.
+const LOTS: usize = 32_768;
 
 // The lot of an edge's number: 32 lesser corners have one in common.
 fn lot(a: u32, b: u32) -> usize
     requires { (a < 1048576) × (b < 1048576) }
     ensures { result < 32768 }
 {
-    if a < b {
-        (a / 32) as usize
-    } else {
-        (b / 32) as usize
-    }
+    (a.min(b) / 32) as usize
 }
 
 // One more in the lot of an edge. A count may wrap, since nothing is asked of it.
-fn add_one(counts: &mut [u64], a: u32, b: u32)
-    requires { (length counts.old ≡ 61440) × (a < 1048576) × (b < 1048576) }
-    ensures { length counts.new ≡ 61440 }
+fn add_one(counts: &mut [u64; WORDS], a: u32, b: u32)
+    requires { (a < 1048576) × (b < 1048576) }
 {
     let at = lot(a, b);
-    counts[at] = std::num::wrapping_add_u64(counts[at], 1);
+    counts[at] = counts[at].wrapping_add(1);
 }
 
-// The numbers of every 5th face, counted in lots; the words are zeros before.
-fn count(corners: &[u32], counts: &mut [u64])
-    requires fact_1 { (length corners.now ≤ 6291456) × (length counts.old ≡ 61440) }
-    requires fact_2 { Below 1048576 corners.now }
-    ensures { length counts.new ≡ 61440 }
-{
-    let mut i: usize = 0;
-    while i + 2 < corners.len() {
-        let x = corners[i];
-        let y = corners[i + 1];
-        let z = corners[i + 2];
+// The numbers of every 5th face, counted in lots; the words are zeros before. By the faces' numbers, since `Below`
+// bounds a corner by its place in the whole list: of a face cut out by `chunks_exact` it would have to be proved again.
+fn count(corners: Corners, counts: &mut [u64; WORDS]) {
+    for face in (0..corners.face_count()).step_by(5) {
+        let x = corners.list[3 * face];
+        let y = corners.list[3 * face + 1];
+        let z = corners.list[3 * face + 2];
         add_one(counts, x, y);
         add_one(counts, y, z);
         add_one(counts, z, x);
-        i += 15;
     }
 }
 
-// Whether some lot has more than an eighth of what a range may have.
-fn uneven(counts: &[u64]) -> bool
-    requires { length counts.now ≡ 61440 }
-{
+// Whether some lot has more than an eighth of what a range may have. All are looked at: several at once.
+fn uneven(counts: &[u64; WORDS]) -> bool {
     let mut any = false;
-    let mut i: usize = 0;
-    while i < 32768 {
-        any = any | (1475 < counts[i]);
-        i += 1;
+    for n in &counts[..LOTS] {
+        any = any | (1475 < *n);
     }
     any
 }
 
-// The list of ends of ranges of whole lots, the last first; answers how many there are. A range has at most 11,800 of
-// the numbers that were counted, so about 59,000 of all.
-fn mark_lots(counts: &[u64], ends: &mut [u64; 384]) -> usize
-    requires { length counts.now ≡ 61440 }
-    ensures { result ≤ 384 }
-{
-    let mut depth: usize = 0;
+// The ends of ranges of whole lots, the last first. A range has at most 11,800 of the numbers that were counted, so
+// about 59,000 of all.
+fn mark_lots(counts: &[u64; WORDS]) -> Ends {
+    let mut ends = Ends::new();
     let mut sum: u64 = 0;
-    let mut left: usize = 32768;
-    while 0 < left {
-        left -= 1;
-        let n = counts[left];
-        sum = std::num::wrapping_add_u64(sum, n);
+    for (lot, n) in counts[..LOTS].iter().enumerate().rev() {
+        sum = sum.wrapping_add(*n);
         if 11_800 < sum {
-            depth = push(ends, depth, (left as u64 + 1) * 33_554_432);
-            sum = n;
+            ends.push((lot as u64 + 1) * 33_554_432);
+            sum = *n;
         }
     }
-    depth
+    ends
 }
 
-// The numbers of every 103rd face, put into words; answers how many there are.
-fn sample(corners: &[u32], words: &mut [u64]) -> usize
-    requires { (length corners.now ≤ 6291456) × (length words.old ≡ 61440) }
-    ensures { (result ≤ 61440) × (length words.new ≡ 61440)
-        × Within 0 2199023255552 words.new result }
+// The numbers of every 103rd face, put into words; answers how many there are. By the faces' numbers, as `put_at`'s
+// promise `Faced` has them.
+fn sample(corners: Corners, words: &mut [u64; WORDS]) -> usize
+    ensures { (result ≤ 61440) × Within 0 2199023255552 words.new result }
 {
     let mut n: usize = 0;
-    let mut face: usize = 0;
-    while 3 * face + 2 < corners.len() {
+    for face in (0..corners.face_count()).step_by(103) {
         n = put_at(corners, face, words, n, 0, 1_099_511_627_776);
-        face += 103;
     }
     n
 }
 
-// The list of ends made of every 520th of n words, the last first; answers how many there are. A range holds about
-// 53,560 numbers.
-fn mark(words: &[u64], n: usize, ends: &mut [u64; 384]) -> usize
-    requires { n ≤ length words.now }
-    ensures { result ≤ 384 }
-{
-    let mut depth: usize = 0;
-    let mut at = n;
-    while 520 < at {
-        at -= 520;
-        depth = push(ends, depth, words[at] / 2);
+// The ends made of every 520th of some words, the last first. A range holds about 53,560 numbers. By index, since the
+// words are counted off from the end: `rchunks` would have to leave out its last part.
+fn mark(words: &[u64]) -> Ends {
+    let mut ends = Ends::new();
+    for k in 1..words.len().div_ceil(520) {
+        ends.push(words[words.len() - 520 * k] / 2);
     }
-    depth
+    ends
 }
 
 // The ends of ranges, where there are more numbers than a batch has room for, by the sample alone.
-pub fn divide(corners: &[u32], words: &mut [u64], ends: &mut [u64; 384]) -> usize
-    requires { (length corners.now ≤ 6291456) × (length words.old ≡ 61440) }
-    ensures { (result ≤ 384) × (length words.new ≡ 61440) }
-{
-    if corners.len() <= 61_440 {
-        return 0;
+pub fn divide(corners: Corners, words: &mut [u64; WORDS]) -> Ends {
+    if corners.list.len() <= WORDS {
+        return Ends::new();
     }
     let n = sample(corners, words);
     order(words, n, 0, 2_199_023_255_552);
-    mark(words, n, ends)
+    mark(&words[..n])
 }
 
 // The ends of ranges, by the lots where these are not too coarse.
-pub fn divide_by_lots(corners: &[u32], words: &mut [u64], ends: &mut [u64; 384]) -> usize
-    requires { ((length corners.now ≤ 6291456) × (length words.old ≡ 61440)) × (Below 1048576 corners.now) }
-    ensures { (result ≤ 384) × (length words.new ≡ 61440) }
-{
-    if corners.len() <= 61_440 {
-        return 0;
+pub fn divide_by_lots(corners: Corners, words: &mut [u64; WORDS]) -> Ends {
+    if corners.list.len() <= WORDS {
+        return Ends::new();
     }
     count(corners, words);
     if !uneven(words) {
-        return mark_lots(words, ends);
+        return mark_lots(words);
     }
-    divide(corners, words, ends)
+    divide(corners, words)
 }

@@ -1,21 +1,20 @@
-// The numbers of directed edges, and those of a face put into words.
+// The numbers of directed edges, and those of a face put into words. The count n stands beside the words, since `Put`
+// and `Faced` speak of the first n of a run that is still written; low and end are two numbers and no struct, since
+// `put_at` takes them of half the size of those that `put` compares with.
 // Internal: a function with a `requires` is called by proved code alone.
-ghost use Rattle.std.specs.Prelude.{◌≡◌, ◌+◌, ◌*◌, ◌<◌, ◌≤◌, length, if◌then◌else◌, slice_index};
+ghost use Rattle.std.specs.Prelude.{◌≡◌, ◌+◌, ◌*◌, ◌<◌, ◌≤◌, length, slice_index};
 ghost use Rattle.edges.specs.Numbers.{code, Put, Faced};
 
-// x or y.
-fn pick(t: bool, x: u32, y: u32) -> u64
-    ensures { (result ≡ (if t then x else y)) × (result < 4294967296) }
-{
-    if t { x as u64 } else { y as u64 }
-}
+use mesh::corners::Corners;
 
 // The number of the edge from a to b.
+#[tactic(auto, using(crate::specs::NumberLaws::code_of))]
 fn code(a: u32, b: u32) -> u64
     ensures { result ≡ code a b }
 {
-    let up = a < b;
-    2 * (pick(up, a, b) * 1_048_576 + pick(up, b, a)) + pick(up, 0, 1)
+    let lesser = u64::from(a.min(b));
+    let greater = u64::from(a.max(b));
+    2 * (lesser * 1_048_576 + greater) + u64::from(a >= b)
 }
 
 // Word n becomes x, and counts where x is one of low .. end - 1.
@@ -24,8 +23,7 @@ fn put(words: &mut [u64], n: usize, x: u64, low: u64, end: u64) -> usize
     ensures { Put low end x words.old n words.new result }
 {
     words[n] = x;
-    let counts = (low <= x) & (x < end);
-    if counts { n + 1 } else { n }
+    n + usize::from((low <= x) & (x < end))
 }
 
 // The numbers of a face, put one after the other.
@@ -40,22 +38,22 @@ fn put_face(words: &mut [u64], n: usize, x: u32, y: u32, z: u32, low: u64, end: 
 
 // The numbers 2k or 2k + 1 of a face, with k one of low .. end - 1, put after n words; answers how many words count.
 pub fn put_at(
-    corners: &[u32],
+    corners: Corners,
     face: usize,
     words: &mut [u64],
     n: usize,
     low: u64,
     end: u64,
 ) -> usize
-    requires { (3 * face + 3 ≤ length corners.now) × (length corners.now ≤ 6291456)
-        × (n + 3 ≤ length words.old) × (low ≤ 1099511627776) × (end ≤ 1099511627776) }
-    ensures { Faced (2 * low) (2 * end) (slice_index corners.now (3 * face))
-        (slice_index corners.now (3 * face + 1)) (slice_index corners.now (3 * face + 2))
+    requires { (3 * face + 3 ≤ length corners.list.now) × (n + 3 ≤ length words.old)
+        × (low ≤ 1099511627776) × (end ≤ 1099511627776) }
+    ensures { Faced (2 * low) (2 * end) (slice_index corners.entry.list.now (3 * face))
+        (slice_index corners.entry.list.now (3 * face + 1)) (slice_index corners.entry.list.now (3 * face + 2))
         words.old n words.new result }
 {
     let i = 3 * face;
-    let x = corners[i];
-    let y = corners[i + 1];
-    let z = corners[i + 2];
+    let x = corners.list[i];
+    let y = corners.list[i + 1];
+    let z = corners.list[i + 2];
     put_face(words, n, x, y, z, 2 * low, 2 * end)
 }

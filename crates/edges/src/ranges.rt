@@ -1,50 +1,46 @@
-// The ranges that the numbers are gone through in, and where they end. A list holds the ends of ranges still to come,
-// the nearest last. Nothing is asked of its ends: they decide how many passes are made over the faces, not what is
-// answered.
+// Where the ranges that the numbers are gone through in end.
 // Internal: a function with a `requires` is called by proved code alone.
-ghost use Rattle.std.specs.Prelude.{◌≡◌, ◌<◌, ◌≤◌};
+ghost use Rattle.std.specs.Prelude.{◌<◌, ◌≤◌};
 
-// A range as far as it is gathered: how many words there are, which are all its numbers; where it ends; and how many
-// ends are listed.
-#[derive(Clone, Copy)]
-pub struct Batch {
-    pub count: usize,
-    pub end: u64,
-    pub depth: usize,
+// The ends of ranges still to come, the nearest last: the first `depth` of the list. Nothing is asked of them: they
+// decide how many passes are made over the faces, not what is answered.
+#[derive(Drop)]
+pub struct Ends {
+    list: [u64; 384],
+    depth: usize,
+    ghost in_list: { depth ≤ 384 },
 }
 
-// The list with one end more, where it has room; answers how many it then holds.
-pub fn push(ends: &mut [u64; 384], depth: usize, end: u64) -> usize
-    requires { depth ≤ 384 }
-    ensures { result ≤ 384 }
-{
-    if depth < 384 {
-        ends[depth] = end;
-        return depth + 1;
-    }
-    depth
-}
-
-// The range from low on, without a word: it ends at the last end of the list that is between low and top, else at top.
-pub fn next_range(ends: &[u64; 384], depth: usize, low: u64, top: u64) -> Batch
-    requires { (depth ≤ 384) × (low < top) }
-    ensures { (result.count ≡ 0) × (low < result.end) × (result.end ≤ top) × (result.depth ≤ 384) }
-{
-    let mut left = depth;
-    while 0 < left {
-        left -= 1;
-        let end = ends[left];
-        if (low < end) & (end < top) {
-            return Batch {
-                count: 0,
-                end,
-                depth: left,
-            };
+impl Ends {
+    // No end.
+    pub fn new() -> Self {
+        Ends {
+            list: [0; 384],
+            depth: 0,
         }
     }
-    Batch {
-        count: 0,
-        end: top,
-        depth: 0,
+
+    // One end more, where there is room.
+    pub fn push(&mut self, end: u64) {
+        if self.depth < 384 {
+            self.list[self.depth] = end;
+            self.depth += 1;
+        }
+    }
+
+    // Where the range from low on ends: at the last end that is between low and top, else at top. That end and those
+    // after it are taken off.
+    pub fn next(&mut self, low: u64, top: u64) -> u64
+        requires { low < top }
+        ensures { (low < result) × (result ≤ top) }
+    {
+        for left in (0..self.depth).rev() {
+            self.depth = left;
+            let end = self.list[left];
+            if low < end && end < top {
+                return end;
+            }
+        }
+        top
     }
 }

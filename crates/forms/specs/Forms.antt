@@ -1,13 +1,17 @@
 -- 01, "Remainder", program `bench`: the forms of its lines, and what a line means. Definitions only.
-use Rattle.std.specs.Prelude.{ℕ, List, [], ◌∷◌, ◌⊎◌}
+use Rattle.std.specs.Prelude.{ℕ, ◌≡◌, List, [], ◌∷◌, ◌⊎◌, Option, Some, None, length, get_or}
 use Rattle.std.proofs.Common.{inl, inr}
 use Rattle.text.specs.Text.{Text, lost, left}
 use Rattle.text.specs.Form.{Form, end, real, either, Vals, map, choose, read, print, say, u32, u64, followed, three, ◌&◌}
+use Rattle.base.specs.Floats.{+0}
 use Rattle.density.specs.declared.convention.Convention.{Convention}
 use Rattle.density.specs.declared.convention.Convention.TheVariants.{Raw, Rho0, Mass}
+use Rattle.forms.specs.declared.line.Put.{Put}
+use Rattle.forms.specs.declared.line.Head.{Head}
 use Rattle.forms.specs.declared.line.Line.{Line}
-use Rattle.forms.specs.declared.line.Line.TheVariants.{Bad, Open, Vert, Face, OnStore}
-use Rattle.forms.specs.declared.line.Call.TheVariants.{Put, Clear, Reweigh, Advance, Density, Report}
+use Rattle.forms.specs.declared.line.Line.TheVariants.{Open, Vert, Face, OnStore}
+use Rattle.forms.specs.declared.line.Call.TheVariants.{Put as put_call}
+use Rattle.forms.specs.declared.line.Call.TheVariants.{Clear, Reweigh, Advance, Density, Report}
 
 -- ---- "Conventions: (raw), (rho0 h), (mass h h)"
 
@@ -38,28 +42,43 @@ to_convention = choose to_raw (choose to_rho0 to_mass)
 
 -- ---- the lines
 
+-- three values in a row as an array
+abbrev pub array_of : {A B : Type 0} → A × (A × (A × B)) → List A
+array_of v = v.0 ∷ v.1.0 ∷ v.1.1.0 ∷ []
+
 abbrev pub open_form : Form
 open_form = say "(open (radius " (real (say ") (verts " (u32 (say ") (faces " (u32 (say "))" end))))))
 
+abbrev pub head_of : Vals open_form → Head
+head_of v = record { radius = v.0; verts = v.1.0; faces = v.1.1.0 }
+
 abbrev pub to_open : Vals open_form → Line
-to_open v = Open v.0 v.1.0 v.1.1.0
+to_open v = Open (head_of v)
 
 abbrev pub vert_form : Form
 vert_form = say "(vert " (three (say ")" end))
 
 abbrev pub to_vert : Vals vert_form → Line
-to_vert v = Vert v.0 v.1.0 v.1.1.0
+to_vert v = Vert (array_of v)
 
 abbrev pub face_form : Form
 face_form = say "(face " (u32 (say " " (u32 (say " " (u32 (say ")" end))))))
 
 abbrev pub to_face : Vals face_form → Line
-to_face v = Face v.0 v.1.0 v.1.1.0
+to_face v = Face (array_of v)
 
 -- a put's line up to its exponent
 abbrev pub put_start : Form
 put_start =
     say "(put " (u32 (say " (c " (three (say ") (sigma " (real (say ") (w " (real (say ") (alpha " (real end)))))))))
+
+abbrev pub put_of : Vals put_start → Put
+put_of v =
+    let after = v.1.1.1.1 in
+    record {
+      place = v.0;
+      kernel = record { c = array_of v.1; sigma = after.0; w = after.1.0; alpha = after.1.1.0 };
+    }
 
 -- and its end
 abbrev pub put_end : Form
@@ -69,10 +88,7 @@ abbrev pub put_form : Form
 put_form = followed put_start put_end
 
 abbrev pub to_put : Vals put_form → Line
-to_put v =
-    let c = v.1 in
-    let after = c.1.1.1 in
-    OnStore (Put v.0 c.0 c.1.0 c.1.1.0 after.0 after.1.0 after.1.1.0)
+to_put v = OnStore (put_call (put_of v))
 
 -- "(clear P), (reweigh P h), (report CONV)"
 abbrev pub clear_form : Form
@@ -97,7 +113,7 @@ abbrev pub density_form : Form
 density_form = say "(density " (convention (say " " (three (say ")" end))))
 
 abbrev pub to_density : Vals density_form → Line
-to_density v = OnStore (Density (to_convention (v.0, tt)) v.1.0 v.1.1.0 v.1.1.1.0)
+to_density v = OnStore (Density (to_convention (v.0, tt)) (array_of v.1))
 
 abbrev pub report_form : Form
 report_form = say "(report " (convention (say ")" end))
@@ -155,25 +171,30 @@ line_form = either open_form vert_on end
 abbrev pub to_line : Vals line_form → Line
 to_line = choose to_open to_vert_on
 
-abbrev pub if_ended : Text → Line → Line
-if_ended lost l = Bad
-if_ended (left []) l = l
-if_ended (left (b ∷ t)) l = Bad
+abbrev pub if_ended : Text → Line → Option Line
+if_ended lost l = None
+if_ended (left []) l = Some l
+if_ended (left (b ∷ t)) l = None
 
--- what a line means; "Any other line" is Bad
-unfoldable pub parse_line : List ℕ → Line
+-- what a line means; "Any other line" means nothing
+unfoldable pub parse_line : List ℕ → Option Line
 parse_line s =
     let g = map to_line (read line_form (left s)) in
     if_ended g.text g.val
 
--- ---- a good line's text
+-- ---- a line's text
 
+-- its arrays have three numbers each
 abbrev pub Good : Line → Type 0
-Good Bad = ⊥
-Good (Open r v f) = Unit {0}
-Good (Vert x y z) = Unit {0}
-Good (Face a b c) = Unit {0}
-Good (OnStore c) = Unit {0}
+Good (Open h) = Unit {0}
+Good (Vert p) = length p ≡ 3
+Good (Face k) = length k ≡ 3
+Good (OnStore (put_call p)) = length p.kernel.c ≡ 3
+Good (OnStore (Clear p)) = Unit {0}
+Good (OnStore (Reweigh p w)) = Unit {0}
+Good (OnStore (Advance n)) = Unit {0}
+Good (OnStore (Density c p)) = length p ≡ 3
+Good (OnStore (Report c)) = Unit {0}
 
 abbrev pub this : {A B : Type 0} → A → (A ⊎ B) × Unit {0}
 this v = (inl v, tt)
@@ -186,18 +207,23 @@ of_convention Raw = inl tt
 of_convention (Rho0 b) = inr (this (b & tt))
 of_convention (Mass t b) = inr (next (t & b & tt))
 
-abbrev pub of_line : (l : Line) → Good l → Vals line_form
-of_line Bad g = absurd g
-of_line (Open r v f) g = this (r & v & f & tt)
-of_line (Vert x y z) g = next (this (x & y & z & tt))
-of_line (Face a b c) g = next (next (this (a & b & c & tt)))
-of_line (OnStore (Put p x y z s w a)) g = next (next (next (this (p & x & y & z & s & w & a & tt))))
-of_line (OnStore (Clear p)) g = next (next (next (next (this (p & tt)))))
-of_line (OnStore (Reweigh p w)) g = next (next (next (next (next (this (p & w & tt))))))
-of_line (OnStore (Advance n)) g = next (next (next (next (next (next (this (n & tt)))))))
-of_line (OnStore (Density c x y z)) g =
-    next (next (next (next (next (next (next (this (of_convention c & x & y & z & tt))))))))
-of_line (OnStore (Report c)) g = next (next (next (next (next (next (next (next (of_convention c & tt))))))))
+-- the numbers of an array, and then
+abbrev pub of_array : {A B : Type 0} → A → List A → B → A × (A × (A × B))
+of_array d xs v = get_or xs 0 d & get_or xs 1 d & get_or xs 2 d & v
 
-abbrev pub print_line : (l : Line) → Good l → List ℕ
-print_line l g = print line_form (of_line l g)
+abbrev pub of_line : Line → Vals line_form
+of_line (Open h) = this (h.radius & h.verts & h.faces & tt)
+of_line (Vert p) = next (this (of_array +0 p tt))
+of_line (Face k) = next (next (this (of_array 0 k tt)))
+of_line (OnStore (put_call p)) =
+    let k = p.kernel in
+    next (next (next (this (p.place & of_array +0 k.c (k.sigma & k.w & k.alpha & tt)))))
+of_line (OnStore (Clear p)) = next (next (next (next (this (p & tt)))))
+of_line (OnStore (Reweigh p w)) = next (next (next (next (next (this (p & w & tt))))))
+of_line (OnStore (Advance n)) = next (next (next (next (next (next (this (n & tt)))))))
+of_line (OnStore (Density c p)) =
+    next (next (next (next (next (next (next (this (of_convention c & of_array +0 p tt))))))))
+of_line (OnStore (Report c)) = next (next (next (next (next (next (next (next (of_convention c & tt))))))))
+
+abbrev pub print_line : Line → List ℕ
+print_line l = print line_form (of_line l)

@@ -1,5 +1,5 @@
 -- A line by its first word: of the nine forms the one that the word names says what the line means. Assumes nothing.
-use Rattle.std.specs.Prelude.{ℕ, ◌≡◌, refl, cond, List, T}
+use Rattle.std.specs.Prelude.{ℕ, ◌≡◌, refl, cond, List, T, Option}
 use Rattle.std.proofs.Common.{◌∙◌}
 use Rattle.text.specs.Text.{Text, lost, left, Got, strip, bytes}
 use Rattle.text.specs.Form.{Form, end, either, Vals, map, choose, or_at, or, read, other, clear}
@@ -10,15 +10,15 @@ use Rattle.forms.specs.Forms.{reweigh_form, to_reweigh, advance_form, to_advance
 use Rattle.forms.specs.Forms.{vert_on, to_vert_on, face_on, to_face_on, put_on, to_put_on, clear_on, to_clear_on, reweigh_on, to_reweigh_on}
 use Rattle.forms.specs.Forms.{advance_on, to_advance_on, density_on, to_density_on, if_ended, parse_line}
 
-abbrev ended : Got Line → Line
+abbrev ended : Got Line → Option Line
 ended g = if_ended g.text g.val
 
--- a text that is of this form alone, and else Bad
-abbrev pub read_as_lem : (f : Form) → (Vals f → Line) → List ℕ → Line
+-- a text that is of this form alone, and else nothing
+abbrev pub read_as_lem : (f : Form) → (Vals f → Line) → List ℕ → Option Line
 read_as_lem f to s = ended (map to (read f (left s)))
 
 -- the same of a line that begins with no word of a mesh
-unfoldable pub call_by_word : List ℕ → Line
+unfoldable pub call_by_word : List ℕ → Option Line
 call_by_word s =
     cond (begins (bytes "(put ") s) (read_as_lem put_form to_put s)
     (cond (begins (bytes "(clear ") s) (read_as_lem clear_form to_clear s)
@@ -27,7 +27,7 @@ call_by_word s =
     (cond (begins (bytes "(density ") s) (read_as_lem density_form to_density s) (read_as_lem report_form to_report s)))))
 
 -- the form that the first word names; a line that begins with none of these words but the last is of no form
-abbrev pub by_word : List ℕ → Line
+abbrev pub by_word : List ℕ → Option Line
 by_word s =
     cond (begins (bytes "(open (radius ") s) (read_as_lem open_form to_open s)
     (cond (begins (bytes "(vert ") s) (read_as_lem vert_form to_vert s)
@@ -49,7 +49,7 @@ first_says g h e = go g.val g.text
     go v lost = λ i. if_ended (e i) h.val
     go v (left l) = refl
 
-named : (p : List ℕ) (a b : Form) (to : Vals a → Line) (on : Vals b → Line) (s : List ℕ) {y : Line}
+named : (p : List ℕ) (a b : Form) (to : Vals a → Line) (on : Vals b → Line) (s : List ℕ) {y : Option Line}
     → Leads p a → T (other p b) → T (clear b) → read_as_lem b on s ≡ y
     → read_as_lem (either a b end) (choose to on) s ≡ cond (begins p s) (read_as_lem a to s) y
 named p a b to on s l o c u =

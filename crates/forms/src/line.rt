@@ -1,31 +1,38 @@
-// What a line says. Its floats stand in it one by one, since a case of an enum holds no array.
+// What a line says.
 use density::convention::Convention;
+use kernel::kernel::Kernel;
+
+// A kernel, and the place that it is put in.
+#[derive(Clone, Copy)]
+pub struct Put {
+    pub place: u32,
+    pub kernel: Kernel,
+}
 
 // A call on the program's store.
 #[derive(Clone, Copy)]
 pub enum Call {
-    Put {
-        place: u32,
-        x: f64,
-        y: f64,
-        z: f64,
-        sigma: f64,
-        w: f64,
-        alpha: f64,
-    },
+    Put(Put),
     Clear(u32),
     Reweigh(u32, f64),
     Advance(u64),
-    Density(Convention, f64, f64, f64),
+    Density(Convention, [f64; 3]),
     Report(Convention),
 }
 
-// A line by its form: one of an opening, or a call on the store. A line of no form is Bad.
+// The first line of an opening: its radius and its counts.
+#[derive(Clone, Copy)]
+pub struct Head {
+    pub radius: f64,
+    pub verts: u32,
+    pub faces: u32,
+}
+
+// A line by its form: one of an opening, or a call on the store.
 #[derive(Clone, Copy)]
 pub enum Line {
-    Bad,
-    Open { radius: f64, verts: u32, faces: u32 },
-    Vert(f64, f64, f64),
-    Face(u32, u32, u32),
+    Open(Head),
+    Vert([f64; 3]),
+    Face([u32; 3]),
     OnStore(Call),
 }

@@ -2,7 +2,7 @@
 // that its first word names. No function here has a `requires`.
 ghost use Rattle.std.specs.Prelude.{◌≡◌};
 ghost use Rattle.text.specs.Text.{rest, got};
-ghost use Rattle.text.specs.Form.{end, map, or};
+ghost use Rattle.text.specs.Form.{end, map};
 ghost use Rattle.text.specs.Form.{read as form};
 ghost use Rattle.text.specs.FormLaws.{begins};
 ghost use Rattle.forms.specs.Forms.{raw_form, rho0_form, mass_form, convention, to_raw, to_rho0, to_mass, to_convention};
@@ -13,197 +13,152 @@ ghost use Rattle.forms.specs.Words.{call_by_word, by_word};
 use crate::line::{Call, Line};
 use crate::parts::{face, opening, put_start, read_three, vertex};
 use density::convention::Convention;
-use text::read::{read_bytes, read_float, read_u32, read_u64};
-
-// A line that was read, and the position after it.
-#[derive(Clone, Copy)]
-pub struct ReadLine {
-    pub line: Line,
-    pub at: usize,
-}
-
-// A convention that was read, and the position after it.
-#[derive(Clone, Copy)]
-pub struct ReadConvention {
-    pub rule: Convention,
-    pub at: usize,
-}
+use text::read::{Read, read_bytes, read_float, read_u32, read_u64};
 
 // (raw)
-fn read_raw(s: &[u8], at: usize) -> ReadConvention
-    ensures { got s.now result.rule result.at ≡ map to_raw (form raw_form (rest s.now at)) }
+fn read_raw(s: &[u8], at: usize) -> Read<Convention>
+    ensures { got s.now result.value result.at ≡ map to_raw (form raw_form (rest s.now at)) }
 {
-    ReadConvention {
-        rule: Convention::Raw,
+    Read {
+        value: Convention::Raw,
         at: read_bytes(s, at, b"(raw)"),
     }
 }
 
 // (rho0 h)
-fn read_rho0(s: &[u8], at: usize) -> ReadConvention
-    ensures { got s.now result.rule result.at ≡ map to_rho0 (form rho0_form (rest s.now at)) }
+fn read_rho0(s: &[u8], at: usize) -> Read<Convention>
+    ensures { got s.now result.value result.at ≡ map to_rho0 (form rho0_form (rest s.now at)) }
 {
     let b = read_float(s, read_bytes(s, at, b"(rho0 "));
-    ReadConvention {
-        rule: Convention::Rho0(b.val),
+    Read {
+        value: Convention::Rho0(b.value),
         at: read_bytes(s, b.at, b")"),
     }
 }
 
 // (mass h h)
-fn read_mass(s: &[u8], at: usize) -> ReadConvention
-    ensures { got s.now result.rule result.at ≡ map to_mass (form mass_form (rest s.now at)) }
+fn read_mass(s: &[u8], at: usize) -> Read<Convention>
+    ensures { got s.now result.value result.at ≡ map to_mass (form mass_form (rest s.now at)) }
 {
     let t = read_float(s, read_bytes(s, at, b"(mass "));
     let b = read_float(s, read_bytes(s, t.at, b" "));
-    ReadConvention {
-        rule: Convention::Mass(t.val, b.val),
+    Read {
+        value: Convention::Mass(t.value, b.value),
         at: read_bytes(s, b.at, b")"),
     }
 }
 
-// The first of two conventions where it stands, else the second.
-fn first_rule(s: &[u8], a: ReadConvention, b: ReadConvention) -> ReadConvention
-    ensures { got s.now result.rule result.at
-        ≡ or (got s.now a.rule a.at) (got s.now b.rule b.at) }
-{
-    if a.at <= s.len() { a } else { b }
-}
-
 // A convention.
-pub fn read_convention(s: &[u8], at: usize) -> ReadConvention
-    ensures { got s.now result.rule result.at
+pub fn read_convention(s: &[u8], at: usize) -> Read<Convention>
+    ensures { got s.now result.value result.at
         ≡ map to_convention (form (convention end) (rest s.now at)) }
 {
-    first_rule(
-        s,
-        read_raw(s, at),
-        first_rule(s, read_rho0(s, at), read_mass(s, at)),
-    )
+    let scaled = read_rho0(s, at).or(read_mass(s, at), s);
+    read_raw(s, at).or(scaled, s)
 }
 
 // (open (radius h) (verts V) (faces F))
-pub fn read_open(s: &[u8], at: usize) -> ReadLine
-    ensures { got s.now result.line result.at ≡ map to_open (form open_form (rest s.now at)) }
+pub fn read_open(s: &[u8], at: usize) -> Read<Line>
+    ensures { got s.now result.value result.at ≡ map to_open (form open_form (rest s.now at)) }
 {
     let h = opening(s, at);
-    ReadLine {
-        line: Line::Open {
-            radius: h.radius,
-            verts: h.verts,
-            faces: h.faces,
-        },
+    Read {
+        value: Line::Open(h.value),
         at: h.at,
     }
 }
 
 // (vert h h h)
-pub fn read_vert(s: &[u8], at: usize) -> ReadLine
-    ensures { got s.now result.line result.at ≡ map to_vert (form vert_form (rest s.now at)) }
+pub fn read_vert(s: &[u8], at: usize) -> Read<Line>
+    ensures { got s.now result.value result.at ≡ map to_vert (form vert_form (rest s.now at)) }
 {
     let p = vertex(s, at);
-    ReadLine {
-        line: Line::Vert(p.x, p.y, p.z),
+    Read {
+        value: Line::Vert(p.value),
         at: p.at,
     }
 }
 
 // (face N N N)
-pub fn read_face(s: &[u8], at: usize) -> ReadLine
-    ensures { got s.now result.line result.at ≡ map to_face (form face_form (rest s.now at)) }
+pub fn read_face(s: &[u8], at: usize) -> Read<Line>
+    ensures { got s.now result.value result.at ≡ map to_face (form face_form (rest s.now at)) }
 {
     let p = face(s, at);
-    ReadLine {
-        line: Line::Face(p.a, p.b, p.c),
+    Read {
+        value: Line::Face(p.value),
         at: p.at,
     }
 }
 
 // (put P (c h h h) (sigma h) (w h) (alpha h))
-pub fn read_put(s: &[u8], at: usize) -> ReadLine
-    ensures { got s.now result.line result.at ≡ map to_put (form put_form (rest s.now at)) }
+pub fn read_put(s: &[u8], at: usize) -> Read<Line>
+    ensures { got s.now result.value result.at ≡ map to_put (form put_form (rest s.now at)) }
 {
     let p = put_start(s, at);
-    let call = Call::Put {
-        place: p.place,
-        x: p.x,
-        y: p.y,
-        z: p.z,
-        sigma: p.sigma,
-        w: p.w,
-        alpha: p.alpha,
-    };
-    ReadLine {
-        line: Line::OnStore(call),
+    Read {
+        value: Line::OnStore(Call::Put(p.value)),
         at: read_bytes(s, p.at, b"))"),
     }
 }
 
 // (clear P)
-pub fn read_clear(s: &[u8], at: usize) -> ReadLine
-    ensures { got s.now result.line result.at
+pub fn read_clear(s: &[u8], at: usize) -> Read<Line>
+    ensures { got s.now result.value result.at
         ≡ map to_clear (form clear_form (rest s.now at)) }
 {
     let p = read_u32(s, read_bytes(s, at, b"(clear "));
-    let call = Call::Clear(p.val);
-    ReadLine {
-        line: Line::OnStore(call),
+    Read {
+        value: Line::OnStore(Call::Clear(p.value)),
         at: read_bytes(s, p.at, b")"),
     }
 }
 
 // (reweigh P h)
-pub fn read_reweigh(s: &[u8], at: usize) -> ReadLine
-    ensures { got s.now result.line result.at
+pub fn read_reweigh(s: &[u8], at: usize) -> Read<Line>
+    ensures { got s.now result.value result.at
         ≡ map to_reweigh (form reweigh_form (rest s.now at)) }
 {
     let p = read_u32(s, read_bytes(s, at, b"(reweigh "));
     let w = read_float(s, read_bytes(s, p.at, b" "));
-    let call = Call::Reweigh(p.val, w.val);
-    ReadLine {
-        line: Line::OnStore(call),
+    Read {
+        value: Line::OnStore(Call::Reweigh(p.value, w.value)),
         at: read_bytes(s, w.at, b")"),
     }
 }
 
 // (advance N)
-pub fn read_advance(s: &[u8], at: usize) -> ReadLine
-    ensures { got s.now result.line result.at
+pub fn read_advance(s: &[u8], at: usize) -> Read<Line>
+    ensures { got s.now result.value result.at
         ≡ map to_advance (form advance_form (rest s.now at)) }
 {
     let n = read_u64(s, read_bytes(s, at, b"(advance "));
-    let call = Call::Advance(n.val);
-    ReadLine {
-        line: Line::OnStore(call),
+    Read {
+        value: Line::OnStore(Call::Advance(n.value)),
         at: read_bytes(s, n.at, b")"),
     }
 }
 
 // (density CONV h h h)
-pub fn read_density(s: &[u8], at: usize) -> ReadLine
-    ensures { got s.now result.line result.at
+pub fn read_density(s: &[u8], at: usize) -> Read<Line>
+    ensures { got s.now result.value result.at
         ≡ map to_density (form density_form (rest s.now at)) }
 {
     let c = read_convention(s, read_bytes(s, at, b"(density "));
-    let rule = c.rule;
     let p = read_three(s, read_bytes(s, c.at, b" "));
-    let call = Call::Density(rule, p.x, p.y, p.z);
-    ReadLine {
-        line: Line::OnStore(call),
+    Read {
+        value: Line::OnStore(Call::Density(c.value, p.value)),
         at: read_bytes(s, p.at, b")"),
     }
 }
 
 // (report CONV)
-pub fn read_report(s: &[u8], at: usize) -> ReadLine
-    ensures { got s.now result.line result.at
+pub fn read_report(s: &[u8], at: usize) -> Read<Line>
+    ensures { got s.now result.value result.at
         ≡ map to_report (form report_form (rest s.now at)) }
 {
     let c = read_convention(s, read_bytes(s, at, b"(report "));
-    let rule = c.rule;
-    let call = Call::Report(rule);
-    ReadLine {
-        line: Line::OnStore(call),
+    Read {
+        value: Line::OnStore(Call::Report(c.value)),
         at: read_bytes(s, c.at, b")"),
     }
 }
@@ -212,13 +167,13 @@ pub fn read_report(s: &[u8], at: usize) -> ReadLine
 fn begins(s: &[u8], word: &[u8]) -> bool
     ensures { result ≡ begins word.now s.now }
 {
-    read_bytes(s, 0, word) <= s.len()
+    s.starts_with(word)
 }
 
 // A call read by the form that its first word names; one that begins with no form's word is not of the last form
 // either.
-fn read_call(s: &[u8]) -> ReadLine
-    ensures { if_ended (rest s.now result.at) result.line ≡ call_by_word s.now }
+fn read_call(s: &[u8]) -> Read<Line>
+    ensures { if_ended (rest s.now result.at) result.value ≡ call_by_word s.now }
 {
     if begins(s, b"(put ") {
         return read_put(s, 0);
@@ -239,8 +194,8 @@ fn read_call(s: &[u8]) -> ReadLine
 }
 
 // A line read by the form that its first word names.
-fn read_line(s: &[u8]) -> ReadLine
-    ensures { if_ended (rest s.now result.at) result.line ≡ by_word s.now }
+fn read_line(s: &[u8]) -> Read<Line>
+    ensures { if_ended (rest s.now result.at) result.value ≡ by_word s.now }
 {
     if begins(s, b"(open (radius ") {
         return read_open(s, 0);
@@ -254,11 +209,10 @@ fn read_line(s: &[u8]) -> ReadLine
     read_call(s)
 }
 
-// What a whole line means.
-pub fn parse_line(s: &[u8]) -> Line
+// What a whole line means; one of no form means nothing.
+pub fn parse_line(s: &[u8]) -> Option<Line>
     ensures { result ≡ parse_line s.now }
 {
     let r = read_line(s);
-    let line = r.line;
-    if r.at == s.len() { line } else { Line::Bad }
+    if r.at == s.len() { Some(r.value) } else { None }
 }

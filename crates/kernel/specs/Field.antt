@@ -1,8 +1,8 @@
 -- 01, "Volume, mass, weights", and rows 1 to 3 and 9 of the table: a mesh with a list of kernels. Definitions only.
+use Rattle.std.specs.Result.{result_and}
 use Rattle.std.specs.Prelude.{ℕ, List, get_or, Float}
 use Rattle.std.specs.Float.{nan}
-use Rattle.base.specs.Answers.{and_then}
-use Rattle.base.specs.declared.refusal.Checked.{Checked}
+use Rattle.base.specs.Answers.{Checked}
 use Rattle.kernel.specs.declared.kernel.Kernel.{Kernel}
 use Rattle.kernel.specs.Kernels.{list_check}
 use Rattle.mesh.specs.declared.vectors.V3.{V3}
@@ -14,4 +14,4 @@ centre_of k = record { x = get_or k.c 0 nan; y = get_or k.c 1 nan; z = get_or k.
 
 -- of the mesh first, then of the list
 unfoldable pub field_check : ℕ → List ℕ → List Float → Checked
-field_check coordinates corners kernels = and_then (mesh_check coordinates corners) (list_check kernels)
+field_check coordinates corners kernels = result_and (mesh_check coordinates corners) (list_check kernels)

@@ -1,12 +1,11 @@
 -- 01, "A kernel arrives" and "The store": "Functions over several kernels take c, sigma, w, alpha, six floats each".
 -- Definitions only.
-use Rattle.std.specs.Prelude.{ℕ, ◌+◌, ◌*◌, ◌%◌, cond, List, [], ◌∷◌, eqb, get_or, length, Float}
+use Rattle.base.specs.Answers.{Checked, passed}
+use Rattle.std.specs.Prelude.{ℕ, ◌+◌, ◌*◌, ◌%◌, cond, List, [], ◌∷◌, eqb, get_or, length, Float, Err}
 use Rattle.std.proofs.lemmas.List.Edits.{sets}
 use Rattle.std.specs.Float.{nan}
 use Rattle.std.specs.Float.Ieee.{neg}
 use Rattle.base.specs.declared.refusal.Refusal.TheVariants.{ShortList}
-use Rattle.base.specs.declared.refusal.Checked.{Checked}
-use Rattle.base.specs.declared.refusal.Checked.TheVariants.{Passed, Failed}
 use Rattle.kernel.specs.declared.kernel.Kernel.{Kernel}
 
 -- kernel i of a list of six floats each
@@ -21,7 +20,7 @@ kernel_at xs i =
 
 -- 9: "a kernel list given whose length isn't a multiple of 6"
 unfoldable pub list_check : List Float → Checked
-list_check kernels = cond (eqb (length kernels % 6) 0) Passed (Failed ShortList)
+list_check kernels = cond (eqb (length kernels % 6) 0) passed (Err ShortList)
 
 -- a kernel as six floats
 abbrev pub six : Kernel → List Float

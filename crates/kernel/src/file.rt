@@ -13,14 +13,9 @@ pub struct Kilometres(pub [f64; 3], pub f64);
 #[derive(Clone, Copy)]
 pub struct Metres(pub [f64; 3], pub f64);
 
-// A file's exponent.
-#[derive(Clone, Copy)]
-pub enum Exponent {
-    Given(f64),
-    Missing,
-}
-
-// The only crossing between the two units.
+// The only crossing between the two units. A function with its name, and no `From`: `in_metres` is what it is proved
+// to be, and a caller's line should say which way it crosses.
+#[tactic(auto, unfolding(crate::specs::File::in_metres))]
 pub fn to_metres(k: Kilometres) -> Metres
     ensures { result ≡ in_metres k }
 {
@@ -29,17 +24,19 @@ pub fn to_metres(k: Kilometres) -> Metres
 }
 
 // The file's exponent if it is above 0, else the default, which is taken as it is.
-pub fn exponent_or(exponent: Exponent, default: f64) -> f64
+#[tactic(auto, unfolding(crate::specs::File::exponent_or))]
+pub fn exponent_or(exponent: Option<f64>, default: f64) -> f64
     ensures { result ≡ exponent_or exponent default }
 {
     match exponent {
-        Exponent::Given(alpha) => { if alpha > 0.0 { alpha } else { default } }
-        Exponent::Missing => default,
+        Some(alpha) if alpha > 0.0 => alpha,
+        _ => default,
     }
 }
 
 // One file kernel, carried across.
-pub fn kernel_from_file(lengths: Kilometres, w: f64, exponent: Exponent, default: f64) -> Kernel
+#[tactic(auto, unfolding(crate::specs::File::from_file))]
+pub fn kernel_from_file(lengths: Kilometres, w: f64, exponent: Option<f64>, default: f64) -> Kernel
     ensures { result ≡ from_file lengths w exponent default }
 {
     let m = to_metres(lengths);

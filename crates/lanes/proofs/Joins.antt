@@ -10,7 +10,6 @@ use lib.ListN.{get_or}
 use lib.Ieee.{Float, nan}
 use Rattle.radial.specs.Radial.{radial_g}
 use Rattle.arcs.specs.Lists.{First, Of}
-use Rattle.lanes.specs.declared.mixed.Parted.{Parted}
 use Rattle.lanes.specs.Factors.{factor, All, Each}
 use Rattle.lanes.specs.Stages.{radius, AllSmall, SeriesFrom, Parting, Gathered}
 use Rattle.lanes.proofs.Points.{small_is}
@@ -30,18 +29,18 @@ pub by_radii : (sigma : Float) (xs : List Float) {ts gs : List Float} → Each (
 by_radii sigma xs e f = record { at = λ i h. f.at i h ∙ ap radial_g (e.at i h) }
 
 -- on both sides of 0.1: ds are the factors by the arc tangent in the first places, ss all in the order of the places
-pub by_parts : {ts us ds ss gs : List Float} {ps : List ℕ} (r : Parted) → Parting ts us ps r → r.flag ≡ 0
-    → First r.large (Of radial_g us) ds → SeriesFrom r.large us ds ss → Gathered ps ss gs → Each radial_g ts gs
-by_parts {us = us} {ss = ss} {ps = ps} r p e f k g =
+pub by_parts : {ts us ds ss gs : List Float} {ps : List ℕ} (large : ℕ) → Parting ts us ps large
+    → First large (Of radial_g us) ds → SeriesFrom large us ds ss → Gathered ps ss gs → Each radial_g ts gs
+by_parts {us = us} {ss = ss} {ps = ps} large p f k g =
     record {
       at = λ i l. g.at i l ∙ at_place (get_or ps i 0) (p.placed.within i l) ∙ ap radial_g (p.placed.same i l);
     }
   where
     at_place : (q : ℕ) → q < 28 → get_or ss q nan ≡ radial_g (get_or us q nan)
-    at_place q l = go (ltb q r.large) refl
+    at_place q l = go (ltb q large) refl
       where
-        go : (b : Bool) → ltb q r.large ≡ b → get_or ss q nan ≡ radial_g (get_or us q nan)
-        go true h = let y = ltb-true q r.large h in k.kept q y ∙ f.at q y
+        go : (b : Bool) → ltb q large ≡ b → get_or ss q nan ≡ radial_g (get_or us q nan)
+        go true h = let y = ltb-true q large h in k.kept q y ∙ f.at q y
         go false h =
-            let y = ltb-false q r.large h in
-            k.worked q y l ∙ small_is (get_or us q nan) ((p.small e).at q l y)
+            let y = ltb-false q large h in
+            k.worked q y l ∙ small_is (get_or us q nan) (p.back.at q l y)

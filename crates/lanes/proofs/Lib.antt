@@ -1,3 +1,4 @@
 pub mod Joins
 pub mod Parting
 pub mod Points
+pub mod Laws

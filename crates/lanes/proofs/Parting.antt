@@ -15,7 +15,6 @@ use Rattle.base.specs.FillLaws.{up_to}
 use Rattle.base.specs.Constants.{tenth}
 use Rattle.root.specs.Flags.{or-zero}
 use Rattle.arcs.specs.Stages.{Large, Low}
-use Rattle.lanes.specs.declared.mixed.Parted.{Parted}
 use Rattle.lanes.specs.Stages.{Small, AllLow, Parting}
 
 -- after i radii, n of them large, the place q is taken
@@ -178,9 +177,9 @@ module _ {ts us : List Float} {ps : List ℕ} {n flag i : ℕ} (r : PartedTo ts 
           room : p ≡ 27 + n - i → p + i ≡ 27 + n
           room v = omega (arith, r.few)
 
-pub all_parted : {ts us : List Float} {ps : List ℕ} {i : ℕ} (r : Parted) → PartedTo ts us ps r.large r.flag i
-    → 28 ≤ i → Parting ts us ps r
-all_parted {i = i} r f h =
+pub all_parted : {ts us : List Float} {ps : List ℕ} {n flag i : ℕ} → PartedTo ts us ps n flag i → 28 ≤ i → flag ≡ 0
+    → Parting ts us ps n
+all_parted {n = n} {i = i} f h e =
     record {
       few = omega (arith, f.few, f.end);
       placed =
@@ -188,10 +187,10 @@ all_parted {i = i} r f h =
             within = λ j l. (f.found j (lt_of_lt_of_le l h)).within;
             same = λ j l. (f.found j (lt_of_lt_of_le l h)).same;
           };
-      large = record { at = λ k l. (f.front k l).0 };
+      front = record { at = λ k l. (f.front k l).0 };
       low = λ w. record { at = λ k l. (f.front k l).1 w };
-      small = λ e. record { at = λ k l g. f.back e k l (past k g) };
+      back = record { at = λ k l g. f.back e k l (past k g) };
     }
   where
-    past : (k : ℕ) → r.large ≤ k → 28 + r.large ≤ k + i
+    past : (k : ℕ) → n ≤ k → 28 + n ≤ k + i
     past k g = omega arith

@@ -9,7 +9,6 @@ use Rattle.root.specs.Root.{square_root}
 use Rattle.radial.specs.Radial.{radial_gSeries, radial_g}
 use Rattle.arcs.specs.Stages.{Large, Low, StepsLeft, quotient, AllLarge as FirstLarge, AllLow as FirstLow}
 use Rattle.lanes.specs.declared.radii.Found.{Found}
-use Rattle.lanes.specs.declared.mixed.Parted.{Parted}
 use Rattle.lanes.specs.Factors.{All, Each}
 
 -- sigma times the distance, whose square is x
@@ -41,9 +40,9 @@ AllSmall ts = All (λ i t. Small t) ts
 abbrev pub AllSided : List Float → Type 0
 AllSided ts = All (λ i t. Sided t) ts
 
--- what the flags tell of the radii
-abbrev pub Radii : Float → List Float → Found → List Float → Type 0
-Radii sigma xs r ts = (r.flag ≡ 0 → Each (radius sigma) xs ts) × (r.low ≡ 0 → AllLarge ts) × (r.high ≡ 0 → AllLow ts)
+-- ts are the radii, and what was found of them
+abbrev pub Radii : Float → List Float → List Float → Found → Type 0
+Radii sigma xs ts r = Each (radius sigma) xs ts × (r.large ≡ true → AllLarge ts) × (r.low ≡ true → AllLow ts)
 
 -- tangents of angles up to 45 degrees, and what the roots are taken of
 abbrev pub Tangents : List Float → Type 0
@@ -81,14 +80,13 @@ pub record Placed (ts us : List Float) (ps : List ℕ) : Type 0 where
   pub within : (i : ℕ) → i < 28 → get_or ps i 0 < 28
   pub same : (i : ℕ) → i < 28 → get_or us (get_or ps i 0) nan ≡ get_or ts i nan
 
--- ts parted in us: those of at least 0.1 stand first, in places below r .large, and if the flag is 0 the others take
--- the series
-pub record Parting (ts us : List Float) (ps : List ℕ) (r : Parted) : Type 0 where
-  pub few : r.large ≤ 28
+-- ts parted in us: those of at least 0.1 stand first, in places below `large`, and the others take the series
+pub record Parting (ts us : List Float) (ps : List ℕ) (large : ℕ) : Type 0 where
+  pub few : large ≤ 28
   pub placed : Placed ts us ps
-  pub large : FirstLarge r.large us
-  pub low : AllLow ts → FirstLow r.large us
-  pub small : r.flag ≡ 0 → All (λ i t. r.large ≤ i → Small t) us
+  pub front : FirstLarge large us
+  pub low : AllLow ts → FirstLow large us
+  pub back : All (λ i t. large ≤ i → Small t) us
 
 -- gs are the elements of ss at the places ps
 abbrev pub Gathered : List ℕ → List Float → List Float → Type 0

@@ -1,30 +1,57 @@
 // The radial factors of 28 points at once. One loop does one step of all points and has no branch,
 // so that LLVM works on two points at a time; what a step could not do is flagged, and then the
-// points are done one by one. Internal: the steps take runs of 28 floats, and what `factors` leaves in its
-// scratch arrays is not said.
+// points are done one by one. The loops go by index, since each reads and writes several arrays in step.
+// Internal: what `factors` leaves in its scratch arrays is not said.
 #![tactic(auto)]
 
-ghost use Rattle.std.specs.Prelude.{◌≡◌, length};
+ghost use Rattle.std.specs.Prelude.{◌≡◌, true};
 ghost use Rattle.radial.specs.Radial.{radial_g};
 ghost use Rattle.lanes.specs.Factors.{Each, factor};
 ghost use Rattle.lanes.specs.Stages.{AllLarge, AllLow};
 
-use crate::large::arcs;
 use crate::mixed::mixed;
 use crate::radii::{Found, radii_of};
-use crate::series::{not_all_small, series_from};
+use crate::series::{all_small, series_from};
+use arcs::arc_factors;
 use radial::radial_g;
 use root::root;
 
-pub mod large;
 pub mod mixed;
 pub mod radii;
 pub mod series;
-pub mod sums;
+
+// A float of each of the 28 points of a block.
+pub type Block = [f64; 28];
+
+// The arrays that a block's factors are worked in. What they hold before and after does not matter: they are made
+// once, and lent for each block.
+#[derive(Drop)]
+pub struct Scratch {
+    // The radii.
+    radii: Block,
+    // The radii parted by their size, and the factors in the same order.
+    parted: Block,
+    factors: Block,
+    // What the arc tangents take: tangents, and what roots are taken of.
+    tangents: Block,
+    radicands: Block,
+}
+
+impl Scratch {
+    pub fn new() -> Scratch {
+        Scratch {
+            radii: [0.0; 28],
+            parted: [0.0; 28],
+            factors: [0.0; 28],
+            tangents: [0.0; 28],
+            radicands: [0.0; 28],
+        }
+    }
+}
 
 // The factors, one by one.
-fn one_by_one(x: &[f64], sigma: f64, g: &mut [f64])
-    requires { (length x.now ≡ 28) × (length g.old ≡ 28) }
+#[tactic(auto, using(crate::proofs::Laws::fills_all))]
+fn one_by_one(x: &Block, sigma: f64, g: &mut Block)
     ensures { Each (factor sigma) x.now g.new }
 {
     for i in 0..28usize {
@@ -32,67 +59,44 @@ fn one_by_one(x: &[f64], sigma: f64, g: &mut [f64])
     }
 }
 
-// The factors of the radii t, of which `found` tells, if the flag is 0.
-fn of_radii(
-    t: &[f64],
-    found: Found,
-    u: &mut [f64],
-    v: &mut [f64],
-    radicands: &mut [f64],
-    s: &mut [f64],
-    g: &mut [f64],
-) -> u64
-    requires { (length t.now ≡ 28) × (length u.old ≡ 28) × (length v.old ≡ 28) × (length radicands.old ≡ 28)
-        × (length s.old ≡ 28) × (length g.old ≡ 28)
-        × (found.low ≡ 0 → AllLarge t.now) × (found.high ≡ 0 → AllLow t.now) }
-    ensures { result ≡ 0 → Each radial_g t.now g.new }
+// Writes to g the factors of the radii, of which `found` tells, and answers whether it could.
+fn of_radii(found: Found, scratch: &mut Scratch, g: &mut Block) -> bool
+    requires { (found.large ≡ true → AllLarge scratch.old.radii) × (found.low ≡ true → AllLow scratch.old.radii) }
+    ensures { result ≡ true → Each radial_g scratch.old.radii g.new }
 {
-    if found.low == 0 {
-        return arcs(t, found.high, v, radicands, g);
+    if found.large {
+        return arc_factors(
+            28,
+            &scratch.radii,
+            found.low,
+            &mut scratch.tangents,
+            &mut scratch.radicands,
+            g,
+        );
     }
-    if not_all_small(t) == 0 {
-        series_from(0, t, g);
-        return 0;
+    if all_small(&scratch.radii) {
+        series_from(0, &scratch.radii, g);
+        return true;
     }
-    mixed(t, found.high, u, v, radicands, s, g)
+    mixed(found.low, scratch, g)
 }
 
-// The factors step by step, if the flag is 0.
-fn staged(
-    x: &[f64],
-    sigma: f64,
-    t: &mut [f64],
-    u: &mut [f64],
-    v: &mut [f64],
-    radicands: &mut [f64],
-    s: &mut [f64],
-    g: &mut [f64],
-) -> u64
-    requires { (length x.now ≡ 28) × (length t.old ≡ 28) × (length u.old ≡ 28) × (length v.old ≡ 28)
-        × (length radicands.old ≡ 28) × (length s.old ≡ 28) × (length g.old ≡ 28) }
-    ensures { result ≡ 0 → Each (factor sigma) x.now g.new }
+// Writes to g the factors step by step, and answers whether it could.
+fn staged(x: &Block, sigma: f64, scratch: &mut Scratch, g: &mut Block) -> bool
+    ensures { result ≡ true → Each (factor sigma) x.now g.new }
 {
-    let found = radii_of(x, sigma, radicands, g, t);
-    found.flag | of_radii(t, found, u, v, radicands, s, g)
+    match radii_of(x, sigma, &mut scratch.radicands, g, &mut scratch.radii) {
+        Some(found) => of_radii(found, scratch, g),
+        None => false,
+    }
 }
 
 // Writes to g the radial factor of each point, x being the squares of the distances, for any sigma; the arcs of a
-// sigma below 0 are worked one by one, so a caller gives its absolute value where it may. What t, u, v,
-// `radicands` and s hold before and after does not matter: they are lent so that they are made only once.
-pub fn factors(
-    x: &[f64; 28],
-    sigma: f64,
-    t: &mut [f64; 28],
-    u: &mut [f64; 28],
-    v: &mut [f64; 28],
-    radicands: &mut [f64; 28],
-    s: &mut [f64; 28],
-    g: &mut [f64; 28],
-)
+// sigma below 0 are worked one by one, so a caller gives its absolute value where it may.
+pub fn factors(x: &Block, sigma: f64, scratch: &mut Scratch, g: &mut Block)
     ensures { Each (factor sigma) x.now g.new }
 {
-    if staged(x, sigma, t, u, v, radicands, s, g) == 0 {
-        return;
+    if !staged(x, sigma, scratch, g) {
+        one_by_one(x, sigma, g);
     }
-    one_by_one(x, sigma, g);
 }

@@ -3,7 +3,7 @@
 // depends on its size: in a mesh without order the processor would guess such a branch wrong time and again. Then each
 // part is worked by its own way alone, and the factors are fetched from where their radii were put.
 // Internal: a function with a `requires` is called by proved code alone.
-ghost use Rattle.std.specs.Prelude.{◌≡◌, false, cond, ℕ, ◌<◌, get_or, length};
+ghost use Rattle.std.specs.Prelude.{◌≡◌, true, false, cond, ℕ, ◌<◌, get_or, IfSome};
 ghost use Rattle.std.specs.Float.Ieee.{le};
 ghost use Rattle.base.specs.Constants.{tenth};
 ghost use Rattle.radial.specs.Radial.{radial_g};
@@ -11,14 +11,8 @@ ghost use Rattle.lanes.specs.Factors.{Each};
 ghost use Rattle.lanes.specs.Stages.{AllLow, Small, Parting, Gathered};
 
 use crate::series::{not_small, series_from};
+use crate::{Block, Scratch};
 use arcs::arc_factors;
-
-// How many radii are at least 0.1; if the flag is 0 each other takes the series.
-#[derive(Clone, Copy)]
-pub struct Parted {
-    pub large: usize,
-    pub flag: u64,
-}
 
 // a where t is at least 0.1, else b.
 fn by_size(t: f64, a: usize, b: usize) -> usize
@@ -34,10 +28,10 @@ fn not_sided(t: f64) -> u64
     if t >= 0.1 { 0 } else { not_small(t) }
 }
 
-// The radii parted in u, their places in `places`.
-fn part(t: &[f64], u: &mut [f64], places: &mut [usize]) -> Parted
-    requires { (length t.now ≡ 28) × (length u.old ≡ 28) × (length places.old ≡ 28) }
-    ensures { Parting t.now u.new places.new result }
+// The radii parted in u, their places in `places`; answers how many are at least 0.1, or none where another does not
+// take the series.
+fn part(t: &Block, u: &mut Block, places: &mut [usize; 28]) -> Option<usize>
+    ensures { IfSome result (Parting t.now u.new places.new) }
 {
     let mut large = 0usize;
     let mut flag = 0u64;
@@ -49,13 +43,13 @@ fn part(t: &[f64], u: &mut [f64], places: &mut [usize]) -> Parted
         large = by_size(a, large + 1, large);
         flag = flag | not_sided(a);
     }
-    Parted { large, flag }
+    if flag == 0 { Some(large) } else { None }
 }
 
 // Writes to g the elements of s at the places.
-fn gather(s: &[f64], places: &[usize], g: &mut [f64])
-    requires { (length s.now ≡ 28) × (length places.now ≡ 28) × (length g.old ≡ 28)
-        × ((i : ℕ) → i < 28 → get_or places.now i 0 < 28) }
+#[tactic(auto, using(crate::proofs::Laws::fills_all))]
+fn gather(s: &Block, places: &[usize; 28], g: &mut Block)
+    requires { (i : ℕ) → i < 28 → get_or places.now i 0 < 28 }
     ensures { Gathered places.now s.now g.new }
 {
     for i in 0..28usize {
@@ -63,26 +57,29 @@ fn gather(s: &[f64], places: &[usize], g: &mut [f64])
     }
 }
 
-// The factors of the radii t, none above 1 if `high` is 0, if the flag is 0. u is for the parted radii, v and
-// `radicands` are as `arc_factors` takes them, and s is for the factors in the order of their places. The array for the
-// places is made here: no other path needs it.
-pub fn mixed(
-    t: &[f64],
-    high: u64,
-    u: &mut [f64],
-    v: &mut [f64],
-    radicands: &mut [f64],
-    s: &mut [f64],
-    g: &mut [f64],
-) -> u64
-    requires { (length t.now ≡ 28) × (length u.old ≡ 28) × (length v.old ≡ 28) × (length radicands.old ≡ 28)
-        × (length s.old ≡ 28) × (length g.old ≡ 28) × (high ≡ 0 → AllLow t.now) }
-    ensures { result ≡ 0 → Each radial_g t.now g.new }
+// Writes to g the factors of the radii, none above 1 if `low`, and answers whether it could. The array for the places
+// is made here: no other path needs it.
+pub fn mixed(low: bool, scratch: &mut Scratch, g: &mut Block) -> bool
+    requires { low ≡ true → AllLow scratch.old.radii }
+    ensures { result ≡ true → Each radial_g scratch.old.radii g.new }
 {
     let mut places = [0usize; 28];
-    let parted = part(t, u, &mut places);
-    let arc = arc_factors(parted.large, u, high, v, radicands, s);
-    series_from(parted.large, u, s);
-    gather(s, &places, g);
-    parted.flag | arc
+    let u = &mut scratch.parted;
+    let s = &mut scratch.factors;
+    match part(&scratch.radii, u, &mut places) {
+        Some(large) => {
+            let done = arc_factors(
+                large,
+                u,
+                low,
+                &mut scratch.tangents,
+                &mut scratch.radicands,
+                s,
+            );
+            series_from(large, u, s);
+            gather(s, &places, g);
+            done
+        }
+        None => false,
+    }
 }

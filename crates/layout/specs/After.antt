@@ -1,8 +1,6 @@
 -- What a call on a store leaves: its answer and the two runs. Definitions only.
-use Rattle.std.specs.Prelude.{List, ℕ, Float}
-use Rattle.base.specs.Answers.{Answer, refused}
-use Rattle.base.specs.declared.refusal.Checked.{Checked}
-use Rattle.base.specs.declared.refusal.Checked.TheVariants.{Passed, Failed}
+use Rattle.std.specs.Prelude.{List, ℕ, Float, Ok, Err}
+use Rattle.base.specs.Answers.{Answer, refused, Checked}
 
 -- its reply, the float run fs and the u32 run ws
 pub record After : Type 0 where
@@ -15,5 +13,5 @@ after r fs ws = record { reply = r; floats = fs; words = ws }
 
 -- "a refused call changes nothing"
 abbrev pub guarded : Checked → List Float → List ℕ → After → After
-guarded Passed fs ws good = good
-guarded (Failed r) fs ws good = after (refused r) fs ws
+guarded (Ok _) fs ws good = good
+guarded (Err r) fs ws good = after (refused r) fs ws

@@ -1,8 +1,9 @@
 -- Words in which the places that fail a test are empty: the other places and the mesh are as they were, and what was
 -- sound stays so. Assumes nothing.
+use Rattle.base.specs.Answers.{passed}
 use Rattle.std.proofs.Math.Path.{◌≡◌, refl}
 use Rattle.std.proofs.Common.{sym, ap, ◌∙◌, mul-le-mul, le_refl, add-one, arith, get_or-drop, ltb-true}
-use Rattle.std.specs.Prelude.{Bool, ◌&&◌, ltb, take, replicate, Float}
+use Rattle.std.specs.Prelude.{Bool, ◌&&◌, ltb, take, replicate, Float, Err}
 use Rattle.std.proofs.Math.Bool.{true, false, cond}
 use mathlib.Core.List.{List}
 use Prim.Native.Nat.{ℕ, zero, suc, ◌+◌, ◌*◌, ◌-◌, ◌≤◌, ◌<◌}
@@ -14,7 +15,6 @@ use Rattle.std.proofs.lemmas.List.{get_or-replicate}
 use Rattle.base.specs.Loops.{every}
 use Rattle.base.specs.LoopLaws.{every_at, every_all}
 use Rattle.base.specs.declared.refusal.Refusal.TheVariants.{ShortStore, Unsound}
-use Rattle.base.specs.declared.refusal.Checked.TheVariants.{Passed, Failed}
 use Rattle.mesh.specs.Checks.{vertex_limit, face_limit, all_below}
 use Rattle.layout.specs.Layout.{place_limit, layer_limit, state_from, corners_from, corners_of, verts_of, faces_of}
 use Rattle.layout.specs.Layout.{status_of, finished_of, done_of, layer_of}
@@ -241,13 +241,13 @@ module _ (q : ℕ) (three : 3 ≤ q) (test : ℕ → Bool) (fs : List Float) (ws
       (λ i h. place_sound_lem i h (every_at (place_sound_at q ws) 32 i h t.0)) in
       rw (p, hid_verts q test ws long, hid_faces q test ws long, hid_corners q test ws long, r.0, t.1) refl
 
-  pub hid-sound : store_check q fs ws ≡ Passed → store_check q fs vs ≡ Passed
+  pub hid-sound : store_check q fs ws ≡ passed → store_check q fs vs ≡ passed
   unfolding store_check
   hid-sound e = go (long_enough q fs ws) (sound q ws) refl refl e
     where
       go : (a b : Bool) → long_enough q fs ws ≡ a → sound q ws ≡ b
-          → cond a (cond b Passed (Failed Unsound)) (Failed ShortStore) ≡ Passed
-          → cond (long_enough q fs vs) (cond (sound q vs) Passed (Failed Unsound)) (Failed ShortStore) ≡ Passed
+          → cond a (cond b passed (Err Unsound)) (Err ShortStore) ≡ passed
+          → cond (long_enough q fs vs) (cond (sound q vs) passed (Err Unsound)) (Err ShortStore) ≡ passed
       go true true a b h = rw (as_long ∙ a, as-sound b) refl
       go true false a b h = absurd (let z : ◌≡◌ {A = ℕ} 0 1 = cc in omega arith)
       go false t a b h = absurd (let z : ◌≡◌ {A = ℕ} 0 1 = cc in omega arith)

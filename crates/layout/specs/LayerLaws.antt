@@ -1,11 +1,11 @@
 -- What a reading of a set of layers sees of the words: the places of the set as they are, each other place empty, and
 -- the mesh. Assumes nothing.
+use Rattle.base.specs.Answers.{passed}
 use Rattle.std.specs.Prelude.{◌≡◌, refl, Bool, true, false, cond, List, ℕ, zero, suc, ◌+◌, ◌*◌, ◌≤◌, ◌<◌, ltb, length}
 use Rattle.std.specs.Prelude.{get_or, take, drop, Float}
 use Rattle.std.proofs.Common.{mul-le-mul, mul-suc, le_refl, arith, get_or-take, length-take-le, ltb-true}
 use Rattle.base.specs.Loops.{every}
 use Rattle.base.specs.LoopLaws.{every_at}
-use Rattle.base.specs.declared.refusal.Checked.TheVariants.{Passed}
 use Rattle.layout.specs.Layout.{layer_limit, state_from, corners_from, verts_of, faces_of, status_of, finished_of}
 use Rattle.layout.specs.Layout.{done_of, layer_of}
 use Rattle.layout.specs.Soundness.{store_check}
@@ -59,7 +59,7 @@ every_layer : (l : ℕ) → l < layer_limit → in_set all_layers l ≡ true
 unfolding every
 every_layer l h = every_at (in_set all_layers) layer_limit l h refl
 
-pub all_sixteen : (q : ℕ) (fs : List Float) (ws : List ℕ) → store_check q fs ws ≡ Passed
+pub all_sixteen : (q : ℕ) (fs : List Float) (ws : List ℕ) → store_check q fs ws ≡ passed
     → in_layers q all_layers ws ≡ ws
 unfolding in_layers
 all_sixteen q fs ws e =

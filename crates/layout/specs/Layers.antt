@@ -1,8 +1,7 @@
 -- 02, L5: "Each reading takes a set of layers and sees only places in it". Definitions only.
-use Rattle.std.specs.Prelude.{Bool, cond, List, ℕ, zero, suc, ◌/◌, ◌%◌, ◌^◌, ltb, eqb, replicate}
+use Rattle.base.specs.Answers.{Checked, passed}
+use Rattle.std.specs.Prelude.{Bool, cond, List, ℕ, zero, suc, ◌/◌, ◌%◌, ◌^◌, ltb, eqb, replicate, Err}
 use Rattle.base.specs.declared.refusal.Refusal.TheVariants.{NoLayer}
-use Rattle.base.specs.declared.refusal.Checked.{Checked}
-use Rattle.base.specs.declared.refusal.Checked.TheVariants.{Passed, Failed}
 use Rattle.layout.specs.Layout.{place_limit, state_from, layer_of}
 use Rattle.layout.specs.Runs.{write}
 
@@ -16,7 +15,7 @@ all_layers = 65535
 
 -- "16 when a layer is above 15": a bit from 16 on names such a layer
 unfoldable pub layers_check : ℕ → Checked
-layers_check layers = cond (ltb layers 65536) Passed (Failed NoLayer)
+layers_check layers = cond (ltb layers 65536) passed (Err NoLayer)
 
 -- the words with the places below k that do not pass the test as clear leaves a place: empty
 unfoldable pub hiding : ℕ → (ℕ → Bool) → List ℕ → ℕ → List ℕ

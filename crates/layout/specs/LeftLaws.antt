@@ -5,8 +5,8 @@ use Rattle.std.proofs.Math.Nat.{zero-sub}
 use Rattle.layout.specs.RunLaws.{length_part}
 use Rattle.mesh.specs.Triangles.{Sound}
 use Rattle.mesh.specs.Checks.{face_limit}
-use Rattle.layout.specs.Layout.{width, coords_from, corners_from}
-use Rattle.layout.specs.SoundLaws.{Ready, Meshed}
+use Rattle.layout.specs.Layout.{width, coords_from, corners_from, status_of, finished_of}
+use Rattle.layout.specs.SoundLaws.{Ready, Meshed, Worded}
 
 -- ---- the mesh that a store holds is one that `volume_from` takes
 pub mesh_ready : (fs : List Float) (ws : List ℕ) (vs ms : ℕ) → Meshed width fs ws vs ms → (d k : ℕ) → d + k ≤ ms
@@ -28,7 +28,12 @@ mesh_ready fs ws vs ms h d k hk =
       (omega arith, omega arith),
     )
 
--- ---- the work left at a place, by values that equal its words
+-- ---- the work left at a place, of at most 16 pieces
+pub left_bound : (ws : List ℕ) (m i : ℕ) → Worded width ws m → i < 32
+    → (status_of width ws i - 1 - finished_of width ws i) * m ≤ 33554432
+left_bound ws m i w h =
+    let r = w.place i h in mul-le-mul {n₂ = 16} {m₂ = 2097152} (omega arith) (omega arith)
+
 work_bound : (q m : ℕ) → q ≤ 16 → m ≤ face_limit → q * m ≤ 33554432
 work_bound q m a b = mul-le-mul a b
 
@@ -36,6 +41,7 @@ work-low : (q m d : ℕ) → 0 < q → d ≤ m → d ≤ q * m
 work-low zero m d h l = absurd (omega arith)
 work-low (suc q) m d h l = rw (suc-mul q m) (omega arith)
 
+-- the same by values that equal a place's words; and no more faces are done than that work has
 pub left_term : (m i s n d q a b : ℕ) → Ready m i (s - 1) n d → m ≤ face_limit → q ≡ s - 1 → a ≡ n → b ≡ d → a < q
     → ((q - a) * m ≤ 33554432) × (b ≤ (q - a) * m)
 left_term m i s n d q a b r hm e f g h =

@@ -1,16 +1,17 @@
 -- Laws of a run that is written from a place on. Assumes nothing.
 use Rattle.std.specs.Prelude.{◌≡◌, ℕ, ◌+◌, ◌-◌, ◌≤◌, ◌<◌, set, replicate}
 use Rattle.std.proofs.Math.Path.{refl, sym, ap}
-use Rattle.std.proofs.Common.{◌∙◌, zero-add, add-one, length-take, length-set, take-add, take-take, take-suc, take_all}
+use Rattle.std.proofs.Common.{◌∙◌, zero-add, add-one, length-take, take-add, take-take, take_all}
 use Rattle.std.proofs.Common.{get_or-drop, get_or-append-add}
 use mathlib.Core.List.{List, [], ◌∷◌, ◌++◌, append_assoc}
 use native.Mathlib.Omega.{arith}
 use Rattle.std.proofs.Math.ListN.{length, take, drop, get_or, length-append, length-drop, take-append-drop}
 use Rattle.std.proofs.Math.ListN.{get_or-append}
-use Rattle.std.proofs.lemmas.List.{length-replicate, get_or-replicate}
+use Rattle.std.proofs.lemmas.List.{replicate_more}
 use Rattle.std.proofs.lemmas.List.Edits.{sets}
-use Rattle.std.proofs.Math.Seq.{sets-eq, drop-drop, drop_at, length-take-le, take-append_seam, drop-append_seam}
+use Rattle.std.proofs.Math.Seq.{sets-eq, drop-drop, drop_at, length-take-le, take-append_seam, drop-append_seam, take-suc-set}
 use Rattle.std.proofs.Math.Seq.{drop-append-add, take-append-add, get_or-take}
+use borrow.Rule.Slice.PartMut.{put_mid}
 use Rattle.layout.specs.Runs.{write}
 
 module _ {ℓ} {A : Type ℓ} where
@@ -61,6 +62,19 @@ module _ {A : Type 0} where
       let m = length-write l i vs (omega arith) in
       rw (← e) (sets-write (v ∷ []) (write l i vs) (i + length vs) (omega arith)
       ∙ write-more l i vs (v ∷ []) (omega arith))
+
+  -- a part of k words that is lent and given back, with vs in it
+  pub write_part : (l : List A) (i k : ℕ) (vs : List A) → length vs ≡ k → put_mid i k l vs ≡ write l i vs
+  unfolding write
+  write_part l i k vs e = rw e refl
+
+  -- one word more of those that are all v, and the whole of them
+  pub one_more : (l : List A) (i : ℕ) (v : A) → take i l ≡ replicate i v → i < length l
+      → take (i + 1) (set l i v) ≡ replicate (i + 1) v
+  one_more l i v e h = rw add-one (take-suc-set l i v h ∙ rw e (replicate_more i v ∙ rw add-one refl))
+
+  pub all_same : (l : List A) (n : ℕ) (v : A) → take n l ≡ replicate n v → length l ≡ n → l ≡ replicate n v
+  all_same l n v e h = sym (take_all n l (omega arith)) ∙ e
 
   -- nothing written
   pub write-none : (l : List A) (i : ℕ) → write l i [] ≡ l
@@ -143,36 +157,5 @@ module _ {A : Type 0} where
       rw (w, ← m) ((rw zero-add at (write-more l 0 (xs ++ ys) zs (omega arith)))
       ∙ ap (write l 0) (append_assoc xs ys zs))
 
-  -- ---- a run copied word by word: i of the words xs stand from `at` on
-  pub record Copied (l : List A) (at : ℕ) (xs : List A) (i : ℕ) (f : List A) : Type 0 where
-    pub within : i ≤ length xs
-    pub long : length f ≡ length l
-    pub same : f ≡ write l at (take i xs)
-
-  pub none_copied : (l : List A) (at : ℕ) (xs : List A) → Copied l at xs 0 l
-  none_copied l at xs = record { within = omega arith; long = refl; same = sym (write-none l at) }
-
-  module _ {l : List A} {at : ℕ} {xs : List A} {i : ℕ} {f : List A} where
-    pub one_copied : {v : A} (d : A) → Copied l at xs i f → i < length xs → at + length xs ≤ length l
-        → v ≡ get_or xs i d
-        → Copied l at xs (i + 1) (set f (at + i) v)
-    one_copied d c h b e =
-        record {
-          within = omega arith;
-          long = simp length-set c.long;
-          same = rw (c.same, e, add-one, take-suc xs i d h)
-              (write_snoc l at i (take i xs) (get_or xs i d) (length-take-le i xs (omega arith)) (omega arith));
-        }
-
-    pub all_copied : Copied l at xs i f → length xs ≤ i → f ≡ write l at xs
-    all_copied c h = c.same ∙ ap (write l at) (take_all i xs h)
-
-  -- the same of one word written n times
-  module _ (n : ℕ) (v : A) {l : List A} {at i : ℕ} {f : List A} where
-    pub one_filled : Copied l at (replicate n v) i f → i < n → at + n ≤ length l
-        → Copied l at (replicate n v) (i + 1) (set f (at + i) v)
-    one_filled c h b =
-        let e = length-replicate n v in one_copied v c (omega arith) (omega arith) (sym (get_or-replicate n i v v h))
-
-    pub all_filled : Copied l at (replicate n v) i f → n ≤ i → f ≡ write l at (replicate n v)
-    all_filled c h = all_copied c (rw length-replicate h)
+-- ---- what a fill needs
+pub ruleset fills = (write_part, one_more, all_same)

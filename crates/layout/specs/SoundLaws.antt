@@ -1,6 +1,7 @@
 -- What a store that passes its checks has; and that the offsets of 01 go together. Assumes nothing.
+use Rattle.std.specs.Result.{result_and}
 use Rattle.std.proofs.Math.Path.{◌≡◌, refl}
-use Rattle.std.specs.Prelude.{Bool, ◌&&◌, List, ℕ, suc, ◌+◌, ◌*◌, ◌-◌, ◌≤◌, ◌<◌, eqb, Float, get_or}
+use Rattle.std.specs.Prelude.{Bool, ◌&&◌, List, ℕ, suc, ◌+◌, ◌*◌, ◌-◌, ◌≤◌, ◌<◌, eqb, Float, get_or, Ok, Err}
 use Rattle.std.proofs.Math.Bool.{true, false, cond, and-eq-true_iff}
 use Rattle.std.proofs.Common.{arith, get_or-take, get_or-drop}
 use Rattle.std.proofs.Math.Decide.{dec_lt}
@@ -10,10 +11,8 @@ use Rattle.std.proofs.Math.Seq.{length-take-le}
 use borrow.Author.Tests.{ltb-true, leb-true, eqb-true}
 use Rattle.base.specs.Loops.{every}
 use Rattle.base.specs.LoopLaws.{every_at}
-use Rattle.base.specs.Answers.{and_then}
+use Rattle.base.specs.Answers.{Checked, passed}
 use Rattle.base.specs.declared.refusal.Refusal.TheVariants.{ShortStore, Unsound, NoPlace, Vacant}
-use Rattle.base.specs.declared.refusal.Checked.{Checked}
-use Rattle.base.specs.declared.refusal.Checked.TheVariants.{Passed, Failed}
 use Rattle.mesh.specs.Checks.{vertex_limit, face_limit}
 use Rattle.mesh.specs.CheckLaws.{below_each}
 use Rattle.layout.specs.Layout.{width, place_limit, piece_limit, kernel_from, pieces_from, piece_from, coords_from}
@@ -43,9 +42,9 @@ pub both : (a b : Bool) → a && b ≡ true → (a ≡ true) × (b ≡ true)
 both a b h = (and-eq-true_iff a b).0 h
 
 -- two checks, one after the other, that pass
-pub passed-both : (a b : Checked) → and_then a b ≡ Passed → (a ≡ Passed) × (b ≡ Passed)
-passed-both Passed b e = (refl, e)
-passed-both (Failed r) b e = absurd (let z : ◌≡◌ {A = ℕ} 0 1 = cc in omega arith)
+pub passed-both : (a b : Checked) → result_and a b ≡ passed → (a ≡ passed) × (b ≡ passed)
+passed-both (Ok _) b e = (refl, e)
+passed-both (Err r) b e = absurd (let z : ◌≡◌ {A = ℕ} 0 1 = cc in omega arith)
 
 -- ---- what a place has: p pieces, `fin` of them finished, and `dn` of m faces done in the next
 pub record Ready (m i p fin dn : ℕ) : Type 0 where
@@ -160,12 +159,12 @@ module _ (q : ℕ) (fs : List Float) (ws : List ℕ) where
         };
       }
 
-  pub fine : store_check q fs ws ≡ Passed → Fine q fs ws
+  pub fine : store_check q fs ws ≡ passed → Fine q fs ws
   unfolding store_check
   fine e = go (long_enough q fs ws) (sound q ws) refl refl e
     where
       go : (a b : Bool) → long_enough q fs ws ≡ a → sound q ws ≡ b
-          → cond a (cond b Passed (Failed Unsound)) (Failed ShortStore) ≡ Passed → Fine q fs ws
+          → cond a (cond b passed (Err Unsound)) (Err ShortStore) ≡ passed → Fine q fs ws
       go true true a b h = fine-sound a b
       go true false a b h = absurd (let z : ◌≡◌ {A = ℕ} 0 1 = cc in omega arith)
       go false t a b h = absurd (let z : ◌≡◌ {A = ℕ} 0 1 = cc in omega arith)
@@ -174,17 +173,17 @@ module _ (q : ℕ) (fs : List Float) (ws : List ℕ) where
     pub all : Fine q fs ws
     pub place : i < 32
 
-  pub place_open : (i : ℕ) → place_check q fs ws i ≡ Passed → Open i
+  pub place_open : (i : ℕ) → place_check q fs ws i ≡ passed → Open i
   unfolding place_check
   place_open i e =
-      let p = passed-both (store_check q fs ws) (cond (ltb i place_limit) Passed (Failed NoPlace)) e in
+      let p = passed-both (store_check q fs ws) (cond (ltb i place_limit) passed (Err NoPlace)) e in
       record { all = fine p.0; place = go (ltb i place_limit) refl p.1 }
     where
-      go : (b : Bool) → ltb i place_limit ≡ b → cond b Passed (Failed NoPlace) ≡ Passed → i < 32
+      go : (b : Bool) → ltb i place_limit ≡ b → cond b passed (Err NoPlace) ≡ passed → i < 32
       go true b h = ltb-true i 32 b
       go false b h = absurd (let z : ◌≡◌ {A = ℕ} 0 1 = cc in omega arith)
 
-  pub filled_open : (i : ℕ) → filled_check q fs ws i ≡ Passed → Open i
+  pub filled_open : (i : ℕ) → filled_check q fs ws i ≡ passed → Open i
   unfolding filled_check
   filled_open i e =
-      place_open i (passed-both (place_check q fs ws i) (cond (eqb (status_of q ws i) 0) (Failed Vacant) Passed) e).0
+      place_open i (passed-both (place_check q fs ws i) (cond (eqb (status_of q ws i) 0) (Err Vacant) passed) e).0

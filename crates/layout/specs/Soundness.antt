@@ -1,11 +1,10 @@
 -- 01, "The store": when a store is sound, and the refusals 4 to 7 of a call on one; 02, L5: 16 of a layer. Definitions
 -- only.
-use Rattle.std.specs.Prelude.{Bool, ◌&&◌, cond, List, ℕ, ◌+◌, ◌*◌, ◌-◌, ltb, leb, eqb, length, Float}
+use Rattle.std.specs.Result.{result_and}
+use Rattle.std.specs.Prelude.{Bool, ◌&&◌, cond, List, ℕ, ◌+◌, ◌*◌, ◌-◌, ltb, leb, eqb, length, Float, Err}
 use Rattle.base.specs.Loops.{every}
-use Rattle.base.specs.Answers.{and_then}
+use Rattle.base.specs.Answers.{Checked, passed}
 use Rattle.base.specs.declared.refusal.Refusal.TheVariants.{ShortStore, Unsound, NoPlace, Vacant, NoLayer}
-use Rattle.base.specs.declared.refusal.Checked.{Checked}
-use Rattle.base.specs.declared.refusal.Checked.TheVariants.{Passed, Failed}
 use Rattle.mesh.specs.Checks.{vertex_limit, face_limit, all_below}
 use Rattle.layout.specs.Layout.{place_limit, piece_limit, coords_from, corners_from, corners_of, verts_of, faces_of}
 use Rattle.layout.specs.Layout.{status_of, finished_of, done_of, layer_limit, layer_of}
@@ -52,16 +51,16 @@ sound q ws =
 -- rows 4 and 5, of every call on a store: "too short for them, or under 98 words [130 since 02's L5], is 4; any other
 -- fault in it .. is 5"
 unfoldable pub store_check : ℕ → List Float → List ℕ → Checked
-store_check q fs ws = cond (long_enough q fs ws) (cond (sound q ws) Passed (Failed Unsound)) (Failed ShortStore)
+store_check q fs ws = cond (long_enough q fs ws) (cond (sound q ws) passed (Err Unsound)) (Err ShortStore)
 
 -- and row 6, of a call that names a place
 unfoldable pub place_check : ℕ → List Float → List ℕ → ℕ → Checked
-place_check q fs ws i = and_then (store_check q fs ws) (cond (ltb i place_limit) Passed (Failed NoPlace))
+place_check q fs ws i = result_and (store_check q fs ws) (cond (ltb i place_limit) passed (Err NoPlace))
 
 -- and row 7, of a call that wants the place filled
 unfoldable pub filled_check : ℕ → List Float → List ℕ → ℕ → Checked
-filled_check q fs ws i = and_then (place_check q fs ws i) (cond (eqb (status_of q ws i) 0) (Failed Vacant) Passed)
+filled_check q fs ws i = result_and (place_check q fs ws i) (cond (eqb (status_of q ws i) 0) (Err Vacant) passed)
 
 -- 02, L5: "16 when a layer is above 15"; of the layer that a put gives
 unfoldable pub layer_check : ℕ → Checked
-layer_check layer = cond (ltb layer layer_limit) Passed (Failed NoLayer)
+layer_check layer = cond (ltb layer layer_limit) passed (Err NoLayer)

@@ -4,10 +4,11 @@
 ghost use Rattle.std.specs.Prelude.{◌≡◌, ◌&&◌, ◌+◌, ◌*◌, ◌≤◌, length, leb};
 ghost use Rattle.base.specs.Loops.{every};
 ghost use Rattle.layout.specs.Layout.{width, place_limit, coords_from, state_from, corners_from, faces_of};
-ghost use Rattle.layout.specs.Soundness.{long_enough, place_sound, place_sound_at, layer_sound, layer_check, sound, store_check, place_check, filled_check};
+ghost use Rattle.layout.specs.Soundness.{long_enough, place_sound, place_sound_at, layer_sound, layer_check, sound};
+ghost use Rattle.layout.specs.Soundness.{store_check, place_check, filled_check};
 
 use crate::offsets::{COORDS, DONE, FINISHED, LAYER, LAYERS, PIECES, PLACES, STATE, WIDTH};
-use base::refusal::{Checked, Refusal};
+use base::refusal::Refusal;
 use mesh::check::{FACE_LIMIT, VERTEX_LIMIT};
 
 // Whether runs of so many floats and words are as long as the counts of vertices and faces ask, where the corners begin
@@ -20,6 +21,7 @@ pub fn room(floats: usize, words: usize, corners: usize, verts: u32, faces: u32)
 }
 
 // Whether both runs are as long as their counts ask, with q words to a place.
+#[tactic(auto, unfolding(crate::specs::Soundness::long_enough))]
 pub fn long_enough(floats: &[f64], words: &[u32], q: usize) -> bool
     requires { q ≤ width }
     ensures { result ≡ long_enough q floats.now words.now }
@@ -32,6 +34,7 @@ pub fn long_enough(floats: &[f64], words: &[u32], q: usize) -> bool
 }
 
 // Whether a place's status, pieces finished and faces done go together.
+#[tactic(auto, unfolding(crate::specs::Soundness::place_sound))]
 fn place_sound(status: u32, finished: u32, done: u32, faces: u32) -> bool
     ensures { result ≡ place_sound status finished done faces }
 {
@@ -53,6 +56,7 @@ fn place_sound(status: u32, finished: u32, done: u32, faces: u32) -> bool
 }
 
 // Whether a place's layer goes with its status.
+#[tactic(auto, unfolding(crate::specs::Soundness::layer_sound))]
 fn layer_sound(status: u32, layer: u32) -> bool
     ensures { result ≡ layer_sound status layer }
 {
@@ -64,6 +68,7 @@ fn layer_sound(status: u32, layer: u32) -> bool
 }
 
 // Whether the words of place i go together, with q of them to a place: only a fourth is a layer.
+#[tactic(auto, unfolding(crate::specs::Soundness::place_sound_at), using(crate::specs::SoundLaws::layer_none))]
 fn record_sound(words: &[u32], q: usize, i: usize) -> bool
     requires { (3 ≤ q) × (q ≤ width) × (state_from q i + q ≤ length words.now) }
     ensures { result ≡ place_sound_at q words.now i }
@@ -80,21 +85,21 @@ fn record_sound(words: &[u32], q: usize, i: usize) -> bool
 }
 
 // Whether every place's words go together.
+#[tactic(auto, unfolding(base::specs::Loops::every))]
 fn places_sound(words: &[u32], q: usize) -> bool
     requires { (3 ≤ q) × (q ≤ width) × (corners_from q ≤ length words.now) }
     ensures { result ≡ every (place_sound_at q words.now) place_limit }
 {
-    let mut i: usize = 0;
-    while i < PLACES {
+    for i in 0..PLACES {
         if !record_sound(words, q, i) {
             return false;
         }
-        i += 1;
     }
     true
 }
 
 // Whether the counts, the places and the corners are sound, in runs that are long enough.
+#[tactic(auto, unfolding(crate::specs::Soundness::sound))]
 pub fn words_sound(words: &[u32], q: usize) -> bool
     requires { (3 ≤ q) × (q ≤ width) × (corners_from q + 3 * faces_of words.now ≤ length words.now) }
     ensures { result ≡ sound q words.now }
@@ -102,69 +107,59 @@ pub fn words_sound(words: &[u32], q: usize) -> bool
     let verts = words[0];
     let faces = words[1];
     let few = (verts <= VERTEX_LIMIT) & (faces <= FACE_LIMIT);
-    if few {
-        if places_sound(words, q) {
-            let corners = STATE + q * PLACES;
-            let end = corners + 3 * (faces as usize);
-            mesh::check::all_below(&words[corners..end], verts)
-        } else {
-            false
-        }
-    } else {
-        false
+    if !few || !places_sound(words, q) {
+        return false;
     }
+    let corners = STATE + q * PLACES;
+    let end = corners + 3 * (faces as usize);
+    mesh::check::all_below(&words[corners..end], verts)
 }
 
 // Refusal 4 or 5 of a store.
-pub fn check_store(floats: &[f64], words: &[u32]) -> Checked
+#[tactic(auto, unfolding(crate::specs::Soundness::store_check), using(crate::specs::SoundLaws::long_words))]
+pub fn check_store(floats: &[f64], words: &[u32]) -> Result<(), Refusal>
     ensures { result ≡ store_check width floats.now words.now }
 {
-    if long_enough(floats, words, WIDTH) {
-        if words_sound(words, WIDTH) {
-            Checked::Passed
-        } else {
-            Checked::Failed(Refusal::Unsound)
-        }
-    } else {
-        Checked::Failed(Refusal::ShortStore)
+    if !long_enough(floats, words, WIDTH) {
+        return Err(Refusal::ShortStore);
     }
+    if !words_sound(words, WIDTH) {
+        return Err(Refusal::Unsound);
+    }
+    Ok(())
 }
 
 // Refusal 4, 5 or 6 of a call that names a place.
-pub fn check_place(floats: &[f64], words: &[u32], place: u32) -> Checked
+#[tactic(auto, unfolding(crate::specs::Soundness::place_check))]
+pub fn check_place(floats: &[f64], words: &[u32], place: u32) -> Result<(), Refusal>
     ensures { result ≡ place_check width floats.now words.now place }
 {
-    match check_store(floats, words) {
-        Checked::Failed(r) => Checked::Failed(r),
-        Checked::Passed => if (place as usize) < PLACES {
-            Checked::Passed
-        } else {
-            Checked::Failed(Refusal::NoPlace)
-        },
+    check_store(floats, words)?;
+    if place as usize >= PLACES {
+        return Err(Refusal::NoPlace);
     }
+    Ok(())
 }
 
 // Refusal 4, 5, 6 or 7 of a call that wants the place filled.
-pub fn check_filled(floats: &[f64], words: &[u32], place: u32) -> Checked
+#[tactic(auto, unfolding(crate::specs::Soundness::filled_check), using(crate::specs::SoundLaws::place_open))]
+pub fn check_filled(floats: &[f64], words: &[u32], place: u32) -> Result<(), Refusal>
     ensures { result ≡ filled_check width floats.now words.now place }
 {
-    match check_place(floats, words, place) {
-        Checked::Failed(r) => Checked::Failed(r),
-        Checked::Passed => if words[STATE + WIDTH * (place as usize)] == 0 {
-            Checked::Failed(Refusal::Vacant)
-        } else {
-            Checked::Passed
-        },
+    check_place(floats, words, place)?;
+    if words[STATE + WIDTH * (place as usize)] == 0 {
+        return Err(Refusal::Vacant);
     }
+    Ok(())
 }
 
 // Refusal 16 of a layer that is given to a put.
-pub fn check_layer(layer: u32) -> Checked
+#[tactic(auto, unfolding(crate::specs::Soundness::layer_check))]
+pub fn check_layer(layer: u32) -> Result<(), Refusal>
     ensures { result ≡ layer_check layer }
 {
-    if layer < LAYERS {
-        Checked::Passed
-    } else {
-        Checked::Failed(Refusal::NoLayer)
+    if layer >= LAYERS {
+        return Err(Refusal::NoLayer);
     }
+    Ok(())
 }

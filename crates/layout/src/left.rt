@@ -12,40 +12,30 @@ use crate::runs::word;
 pub fn pieces(status: u32) -> usize
     ensures { result ≡ status - 1 }
 {
-    if status == 0 {
-        0
-    } else {
-        (status - 1) as usize
-    }
+    status.saturating_sub(1) as usize
 }
 
 // The steps that place i has left.
+#[tactic(auto, using(crate::specs::LeftLaws::left_bound))]
 pub fn left_at(words: &[u32], i: usize, faces: usize) -> usize
     requires fact_1 { Worded width words.now faces }
     requires fact_2 { i < place_limit }
     ensures { (result ≡ left_at width words.now faces i) × (result ≤ 33554432) }
 {
     let at = WIDTH * i;
-    let count = pieces(words[STATE + at]);
-    let finished = word(words, FINISHED + at);
-    let done = word(words, DONE + at);
-    if finished < count {
-        (count - finished) * faces - done
-    } else {
-        0
-    }
+    let unfinished = pieces(words[STATE + at]).saturating_sub(word(words, FINISHED + at));
+    (unfinished * faces).saturating_sub(word(words, DONE + at))
 }
 
 // The steps that all places have left.
+#[tactic(auto, unfolding(crate::specs::Left::left_of))]
 pub fn left(words: &[u32], faces: usize) -> usize
     requires { Worded width words.now faces }
     ensures { result ≡ left_of width words.now faces place_limit }
 {
     let mut sum: usize = 0;
-    let mut i: usize = 0;
-    while i < PLACES {
+    for i in 0..PLACES {
         sum += left_at(words, i, faces);
-        i += 1;
     }
     sum
 }

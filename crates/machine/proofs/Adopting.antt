@@ -1,5 +1,6 @@
 -- Many hands: an adoption on a store that holds a machine, from another store that holds one, does what the machine
 -- does; so does every list of events whose adoptions are from such stores. Assumes nothing.
+use Rattle.std.specs.Prelude.{Err}
 use mathlib.Core.Path.{◌≡◌, refl, sym, ap, subst, ◌∙◌}
 use mathlib.Core.Bool.{Bool, true, false, ◌&&◌, cond}
 use mathlib.Core.List.{List, [], ◌∷◌, map}
@@ -10,10 +11,9 @@ use lib.Dec.{ltb, eqb}
 use lib.ListN.{get_or}
 use lib.Ieee.{Float}
 use borrow.Author.Tests.{lt-ltb, le-ltb, eq-eqb, ne_eqb, eqb-true}
-use Rattle.base.specs.Answers.{refused}
+use Rattle.base.specs.Answers.{refused, passed}
 use Rattle.base.specs.declared.refusal.Refusal.{Refusal}
 use Rattle.base.specs.declared.refusal.Refusal.TheVariants.{NoPlace, Vacant}
-use Rattle.base.specs.declared.refusal.Checked.TheVariants.{Passed, Failed}
 use Rattle.kernel.specs.declared.kernel.Kernel.{Kernel}
 use Rattle.pieces.specs.declared.pieces.Pieces.{Pieces}
 use Rattle.layout.specs.Layout.{place_limit, kernel_from, pieces_from, state_from, status_of}
@@ -103,8 +103,8 @@ module _
   module _ (i j : ℕ) where
     -- ---- the check: neither store is short or unsound
     places-asked : adopt_check wd FS WS i GS US j
-        ≡ cond (ltb i place_limit && ltb j place_limit) (cond (eqb (status_of wd US j) 0) (Failed Vacant) Passed)
-        (Failed NoPlace)
+        ≡ cond (ltb i place_limit && ltb j place_limit) (cond (eqb (status_of wd US j) 0) (Err Vacant) passed)
+        (Err NoPlace)
     unfolding adopt_check
     places-asked =
         rw (

@@ -8,8 +8,7 @@ use lib.ListN.{length, length-map}
 use lib.Ieee.{Float}
 use borrow.Author.Tests.{le-ltb}
 use Rattle.base.specs.Floats.{+0}
-use Rattle.base.specs.Answers.{Answer, accepted, counted, outcome, guarded_run}
-use Rattle.base.specs.declared.refusal.Checked.TheVariants.{Passed}
+use Rattle.base.specs.Answers.{Answer, accepted, counted, outcome, guarded_run, passed}
 use Rattle.mesh.specs.Checks.{vertex_limit, face_limit, mesh_check}
 use Rattle.kernel.specs.Field.{centre_of, field_check}
 use Rattle.volume.specs.Volume.{body_volume}
@@ -58,7 +57,7 @@ module _ (m : Mesh) (g : Shape m) where
   face-count : length m.corners / 3 ≡ m.faces
   face-count = omega arith
 
-  mesh-sound : mesh_check (length m.coords) m.corners ≡ Passed
+  mesh-sound : mesh_check (length m.coords) m.corners ≡ passed
   unfolding mesh_check
   mesh-sound =
       let a : length m.coords % 3 ≡ 0 = omega arith in

@@ -1,4 +1,5 @@
 -- 02, L3: the bill is never below what puts charge and a list needs, and exact where it says so. Assumes nothing.
+use Rattle.std.specs.Prelude.{Ok, Err}
 use mathlib.Core.Path.{◌≡◌, refl, sym, ap, subst, ◌∙◌}
 use mathlib.Core.Bool.{Bool, true, false, ◌&&◌, cond}
 use mathlib.Core.Logic.{◌⊎◌, inl, inr}
@@ -10,10 +11,8 @@ use lib.Dec.{ltb, leb}
 use lib.ListN.{length, get_or, replicate}
 use lib.Ieee.{Float}
 use borrow.Author.Tests.{le-leb, lt-leb}
-use Rattle.base.specs.Answers.{Answer, refused, counted, Outcome, outcome, guarded_run, room_check, granted}
+use Rattle.base.specs.Answers.{Answer, refused, counted, Outcome, outcome, guarded_run, room_check, granted, Checked, passed}
 use Rattle.base.specs.declared.refusal.Refusal.TheVariants.{Unfinished, ShortList}
-use Rattle.base.specs.declared.refusal.Checked.{Checked}
-use Rattle.base.specs.declared.refusal.Checked.TheVariants.{Passed, Failed}
 use Rattle.kernel.specs.declared.kernel.Kernel.{Kernel}
 use Rattle.pieces.specs.declared.pieces.Pieces.{Pieces}
 use Rattle.pieces.specs.Pieces.{most_pieces, decomposed}
@@ -80,8 +79,8 @@ abbrev Listing : Answer → ℕ → ℕ → Type 0
 Listing a n room = (a ≡ refused Unfinished) ⊎ (a ≡ granted (room_check (6 * n) room) (counted (n ∷ [])))
 
 granted_run : (c : Checked) (a : Answer) (run o : List Float) → (guarded_run c run (outcome a o)).reply ≡ granted c a
-granted_run Passed a run o = refl
-granted_run (Failed r) a run o = refl
+granted_run (Ok _) a run o = refl
+granted_run (Err r) a run o = refl
 
 module _ (wd : ℕ) (fm : Layered wd) (exF : List Float) (exW : List ℕ) (m : Machine) where
   list-answer : Valid m.mesh m.places → (layers : ℕ) → layers < 2 ^ 16
@@ -117,7 +116,7 @@ module _ (a : Answer) (n room : ℕ) where
   answers (inl e) j c = let z : ◌≡◌ {A = ℕ} 8 0 = ap (λ (x : Answer). x.refusal) (sym e ∙ c) in absurd (omega arith)
   answers (inr e) j c = go (leb (6 * n) room) (sym e ∙ c)
     where
-      go : (b : Bool) → granted (cond b Passed (Failed ShortList)) (counted (n ∷ [])) ≡ counted (j ∷ []) → j ≡ n
+      go : (b : Bool) → granted (cond b passed (Err ShortList)) (counted (n ∷ [])) ≡ counted (j ∷ []) → j ≡ n
       go true e = sym (ap (λ (x : Answer). get_or x.counts 0 0) e)
       go false e = let z : ◌≡◌ {A = ℕ} 9 0 = ap (λ (x : Answer). x.refusal) e in absurd (omega arith)
 

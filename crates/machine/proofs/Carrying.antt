@@ -1,5 +1,6 @@
 -- 02, L6: a carry of runs that hold a machine at three words to a place leaves the new runs holding the machine carried
 -- over, and is refused exactly when those are too short. Assumes nothing.
+use Rattle.std.specs.Prelude.{Err}
 use mathlib.Core.Path.{◌≡◌, refl, sym, ap, subst, ◌∙◌}
 use mathlib.Core.Bool.{Bool, true, false, not, ◌&&◌, ◌||◌, cond}
 use mathlib.Core.List.{List, [], ◌∷◌, ◌++◌, map, map-append, append_assoc, append-nil}
@@ -9,9 +10,8 @@ use lib.Dec.{ltb}
 use lib.ListN.{length, take, get_or, length-append, length-map, get_or-map}
 use lib.Seq.{take-suc, take_all, take_at}
 use lib.Ieee.{Float}
-use Rattle.base.specs.Answers.{counted}
+use Rattle.base.specs.Answers.{counted, passed}
 use Rattle.base.specs.declared.refusal.Refusal.TheVariants.{ShortStore}
-use Rattle.base.specs.declared.refusal.Checked.TheVariants.{Passed, Failed}
 use Rattle.layout.specs.Runs.{write}
 use Rattle.layout.specs.Layout.{width, coords_from, corners_from}
 use Rattle.layout.specs.After.{After, after}
@@ -210,7 +210,7 @@ module _ (m : Mesh) (ss : List Place) (v : Valid m ss) (xs : List Float) (ys : L
           not-below (coords_from + 3 * m.verts) (length gs),
         ) (cases (ltb (length gs) (coords_from + 3 * m.verts)) (ltb (length us) (corners_from width + 3 * m.faces)))
       where
-        cases : (a b : Bool) → Row (cond (a || b) 4 0) (cond (not b && not a) Passed (Failed ShortStore))
+        cases : (a b : Bool) → Row (cond (a || b) 4 0) (cond (not b && not a) passed (Err ShortStore))
         cases true true = record { none = λ e. absurd (omega arith); some = λ h fs ws g. refl }
         cases true false = record { none = λ e. absurd (omega arith); some = λ h fs ws g. refl }
         cases false true = record { none = λ e. absurd (omega arith); some = λ h fs ws g. refl }

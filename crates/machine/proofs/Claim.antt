@@ -1,4 +1,5 @@
 -- Each call on a store that holds a machine does what the machine does. Assumes nothing.
+use Rattle.std.specs.Prelude.{Err}
 use mathlib.Core.Path.{◌≡◌, refl, sym, ap, subst, ◌∙◌}
 use mathlib.Core.List.{List, [], ◌∷◌}
 use mathlib.Core.Bool.{cond}
@@ -9,14 +10,13 @@ use native.Mathlib.Omega.{arith}
 use lib.ListN.{length, get_or, set, length-set}
 use lib.Seq.{set-get_or}
 use lib.Dec.{ltb}
-use lib.Ieee.{Float, nan}
+use lib.Ieee.{Float}
 use borrow.Author.Tests.{lt-ltb, le-ltb, le-leb, lt-leb, ne_eqb}
-use Rattle.base.specs.Answers.{Answer, refused, done, outcome}
+use Rattle.base.specs.Answers.{Answer, refused, done, outcome, passed}
 use Rattle.base.specs.Floats.{+0}
 use Rattle.base.specs.Loops.{times}
 use Rattle.base.specs.declared.refusal.Refusal.{Refusal}
 use Rattle.base.specs.declared.refusal.Refusal.TheVariants.{NoPlace, NoLayer, Vacant}
-use Rattle.base.specs.declared.refusal.Checked.TheVariants.{Passed, Failed}
 use Rattle.layout.specs.Runs.{write}
 use Rattle.volume.specs.Volume.{volume_to}
 use Rattle.kernel.specs.Field.{centre_of}
@@ -24,7 +24,7 @@ use Rattle.kernel.specs.declared.kernel.Kernel.{Kernel}
 use Rattle.pieces.specs.declared.pieces.Pieces.{Pieces}
 use Rattle.pieces.specs.declared.fit.Fit.{Fit}
 use Rattle.pieces.specs.declared.fit.Fit.TheVariants as ended
-use Rattle.pieces.specs.Pieces.{decomposed}
+use Rattle.pieces.specs.Pieces.{decomposed, part_at}
 use Rattle.pieces.specs.FitEnd.{fit_of, kind_of, column_of, pivot_told}
 use Rattle.pieces.specs.PieceLaws.{Clean, clean, at_most_16, same_pieces}
 use Rattle.layout.specs.Layout.{place_limit, status_of}
@@ -80,31 +80,31 @@ module _ (wd : ℕ) (fm : Width wd) (m : Machine) (v : Valid m.mesh m.places) (x
   abbrev WS : List ℕ
   WS = words_of wd m.mesh m.places ys
 
-  sane : store_check wd FS WS ≡ Passed
+  sane : store_check wd FS WS ≡ passed
   sane = no_fault wd fm m.mesh m.places v (past m xs) ys
 
   -- ---- the checks of a place
-  pub place_in : (i : ℕ) → i < 32 → place_check wd FS WS i ≡ Passed
+  pub place_in : (i : ℕ) → i < 32 → place_check wd FS WS i ≡ passed
   unfolding place_check
   place_in i h = rw (sane, lt-ltb i 32 h) refl
 
-  pub place_out : (i : ℕ) → 32 ≤ i → place_check wd FS WS i ≡ Failed NoPlace
+  pub place_out : (i : ℕ) → 32 ≤ i → place_check wd FS WS i ≡ Err NoPlace
   unfolding place_check
   place_out i h = rw (sane, le-ltb i 32 h) refl
 
   status : (i : ℕ) → i < 32 → status_of wd WS i ≡ get_or (place_row wd m.mesh (get_or m.places i empty)) 0 0
   status i h = status_held wd fm m.mesh m.places v.places ys i h
 
-  filled-out : (i : ℕ) → 32 ≤ i → filled_check wd FS WS i ≡ Failed NoPlace
+  filled-out : (i : ℕ) → 32 ≤ i → filled_check wd FS WS i ≡ Err NoPlace
   unfolding filled_check
   filled-out i h = rw (place_out i h) refl
 
-  filled_none : (i : ℕ) → i < 32 → get_or m.places i empty ≡ empty → filled_check wd FS WS i ≡ Failed Vacant
+  filled_none : (i : ℕ) → i < 32 → get_or m.places i empty ≡ empty → filled_check wd FS WS i ≡ Err Vacant
   unfolding filled_check
   filled_none i h e = rw (place_in i h, status i h, e) refl
 
   filled_in : (i : ℕ) → i < 32 → (k : Kernel) (fit : Pieces) (o : Provenance) (p l : ℕ)
-      → get_or m.places i empty ≡ full k fit o p l → filled_check wd FS WS i ≡ Passed
+      → get_or m.places i empty ≡ full k fit o p l → filled_check wd FS WS i ≡ passed
   unfolding filled_check
   filled_in i h k fit o p l e = rw (place_in i h, status i h, e, ne_eqb (1 + fit.count) 0 (λ z. omega arith)) refl
 
@@ -187,7 +187,7 @@ module _ (wd : ℕ) (fm : Width wd) (m : Machine) (v : Valid m.mesh m.places) (x
       let a : min m.mesh.faces 0 ≡ 0 = omega arith in
       let b : 0 - m.mesh.faces ≡ 0 = omega arith in
       rw (a, b)
-      (ap (λ (t : List Float). get_or fit.sigma j nan ∷ get_or fit.coefficient j nan ∷ +0 ∷ t)
+      (ap (λ (t : List Float). (part_at fit j).sigma ∷ (part_at fit j).coefficient ∷ +0 ∷ t)
       (fresh_cells k fit n (suc j)))
 
   -- the runs, of any fit and wherever it comes from

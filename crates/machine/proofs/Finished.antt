@@ -1,6 +1,7 @@
 -- 02, L7: the report of what is finished, of a store that holds a machine, is the machine's, worked afresh on the
 -- places
 -- that have nothing left. Assumes nothing.
+use Rattle.std.specs.Prelude.{Err}
 use mathlib.Core.Path.{◌≡◌, refl, sym, ap, ◌∙◌}
 use mathlib.Core.Bool.{Bool, true, false, cond}
 use mathlib.Core.Logic.{◌⊎◌, inl, inr}
@@ -13,9 +14,8 @@ use lib.ListN.{length, get_or, length-append}
 use lib.Dec.{ltb, leb, eqb}
 use lib.Ieee.{Float}
 use borrow.Author.Tests.{lt-ltb, le-ltb, le-leb, lt-leb, eq-eqb, ne_eqb, eqb-true, eqb-false}
-use Rattle.base.specs.Answers.{Answer, refused, granted, Outcome}
+use Rattle.base.specs.Answers.{Answer, refused, granted, Outcome, passed}
 use Rattle.base.specs.declared.refusal.Refusal.TheVariants.{NoLayer}
-use Rattle.base.specs.declared.refusal.Checked.TheVariants.{Passed, Failed}
 use Rattle.density.specs.declared.convention.Convention.{Convention}
 use Rattle.layout.specs.Layers.{layers_check}
 use Rattle.readings.specs.Readings.{report, answer_of}
@@ -204,7 +204,7 @@ module _
       rw (no_fault wd fm m ss v xs ys, passed-held, complete-held) (go (dec_lt layers 65536) e)
     where
       go : {a b : Answer} → Dec (layers < 65536) → a ≡ b
-          → granted (cond (ltb layers 65536) Passed (Failed NoLayer)) (beside (passed_places m seen) a)
+          → granted (cond (ltb layers 65536) passed (Err NoLayer)) (beside (passed_places m seen) a)
           ≡ cond (leb (2 ^ 16) layers) (refused NoLayer) (beside (passed_places m seen) b)
       go (yes h) e = rw (lt-ltb layers 65536 h, lt-leb 65536 layers h) (ap (beside (passed_places m seen)) e)
       go (no h) e = rw (le-ltb layers 65536 (omega arith), le-leb 65536 layers (omega arith)) refl

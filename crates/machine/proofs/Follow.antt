@@ -1,5 +1,7 @@
 -- Every list of events on a store that holds a valid machine does what demand 3 says, and so from every opening on.
 -- Assumes nothing.
+use Rattle.std.specs.Result.{result_and}
+use Rattle.std.specs.Prelude.{Err}
 use mathlib.Core.Path.{◌≡◌, refl, sym, ap, subst, ◌∙◌}
 use mathlib.Core.Bool.{Bool, true, false, ◌&&◌, cond, and-eq-true_iff, true≢false}
 use mathlib.Core.Logic.{◌⊎◌, inl, inr}
@@ -10,10 +12,9 @@ use lib.Dec.{ltb, leb, eqb}
 use lib.ListN.{length}
 use lib.Ieee.{Float}
 use borrow.Author.Tests.{eq-eqb, lt-ltb, ltb-true, le-leb, lt-leb, leb-true, leb-false}
-use Rattle.base.specs.Answers.{Answer, refused, counted, Outcome, outcome, guarded_run, Printout, printout, guarded_bytes, and_then}
+use Rattle.base.specs.Answers.{Answer, refused, counted, Outcome, outcome, guarded_run, Printout, printout, guarded_bytes, passed}
 use Rattle.base.specs.declared.refusal.Refusal.{Refusal}
 use Rattle.base.specs.declared.refusal.Refusal.TheVariants.{Unfinished, NoLayer, ShortList, BadTrack, NoFigure, ShortPage}
-use Rattle.base.specs.declared.refusal.Checked.TheVariants.{Passed, Failed}
 use Rattle.layout.specs.Runs.{write}
 use Rattle.along.specs.Along.{along}
 use Rattle.density.specs.declared.convention.Convention.{Convention}
@@ -41,14 +42,14 @@ use Rattle.machine.proofs.Coming.{came_brought}
 use Rattle.machine.proofs.Handing.{hands}
 use Rattle.machine.proofs.Unaltered.{From, from_start, from_next, on-opened, finished_opened, page_opened, unaltered}
 use Rattle.machine.proofs.Listed.{listed}
-use Rattle.machine.proofs.Opened.{opens, passed, refuses, holds}
+use Rattle.machine.proofs.Opened.{opens, unrefused, refuses, holds}
 
 -- ---- what is answered is never 8 or 16: it is accepted, 9 of a list or 14 of a track
 abbrev Answered : ℕ → Type 0
 Answered n = (n ≡ 0) ⊎ ((n ≡ 9) ⊎ (n ≡ 14))
 
 listed_as_lem : (b : Bool) (n : ℕ) (o out : List Float)
-    → Answered (guarded_run (cond b Passed (Failed ShortList)) out (outcome (counted (n ∷ [])) o)).reply.refusal
+    → Answered (guarded_run (cond b passed (Err ShortList)) out (outcome (counted (n ∷ [])) o)).reply.refusal
 listed_as_lem true n o out = inl refl
 listed_as_lem false n o out = inr (inl refl)
 
@@ -58,7 +59,7 @@ unfolding track_check
 tracked_as a b n o out = go (eqb (a % 3) 0 && leb (a / 3) track_limit && leb (a / 3) b)
   where
     go : (t : Bool)
-        → Answered (guarded_run (cond t Passed (Failed BadTrack)) out (outcome (counted (n ∷ [])) o)).reply.refusal
+        → Answered (guarded_run (cond t passed (Err BadTrack)) out (outcome (counted (n ∷ [])) o)).reply.refusal
     go true = inl refl
     go false = inr (inr refl)
 
@@ -144,7 +145,7 @@ unfolding page_answer
 paged_not rs bs e = go (all_printable rs) (leb (length (page_of rs)) (length bs)) (ap (λ (a : Answer). a.refusal) e)
   where
     go : (a b : Bool)
-        → (guarded_bytes (and_then (cond a Passed (Failed NoFigure)) (cond b Passed (Failed ShortPage))) bs
+        → (guarded_bytes (result_and (cond a passed (Err NoFigure)) (cond b passed (Err ShortPage))) bs
         (printout (counted (length (page_of rs) ∷ [])) (write bs 0 (page_of rs)))).reply.refusal
         ≡ 8
         → ⊥
@@ -344,7 +345,7 @@ module _ (wd : ℕ) (ly : Layered wd) (r : Float) (xs : List Float) (ks : List �
       let f = excess_f xs fs in
       let w = excess_w wd ks ws in
       record {
-        reply = ap (λ (a : After). a.reply) (opens wd fm r xs ks fs ws (passed wd fm r xs ks fs ws h));
+        reply = ap (λ (a : After). a.reply) (opens wd fm r xs ks fs ws (unrefused wd fm r xs ks fs ws h));
         holds = e.runs;
         every_list = follows wd ly f w e refl;
         unaltered = λ cs.

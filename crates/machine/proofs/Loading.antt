@@ -1,5 +1,7 @@
 -- 02, L10: a text is refused by the row that the machine's side says, and else leaves what its opening and puts, call
 -- by call, leave: the runs of the machine that gets them. Assumes nothing.
+use Rattle.std.specs.Result.{result_and}
+use Rattle.std.specs.Prelude.{Ok, Err}
 use mathlib.Core.Path.{◌≡◌, refl, sym, ap, ◌∙◌}
 use mathlib.Core.Bool.{Bool, true, false, not, ◌&&◌, cond}
 use mathlib.Core.List.{List, [], ◌∷◌, map}
@@ -10,10 +12,8 @@ use lib.Dec.{ltb, leb}
 use lib.ListN.{length}
 use lib.Ieee.{Float}
 use borrow.Author.Tests.{lt-ltb, le-ltb}
-use Rattle.base.specs.Answers.{counted, done, and_then}
+use Rattle.base.specs.Answers.{counted, done, Checked, passed}
 use Rattle.base.specs.declared.refusal.Refusal.TheVariants.{NoPlace, NoLayer}
-use Rattle.base.specs.declared.refusal.Checked.{Checked}
-use Rattle.base.specs.declared.refusal.Checked.TheVariants.{Passed, Failed}
 use Rattle.layout.specs.Layout.{place_limit, layer_limit}
 use Rattle.layout.specs.After.{After, after, guarded}
 use Rattle.store.specs.Calls.{open_step}
@@ -37,19 +37,19 @@ use Rattle.machine.proofs.Opened.{holds}
 -- ---- which row refuses
 
 -- two checks one after the other
-row-then : {n k : ℕ} {c d : Checked} → Row n c → Row k d → Row (cond (ltb 0 n) n k) (and_then c d)
+row-then : {n k : ℕ} {c d : Checked} → Row n c → Row k d → Row (cond (ltb 0 n) n k) (result_and c d)
 row-then {n} {k} {c} {d} r s = go (dec_lt 0 n)
   where
     first : 0 < n → (e : Checked) → c ≡ e → (fs : List Float) (ws : List ℕ) (good : After)
-        → guarded (and_then e d) fs ws good ≡ after (refused_by n) fs ws
-    first h Passed z fs ws good =
+        → guarded (result_and e d) fs ws good ≡ after (refused_by n) fs ws
+    first h (Ok _) z fs ws good =
         let x : after done fs ws ≡ after (refused_by n) fs ws
         = ap (λ (e : Checked). guarded e fs ws (after done fs ws)) (sym z) ∙ r.some h fs ws (after done fs ws) in
         absurd (let y : ◌≡◌ {A = ℕ} 0 n = ap (λ (a : After). a.reply.refusal) x in omega arith)
-    first h (Failed e) z fs ws good =
+    first h (Err e) z fs ws good =
         ap (λ (x : Checked). guarded x fs ws good) (sym z) ∙ r.some h fs ws good
 
-    go : Dec (0 < n) → Row (cond (ltb 0 n) n k) (and_then c d)
+    go : Dec (0 < n) → Row (cond (ltb 0 n) n k) (result_and c d)
     go (yes h) =
         rw (lt-ltb 0 n h)
         (record { none = λ e. absurd (omega arith); some = λ g fs ws good. first h c refl fs ws good })
@@ -84,13 +84,13 @@ puts_row_lem : (vs : List (Vals put_line)) → Row (puts_row vs) (puts_check vs)
 puts_row_lem vs = rw (puts_tests vs) (go (places_in vs) (layers_in vs))
   where
     go : (a b : Bool)
-        → Row (cond a (cond b 0 16) 6) (and_then (cond a Passed (Failed NoPlace)) (cond b Passed (Failed NoLayer)))
+        → Row (cond a (cond b 0 16) 6) (result_and (cond a passed (Err NoPlace)) (cond b passed (Err NoLayer)))
     go true true = record { none = λ e. refl; some = λ h fs ws g. absurd (omega arith) }
     go true false = record { none = λ e. absurd (omega arith); some = λ h fs ws g. refl }
     go false b = record { none = λ e. absurd (omega arith); some = λ h fs ws g. refl }
 
 lines_row_lem : (t : Text) (q : ℕ) (d : Script) (a b : ℕ)
-    → Row (lines_row t q d a b) (and_then (form_check t) (script_check q d a b))
+    → Row (lines_row t q d a b) (result_and (form_check t) (script_check q d a b))
 lines_row_lem lost q d a b = record { none = λ e. absurd (omega arith); some = λ h fs ws g. refl }
 lines_row_lem (left l) q d a b = row-then (row q d.coords d.corners a b) (puts_row_lem d.puts)
 

@@ -1,4 +1,5 @@
 -- A reading of a store that holds a machine is the machine's reading, worked afresh. Assumes nothing.
+use Rattle.std.specs.Prelude.{Err}
 use mathlib.Core.Path.{◌≡◌, refl, sym, ap, ◌∙◌}
 use mathlib.Core.List.{List, [], ◌∷◌, ◌++◌, map, append_assoc, append-nil}
 use mathlib.Core.Bool.{Bool, true, false, ◌&&◌, cond, true≢false}
@@ -12,7 +13,6 @@ use lib.Ieee.{Float, nan, lt, of_bits}
 use borrow.Author.Tests.{lt-ltb, le-ltb, le-leb, lt-leb, ltb-false, ne_eqb}
 use Rattle.base.specs.Floats.{+0, greater}
 use Rattle.base.specs.declared.refusal.Refusal.TheVariants.{Unfinished, NoLayer}
-use Rattle.base.specs.declared.refusal.Checked.TheVariants.{Passed, Failed}
 use Rattle.volume.specs.Volume.{body_volume}
 use Rattle.kernel.specs.declared.kernel.Kernel.{Kernel}
 use Rattle.pieces.specs.declared.pieces.Pieces.{Pieces}
@@ -22,7 +22,7 @@ use Rattle.density.specs.Conventions.{bulk_of, target_of, rho0_scale_lem, mass_s
 use Rattle.layout.specs.Layout.{verts_of, faces_of}
 use Rattle.layout.specs.Left.{held, left_of}
 use Rattle.layout.specs.Layers.{layers_check}
-use Rattle.base.specs.Answers.{Outcome, outcome}
+use Rattle.base.specs.Answers.{Outcome, outcome, passed}
 use Rattle.readings.specs.Readings.{Reading, density, report, list, track, by_mass, needs_work, Part, bare, density_at, raw_mass_lem, origin, applied, rescaled, Seen, seeing, listing, tracking, answer_of, refusing, reading_of, held_filled, held_worst, held_seen, guarded_read, read_step}
 use Rattle.machine.specs.Machine.{Mesh, Place, empty, full, left_sum, seen_place, seen_places}
 use Rattle.machine.specs.Holding.{triangles, place_row, words_of}
@@ -228,7 +228,7 @@ module _
           let o = seen-or-none layers in
           seen-held wd (formed ly) m ss seen v.places (emptied_valid f o m ss v) (emptied_there f o ss) xs ys r
 
-      go : Dec (layers < 65536) → guarded_read (cond (ltb layers 65536) Passed (Failed NoLayer)) r byFields
+      go : Dec (layers < 65536) → guarded_read (cond (ltb layers 65536) passed (Err NoLayer)) r byFields
           ≡ cond (leb (2 ^ 16) layers) (refusing r NoLayer) byMachine
       go (yes h) = rw (lt-ltb layers 65536 h, lt-leb 65536 layers h) held
       go (no h) = rw (le-ltb layers 65536 (omega arith), le-leb 65536 layers (omega arith)) refl

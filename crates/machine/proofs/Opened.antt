@@ -6,9 +6,8 @@ use native.Mathlib.Nat.{mul-suc, mul-zero, div-add-mod'}
 use native.Mathlib.Omega.{arith}
 use lib.ListN.{length, drop, get_or, replicate, length-append, length-replicate, replicate-append-replicate}
 use lib.Ieee.{Float}
-use Rattle.base.specs.Answers.{counted}
+use Rattle.base.specs.Answers.{counted, passed}
 use Rattle.base.specs.Floats.{+0}
-use Rattle.base.specs.declared.refusal.Checked.TheVariants.{Passed}
 use Rattle.layout.specs.Runs.{write}
 use Rattle.layout.specs.Layout.{coords_from, corners_from}
 use Rattle.layout.specs.After.{after}
@@ -82,7 +81,7 @@ module _ (wd : ℕ) (fm : Width wd) (r : Float) (xs : List Float) (ks : List ℕ
       ∙ ap (λ (l : List ℕ). length xs / 3 ∷ length ks / 3 ∷ (l ++ (ks ++ excess_w wd ks ws)))
       (sym (flat-same (place_row wd M) wd 0 (sym (zeros-row wd fm M)) 32)))
 
-  pub opens : (fs : List Float) (ws : List ℕ) → open_check wd (length xs) ks (length fs) (length ws) ≡ Passed
+  pub opens : (fs : List Float) (ws : List ℕ) → open_check wd (length xs) ks (length fs) (length ws) ≡ passed
       → open_step wd fs ws r xs ks
       ≡ after (counted (length xs / 3 ∷ length ks / 3 ∷ [])) (floats_of M (replicate 32 empty) (excess_f xs fs))
       (words_of wd M (replicate 32 empty) (excess_w wd ks ws))
@@ -94,7 +93,7 @@ module _ (wd : ℕ) (fm : Width wd) (r : Float) (xs : List Float) (ks : List ℕ
       (floats-opened fs)
       ∙ ap (after a (floats_of M (replicate 32 empty) (excess_f xs fs))) (words_opened ws))
 
-  pub opened_valid : (a b : ℕ) → open_check wd (length xs) ks a b ≡ Passed → Valid M (replicate 32 empty)
+  pub opened_valid : (a b : ℕ) → open_check wd (length xs) ks a b ≡ passed → Valid M (replicate 32 empty)
   opened_valid a b h =
       let g = (open_passes wd (length xs) ks a b h).mesh in
       let x = div-add-mod' (length xs) 3 in
@@ -117,8 +116,8 @@ module _ (wd : ℕ) (fm : Width wd) (r : Float) (xs : List Float) (ks : List ℕ
   abbrev n : ℕ
   n = open_row wd xs ks (length fs) (length ws)
 
-  pub passed : n ≡ 0 → open_check wd (length xs) ks (length fs) (length ws) ≡ Passed
-  passed = (row wd xs ks (length fs) (length ws)).none
+  pub unrefused : n ≡ 0 → open_check wd (length xs) ks (length fs) (length ws) ≡ passed
+  unrefused = (row wd xs ks (length fs) (length ws)).none
 
   pub refuses : 0 < n → open_step wd fs ws r xs ks ≡ after (refused_by n) fs ws
   unfolding open_step
@@ -128,7 +127,7 @@ module _ (wd : ℕ) (fm : Width wd) (r : Float) (xs : List Float) (ks : List ℕ
   pub holds : n ≡ 0
       → Holds wd (opened r xs ks) (leaving (open_step wd fs ws r xs ks)) (excess_f xs fs) (excess_w wd ks ws)
   holds h =
-      let c = passed h in
+      let c = unrefused h in
       record {
         runs = ap leaving (opens wd fm r xs ks fs ws c);
         valid = opened_valid wd fm r xs ks (length fs) (length ws) c;

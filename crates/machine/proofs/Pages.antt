@@ -1,4 +1,5 @@
 -- The page of a store that holds a machine is the machine's, its masses worked afresh. Assumes nothing.
+use Rattle.std.specs.Prelude.{Err}
 use mathlib.Core.Path.{◌≡◌, refl, sym, ap, ◌∙◌}
 use mathlib.Core.List.{List, [], ◌∷◌, ◌++◌, append-nil, append_assoc}
 use mathlib.Core.Bool.{Bool, true, false, cond}
@@ -9,9 +10,8 @@ use lib.Seq.{take-suc, take_all, length-take-le}
 use lib.Dec.{ltb, eqb}
 use lib.Ieee.{Float}
 use borrow.Author.Tests.{ltb-false, ne_eqb}
-use Rattle.base.specs.Answers.{refused, printout, guarded_bytes}
+use Rattle.base.specs.Answers.{refused, printout, guarded_bytes, passed}
 use Rattle.base.specs.declared.refusal.Refusal.TheVariants.{Unfinished}
-use Rattle.base.specs.declared.refusal.Checked.TheVariants.{Passed, Failed}
 use Rattle.pieces.specs.declared.pieces.Pieces.{Pieces}
 use Rattle.readings.specs.Readings.{raw_mass_lem}
 use Rattle.page.specs.Page.{Row, row, page_answer, row_at, held_rows, done_check, page_step}
@@ -84,7 +84,7 @@ module _ (wd : ℕ) (fm : Width wd) (m : Mesh) (ss : List Place) (v : Valid m ss
       (go (ltb 0 (left_sum m ss)) refl)
     where
       go : (b : Bool) → ltb 0 (left_sum m ss) ≡ b
-          → guarded_bytes (cond b (Failed Unfinished) Passed) bs (page_answer (held_rows wd FS WS 32) bs)
+          → guarded_bytes (cond b (Err Unfinished) passed) bs (page_answer (held_rows wd FS WS 32) bs)
           ≡ cond b (printout (refused Unfinished) bs) (page_answer (fresh_rows m 0 ss) bs)
       go true e = refl
       go false e =

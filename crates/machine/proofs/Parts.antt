@@ -8,7 +8,7 @@ use Rattle.volume.specs.Volume.{kernel_volume, body_volume}
 use Rattle.kernel.specs.Field.{centre_of}
 use Rattle.kernel.specs.declared.kernel.Kernel.{Kernel}
 use Rattle.pieces.specs.declared.pieces.Pieces.{Pieces}
-use Rattle.pieces.specs.Pieces.{piece_alpha}
+use Rattle.pieces.specs.Pieces.{piece_alpha, part_at}
 use Rattle.readings.specs.Readings.{Part, Seen, seeing}
 use Rattle.machine.specs.Machine.{Mesh, Place, empty, full}
 use Rattle.machine.specs.Holding.{triangles}
@@ -20,11 +20,11 @@ fresh_part m k fit j =
     record {
       kernel = record {
         c = get_or k.c 0 nan ∷ get_or k.c 1 nan ∷ get_or k.c 2 nan ∷ [];
-        sigma = get_or fit.sigma j nan;
-        w = k.w ⊗ get_or fit.coefficient j nan;
+        sigma = (part_at fit j).sigma;
+        w = k.w ⊗ (part_at fit j).coefficient;
         alpha = piece_alpha k.alpha;
       };
-      volume = kernel_volume (triangles m) m.faces (centre_of k) (get_or fit.sigma j nan);
+      volume = kernel_volume (triangles m) m.faces (centre_of k) (part_at fit j).sigma;
     }
 
 -- its first n pieces

@@ -11,6 +11,7 @@ use lib.Ieee.{Float, nan}
 use Rattle.volume.specs.Volume.{volume_to}
 use Rattle.kernel.specs.Field.{centre_of}
 use Rattle.kernel.specs.declared.kernel.Kernel.{Kernel}
+use Rattle.pieces.specs.Pieces.{part_at}
 use Rattle.pieces.specs.declared.pieces.Pieces.{Pieces}
 use Rattle.readings.specs.Readings.{Part, bare, held_part, held_at, held_all_lem}
 use Rattle.machine.specs.Machine.{Mesh, Provenance, own, carried, Place, empty, full, need, left_place, left_sum}
@@ -25,7 +26,7 @@ use Rattle.machine.proofs.Held.{get7, get48, status_held}
 -- ---- a place's cells: n pieces from j on, with t steps; u counts from j
 module _ (m : Mesh) (k : Kernel) (fit : Pieces) where
   -- sigma and coefficient, whatever is done
-  cell-sigma : (n j t u : ℕ) → u < n → get_or (cells m k fit n j t) (3 * u) nan ≡ get_or fit.sigma (j + u) nan
+  cell-sigma : (n j t u : ℕ) → u < n → get_or (cells m k fit n j t) (3 * u) nan ≡ (part_at fit (j + u)).sigma
   cell-sigma zero j t u h = absurd (omega arith)
   cell-sigma (suc n) j t zero h = let e : j + 0 ≡ j = omega arith in rw e refl
   cell-sigma (suc n) j t (suc u) h =
@@ -33,13 +34,13 @@ module _ (m : Mesh) (k : Kernel) (fit : Pieces) where
       let e : j + suc u ≡ suc j + u = omega arith in
       rw (i, e)
       (get_or-append-add
-      (get_or fit.sigma j nan ∷ get_or fit.coefficient j nan
-      ∷ volume_to (triangles m) (centre_of k) (get_or fit.sigma j nan) (min m.faces t) ∷ [])
+      ((part_at fit j).sigma ∷ (part_at fit j).coefficient
+      ∷ volume_to (triangles m) (centre_of k) (part_at fit j).sigma (min m.faces t) ∷ [])
       (cells m k fit n (suc j) (t - m.faces)) (3 * u) nan
       ∙ cell-sigma n (suc j) (t - m.faces) u (omega arith))
 
   cell-coefficient : (n j t u : ℕ) → u < n
-      → get_or (cells m k fit n j t) (3 * u + 1) nan ≡ get_or fit.coefficient (j + u) nan
+      → get_or (cells m k fit n j t) (3 * u + 1) nan ≡ (part_at fit (j + u)).coefficient
   cell-coefficient zero j t u h = absurd (omega arith)
   cell-coefficient (suc n) j t zero h = let e : j + 0 ≡ j = omega arith in rw e refl
   cell-coefficient (suc n) j t (suc u) h =
@@ -47,15 +48,15 @@ module _ (m : Mesh) (k : Kernel) (fit : Pieces) where
       let e : j + suc u ≡ suc j + u = omega arith in
       rw (i, e)
       (get_or-append-add
-      (get_or fit.sigma j nan ∷ get_or fit.coefficient j nan
-      ∷ volume_to (triangles m) (centre_of k) (get_or fit.sigma j nan) (min m.faces t) ∷ [])
+      ((part_at fit j).sigma ∷ (part_at fit j).coefficient
+      ∷ volume_to (triangles m) (centre_of k) (part_at fit j).sigma (min m.faces t) ∷ [])
       (cells m k fit n (suc j) (t - m.faces)) (3 * u + 1) nan
       ∙ cell-coefficient n (suc j) (t - m.faces) u (omega arith))
 
   -- the volume over all faces, of a piece that the steps reach past
   cell-volume : (n j t u : ℕ) → u < n → suc u * m.faces ≤ t
       → get_or (cells m k fit n j t) (3 * u + 2) nan
-      ≡ volume_to (triangles m) (centre_of k) (get_or fit.sigma (j + u) nan) m.faces
+      ≡ volume_to (triangles m) (centre_of k) (part_at fit (j + u)).sigma m.faces
   cell-volume zero j t u h l = absurd (omega arith)
   cell-volume (suc n) j t zero h l =
       let z = rw (suc-mul, zero-mul) at l in
@@ -68,8 +69,8 @@ module _ (m : Mesh) (k : Kernel) (fit : Pieces) where
       let e : j + suc u ≡ suc j + u = omega arith in
       rw (i, e)
       (get_or-append-add
-      (get_or fit.sigma j nan ∷ get_or fit.coefficient j nan
-      ∷ volume_to (triangles m) (centre_of k) (get_or fit.sigma j nan) (min m.faces t) ∷ [])
+      ((part_at fit j).sigma ∷ (part_at fit j).coefficient
+      ∷ volume_to (triangles m) (centre_of k) (part_at fit j).sigma (min m.faces t) ∷ [])
       (cells m k fit n (suc j) (t - m.faces)) (3 * u + 2) nan
       ∙ cell-volume n (suc j) (t - m.faces) u (omega arith) (omega arith))
 
@@ -109,11 +110,11 @@ module _
     pub bare-held : (j : ℕ) → j < fit.count → bare (held_part FS i j) ≡ bare (fresh_part m k fit j)
     bare-held j hj =
         let z : 0 + j ≡ j = omega arith in
-        let s0 : get_or FS (225 + 48 * i + 3 * j) nan ≡ get_or fit.sigma j nan
+        let s0 : get_or FS (225 + 48 * i + 3 * j) nan ≡ (part_at fit j).sigma
         = (let q : 225 + 48 * i + 3 * j ≡ 225 + (48 * i + 3 * j) = omega arith in
         rw (q, get48 wd fm m ss hs xs i h (3 * j) (omega (arith, few-in)), there i k fit o p l e)
         (rw z at (cell-sigma m k fit 16 0 p j (omega (arith, few-in))))) in
-        let s1 : get_or FS (225 + 48 * i + 3 * j + 1) nan ≡ get_or fit.coefficient j nan
+        let s1 : get_or FS (225 + 48 * i + 3 * j + 1) nan ≡ (part_at fit j).coefficient
         = (let q : 225 + 48 * i + 3 * j + 1 ≡ 225 + (48 * i + (3 * j + 1)) = omega arith in
         rw (q, get48 wd fm m ss hs xs i h (3 * j + 1) (omega (arith, few-in)), there i k fit o p l e)
         (rw z at (cell-coefficient m k fit 16 0 p j (omega (arith, few-in))))) in

@@ -1,4 +1,6 @@
 -- The check of an opening refuses by the lowest of the table's rows 1 to 4 that applies. Assumes nothing.
+use Rattle.std.specs.Result.{result_and}
+use Rattle.std.specs.Prelude.{Err}
 use mathlib.Core.Path.{◌≡◌, refl, sym, ap, ◌∙◌}
 use mathlib.Core.Bool.{Bool, true, false, not, ◌&&◌, ◌||◌, cond, true≢false}
 use mathlib.Core.List.{List, [], ◌∷◌}
@@ -9,10 +11,8 @@ use lib.Dec.{ltb, leb, eqb}
 use lib.ListN.{length}
 use lib.Ieee.{Float}
 use borrow.Author.Tests.{lt-ltb, le-ltb, lt-leb, le-leb, eqb-true}
-use Rattle.base.specs.Answers.{and_then}
+use Rattle.base.specs.Answers.{Checked, passed}
 use Rattle.base.specs.declared.refusal.Refusal.TheVariants.{Ragged, Oversize, LooseCorner, ShortStore}
-use Rattle.base.specs.declared.refusal.Checked.{Checked}
-use Rattle.base.specs.declared.refusal.Checked.TheVariants.{Passed, Failed}
 use Rattle.mesh.specs.Checks.{ragged, oversize, all_below, mesh_check}
 use Rattle.layout.specs.Layout.{coords_from, corners_from}
 use Rattle.layout.specs.After.{After, after, guarded}
@@ -55,7 +55,7 @@ threes n ks = go (eqb (n % 3) 0) refl (eqb (length ks % 3) 0) refl
 
 -- ---- row n, beside the check's outcome c
 pub record Row (n : ℕ) (c : Checked) : Type 0 where
-  pub none : n ≡ 0 → c ≡ Passed
+  pub none : n ≡ 0 → c ≡ passed
   pub some : 0 < n → (fs : List Float) (ws : List ℕ) (good : After) → guarded c fs ws good ≡ after (refused_by n) fs ws
 
 pub row : (q : ℕ) (xs : List Float) (ks : List ℕ) (a b : ℕ) → Row (open_row q xs ks a b) (open_check q (length xs) ks a b)
@@ -80,7 +80,7 @@ row q xs ks a b = at (ragged n ks) refl
         (either (ltb a (coords_from + n)) (ltb b (corners_from q + length ks)))
 
     cases : (y z w : Bool) → Row (cond y 2 (cond (not z) 3 (cond (not w) 4 0)))
-        (and_then (cond y (Failed Oversize) (cond z Passed (Failed LooseCorner))) (cond w Passed (Failed ShortStore)))
+        (result_and (cond y (Err Oversize) (cond z passed (Err LooseCorner))) (cond w passed (Err ShortStore)))
     cases true z w = record { none = λ e. absurd (omega arith); some = λ h fs ws g. refl }
     cases false false w = record { none = λ e. absurd (omega arith); some = λ h fs ws g. refl }
     cases false true false = record { none = λ e. absurd (omega arith); some = λ h fs ws g. refl }
@@ -88,9 +88,9 @@ row q xs ks a b = at (ragged n ks) refl
 
     at : (x : Bool) → ragged n ks ≡ x
         → Row (cond x 1 (cond (oversize n ks) 2 (cond (loose_in (n / 3) ks) 3 (cond short 4 0))))
-        (and_then
-        (cond x (Failed Ragged)
-        (cond (oversize n ks) (Failed Oversize) (cond (all_below (n / 3) ks) Passed (Failed LooseCorner))))
-        (cond enough Passed (Failed ShortStore)))
+        (result_and
+        (cond x (Err Ragged)
+        (cond (oversize n ks) (Err Oversize) (cond (all_below (n / 3) ks) passed (Err LooseCorner))))
+        (cond enough passed (Err ShortStore)))
     at true e = record { none = λ z. absurd (omega arith); some = λ h fs ws g. refl }
     at false e = rw (loose_below (n / 3) ks, short-not e) (cases (oversize n ks) (all_below (n / 3) ks) enough)

@@ -31,7 +31,7 @@ use Rattle.machine.proofs.Slim.{thinned, slim-is, freed_is}
 use Rattle.machine.proofs.Squeezing.{remesh}
 use Rattle.machine.proofs.Unaltered.{remade, Alike, told, heard_by, store-heard, corners_below, squeezed-alike, Goes, put_goes, clear_goes, reweigh_goes, advance_goes, read_goes, finished_goes, page_goes}
 use Rattle.machine.proofs.Adopting.{Holds}
-use Rattle.machine.proofs.Opened.{opens, passed, holds}
+use Rattle.machine.proofs.Opened.{opens, unrefused, holds}
 
 -- ---- how many vertices are in use goes by which corners are equal, not by their numbers
 pub distinct : List ℕ → ℕ
@@ -258,7 +258,7 @@ module _ (r : Float) (xs : List Float) (ks : List ℕ) (fs : List Float) (ws : L
   begun = holds width width4 r xs ks fs ws h
 
   opened-reply : (open_step width fs ws r xs ks).reply ≡ counted (length xs / 3 ∷ length ks / 3 ∷ [])
-  opened-reply = ap (λ (a : After). a.reply) (opens width width4 r xs ks fs ws (passed width width4 r xs ks fs ws h))
+  opened-reply = ap (λ (a : After). a.reply) (opens width width4 r xs ks fs ws (unrefused width width4 r xs ks fs ws h))
 
   opened-told : (cs : List Call)
       → heard_of numberless width (leaving (open_step width fs ws r xs ks)) cs ≡ heard_by numberless (opened r xs ks) cs

@@ -1,4 +1,5 @@
 -- A store that holds a machine passes the check of a store. Assumes nothing.
+use Rattle.base.specs.Answers.{passed}
 use mathlib.Core.Path.{◌≡◌, refl}
 use mathlib.Core.Bool.{Bool, true, false, ◌&&◌, cond}
 use mathlib.Core.List.{List}
@@ -10,7 +11,6 @@ use lib.Dec.{ltb, leb, eqb}
 use lib.Ieee.{Float}
 use borrow.Author.Tests.{lt-ltb, le-leb, eq-eqb, ne_eqb, eqb-true, eqb-false}
 use Rattle.base.specs.Loops.{every}
-use Rattle.base.specs.declared.refusal.Checked.TheVariants.{Passed}
 use Rattle.mesh.specs.Checks.{vertex_limit, face_limit}
 use Rattle.layout.specs.Layout.{coords_from, corners_from}
 use Rattle.layout.specs.Soundness.{long_enough, place_sound, layer_sound, place_sound_at, sound, store_check}
@@ -109,6 +109,6 @@ module _ (wd : ℕ) (fm : Width wd) (m : Mesh) (ss : List Place) (v : Valid m ss
         v.mesh.below,
       ) refl
 
-  pub no_fault : store_check wd (laid_out_lem m ss xs) (words_of wd m ss ys) ≡ Passed
+  pub no_fault : store_check wd (laid_out_lem m ss xs) (words_of wd m ss ys) ≡ passed
   unfolding store_check
   no_fault = rw (long-enough, is-sound) refl

@@ -1,5 +1,6 @@
 -- 02, L14: no answer sees the sign of the sigma of a kernel that stays, but that a list and the store's lines write it,
 -- and no volume so far does. Assumes nothing.
+use Rattle.std.specs.Prelude.{Ok, Err}
 use mathlib.Core.Path.{◌≡◌, refl, sym, ap, subst, ◌∙◌}
 use mathlib.Core.Bool.{Bool, true, false, ◌&&◌, cond}
 use mathlib.Core.List.{List, [], ◌∷◌, ◌++◌, map, map-append}
@@ -12,10 +13,8 @@ use Rattle.base.specs.Floats.{◌⊕◌, ◌⊗◌, +0, abs, greater}
 use Rattle.base.specs.SignLaws.{abs_neg}
 use Rattle.base.specs.Loops.{iterate}
 use Rattle.base.specs.LoopLaws.{times-same}
-use Rattle.base.specs.Answers.{Answer, accepted, refused, counted, Outcome, outcome, guarded_run, room_check, printout, guarded_bytes}
+use Rattle.base.specs.Answers.{Answer, accepted, refused, counted, Outcome, outcome, guarded_run, room_check, printout, guarded_bytes, Checked}
 use Rattle.base.specs.declared.refusal.Refusal.TheVariants.{NoPlace, NoLayer, Unfinished}
-use Rattle.base.specs.declared.refusal.Checked.{Checked}
-use Rattle.base.specs.declared.refusal.Checked.TheVariants.{Passed, Failed}
 use Rattle.layout.specs.Runs.{write}
 use Rattle.mesh.specs.declared.vectors.V3.{V3}
 use Rattle.mesh.specs.declared.triangles.Triangle.{Triangle}
@@ -29,8 +28,9 @@ use Rattle.density.specs.declared.convention.Convention.{Convention}
 use Rattle.density.specs.Densitize.{density_of, densitize_of, densitized}
 use Rattle.density.specs.EvenLaws.{density_abs}
 use Rattle.density.specs.Conventions.{bulk_of, rho0_scale_lem, applied_scale_lem}
+use Rattle.pieces.specs.declared.pieces.Piece.{Piece}
 use Rattle.pieces.specs.declared.pieces.Pieces.{Pieces}
-use Rattle.pieces.specs.Pieces.{delta, stays, size_of, curve_of, itself, solved_by, fitted, decomposed}
+use Rattle.pieces.specs.Pieces.{delta, stays, size_of, curve_of, itself, solved_by, fitted, decomposed, part_at, past_pieces}
 use Rattle.pieces.specs.FitEnd.{ended_fit, fit_of}
 use Rattle.pieces.specs.declared.fit.Fit.{Fit}
 use Rattle.pieces.specs.declared.fit.Fit.TheVariants.{Kept, NoExponent}
@@ -148,8 +148,8 @@ read_said r o = unsigned_read r (record { reply = o.reply; out = o.out; bytes = 
 listed : (v : Convention) (out a b : List Float) (n : ℕ) → unsigned_run n a ≡ unsigned_run n b → (c : Checked)
     → read_said (list v out) (guarded_run c out (outcome (counted (n ∷ [])) a))
     ≡ read_said (list v out) (guarded_run c out (outcome (counted (n ∷ [])) b))
-listed v out a b n h Passed = ap (λ (xs : List Float). record { reply = counted (n ∷ []); out = xs; bytes = [] }) h
-listed v out a b n h (Failed r) = refl
+listed v out a b n h (Ok _) = ap (λ (xs : List Float). record { reply = counted (n ∷ []); out = xs; bytes = [] }) h
+listed v out a b n h (Err r) = refl
 
 module _ (m : Mesh) (ks : List Kernel) (filled : ℕ) (worst : Float) where
   reading-same : (r : Reading)
@@ -175,14 +175,12 @@ module _ (m : Mesh) (ks : List Kernel) (filled : ℕ) (worst : Float) where
       (λ x. ap value_of (density_same js x)) points 0 n))
 
 -- ---- a kernel with a fit
+abbrev unsigned_piece : Piece → Piece
+unsigned_piece p = record { sigma = abs p.sigma; coefficient = p.coefficient }
+
 abbrev fit_by : Bool → Pieces → Pieces
 fit_by b fit =
-    record {
-      count = fit.count;
-      sigma = cond b (map abs fit.sigma) fit.sigma;
-      coefficient = fit.coefficient;
-      error = fit.error;
-    }
+    record { count = fit.count; list = cond b (map unsigned_piece fit.list) fit.list; error = fit.error }
 
 abbrev kernel_by : Bool → Kernel → Kernel
 kernel_by b k = record { c = k.c; sigma = cond b (abs k.sigma) k.sigma; w = k.w; alpha = k.alpha }
@@ -222,9 +220,9 @@ worst_same : (e : Float) (all : List Worked) → worst_from e (map unsigned_work
 worst_same e [] = refl
 worst_same e (a ∷ all) = worst_same (greater e a.fit.error) all
 
-abs_at : (xs : List Float) (j : ℕ) → get_or (map abs xs) j nan ≡ abs (get_or xs j nan)
+abs_at : (ps : List Piece) (j : ℕ) → get_or (map unsigned_piece ps) j past_pieces ≡ unsigned_piece (get_or ps j past_pieces)
 unfolding abs
-abs_at xs j = get_or-map abs xs j nan
+abs_at ps j = get_or-map unsigned_piece ps j past_pieces
 
 -- its pieces
 module _ (k : Kernel) (fit : Pieces) where
@@ -233,7 +231,7 @@ module _ (k : Kernel) (fit : Pieces) where
   piece-same j = go (stays k.alpha)
     where
       go : (b : Bool) → even (piece_at (kernel_by b k) (fit_by b fit) j) ≡ even (piece_at k fit j)
-      go true = rw (abs_at fit.sigma j, abs-abs (get_or fit.sigma j nan)) refl
+      go true = rw (abs_at fit.list j, abs-abs (part_at fit j).sigma) refl
       go false = refl
 
   pieces-to : (n : ℕ) → map even (pieces_to (unsigned k) (unsigned_fit k fit) n) ≡ map even (pieces_to k fit n)
@@ -377,14 +375,14 @@ module _ (m : Mesh) where
 
 -- the volumes so far that the runs hold
 module _ (m : Mesh) (k : Kernel) (fit : Pieces) where
-  volume_same : (j n : ℕ) → volume_to (triangles m) (centre_of (unsigned k)) (get_or (unsigned_fit k fit).sigma j nan) n
-      ≡ volume_to (triangles m) (centre_of k) (get_or fit.sigma j nan) n
+  volume_same : (j n : ℕ) → volume_to (triangles m) (centre_of (unsigned k)) (part_at (unsigned_fit k fit) j).sigma n
+      ≡ volume_to (triangles m) (centre_of k) (part_at fit j).sigma n
   unfolding centre_of
   volume_same j n = go (stays k.alpha)
     where
-      go : (b : Bool) → volume_to (triangles m) (centre_of k) (get_or (fit_by b fit).sigma j nan) n
-          ≡ volume_to (triangles m) (centre_of k) (get_or fit.sigma j nan) n
-      go true = rw (abs_at fit.sigma j) (volume_abs (triangles m) (centre_of k) (get_or fit.sigma j nan) n)
+      go : (b : Bool) → volume_to (triangles m) (centre_of k) (part_at (fit_by b fit) j).sigma n
+          ≡ volume_to (triangles m) (centre_of k) (part_at fit j).sigma n
+      go true = rw (abs_at fit.list j) (volume_abs (triangles m) (centre_of k) (part_at fit j).sigma n)
       go false = refl
 
   cells_same : (n i j t : ℕ)
@@ -444,8 +442,8 @@ same_count t u bs e = rw e (go (text_check (length u) (length bs)))
     go : (c : Checked)
         → (guarded_bytes c bs (printout (counted (length u ∷ [])) (write bs 0 t))).reply
         ≡ (guarded_bytes c bs (printout (counted (length u ∷ [])) (write bs 0 u))).reply
-    go Passed = refl
-    go (Failed r) = refl
+    go (Ok _) = refl
+    go (Err r) = refl
 
 -- ---- one call
 abbrev unsigned_machine : Machine → Machine

@@ -6,12 +6,13 @@ use Prim.Native.Nat.{ℕ, zero, suc, ◌+◌, ◌*◌, ◌-◌, ◌≤◌, min}
 use native.Mathlib.Nat.{suc-mul, zero-mul, suc-add, zero-add, add-zero, sub-zero}
 use native.Mathlib.Omega.{arith}
 use lib.ListN.{get_or, replicate}
-use lib.Ieee.{Float, nan}
+use lib.Ieee.{Float}
 use Rattle.base.specs.Floats.{+0}
 use Rattle.base.specs.Loops.{times}
 use Rattle.volume.specs.Volume.{volume_to}
 use Rattle.kernel.specs.Field.{centre_of}
 use Rattle.kernel.specs.declared.kernel.Kernel.{Kernel}
+use Rattle.pieces.specs.Pieces.{part_at}
 use Rattle.pieces.specs.declared.pieces.Pieces.{Pieces}
 use Rattle.pieces.specs.PieceLaws.{Clean}
 use Rattle.machine.specs.Machine.{Mesh, Place, empty, full}
@@ -33,7 +34,7 @@ module _ (m : Mesh) (k : Kernel) (fit : Pieces) where
       let r = cells-zero h n (suc j) (t - m.faces) (omega arith) (omega arith) (omega arith) in
       let q : suc n * 3 ≡ suc (suc (suc (n * 3))) = omega arith in
       rw (
-        none_done (get_or fit.sigma j nan) t e,
+        none_done (part_at fit j).sigma t e,
         h.no_sigma j l (omega arith),
         h.no_coefficient j l (omega arith),
         r,

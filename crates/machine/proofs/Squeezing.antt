@@ -6,7 +6,7 @@ use native.Mathlib.Nat.{add-zero}
 use native.Mathlib.Omega.{arith}
 use lib.ListN.{length, get_or, set, replicate, length-append, length-map, replicate-append-replicate}
 use lib.Seq.{drop-append_seam}
-use lib.Ieee.{Float, nan}
+use lib.Ieee.{Float}
 use Rattle.base.specs.Floats.{+0}
 use Rattle.layout.specs.Runs.{write}
 use Rattle.mesh.specs.Triangles.{triangle_at}
@@ -16,6 +16,7 @@ use Rattle.volume.specs.Volume.{volume_to}
 use Rattle.volume.specs.Laws.{same_volume}
 use Rattle.kernel.specs.Field.{centre_of}
 use Rattle.kernel.specs.declared.kernel.Kernel.{Kernel}
+use Rattle.pieces.specs.Pieces.{part_at}
 use Rattle.pieces.specs.declared.pieces.Pieces.{Pieces}
 use Rattle.layout.specs.Layout.{coords_from, corners_from}
 use Rattle.squeeze.specs.Squeeze.{rank, renumbered, kept_to, freed_of, squeezed}
@@ -69,7 +70,7 @@ module _ (m : Mesh) (xs : List Float) (ks : List ℕ) (w : ℕ) where
     cells_same k fit zero j t = refl
     cells_same k fit (suc n) j t =
         rw (
-          volume_same (centre_of k) (get_or fit.sigma j nan) (min m.faces t) (omega arith),
+          volume_same (centre_of k) (part_at fit j).sigma (min m.faces t) (omega arith),
           cells_same k fit n (suc j) (t - m.faces),
         ) refl
 

@@ -17,6 +17,7 @@ use Rattle.volume.specs.Volume.{face_sum, volume_to}
 use Rattle.volume.specs.Laws.{volume_suc}
 use Rattle.kernel.specs.Field.{centre_of}
 use Rattle.kernel.specs.declared.kernel.Kernel.{Kernel}
+use Rattle.pieces.specs.Pieces.{part_at}
 use Rattle.pieces.specs.declared.pieces.Pieces.{Pieces}
 use Rattle.advance.specs.Steps.{Work, work, one_face}
 use Rattle.machine.specs.Machine.{Mesh, Provenance, Place, empty, full, need}
@@ -39,13 +40,13 @@ module _ (m : Mesh) (k : Kernel) (fit : Pieces) (hf : 0 < m.faces) where
 
   here : (n j t : ℕ) → t < m.faces → Stepped (suc n) j t
   here n j t h =
-      let s = get_or fit.sigma j nan in
+      let s = (part_at fit j).sigma in
       let a : min m.faces t ≡ t = omega arith in
       let b : min m.faces (t + 1) ≡ t + 1 = omega arith in
       let d : t - m.faces ≡ 0 = omega arith in
       let e : t + 1 - m.faces ≡ 0 = omega arith in
       rw (div-eq_of_lt h, mod-eq_of_lt h, a, b, d, e)
-      (ap (λ (v : Float). s ∷ get_or fit.coefficient j nan ∷ v ∷ cellsFrom n (suc j) 0)
+      (ap (λ (v : Float). s ∷ (part_at fit j).coefficient ∷ v ∷ cellsFrom n (suc j) 0)
       (rw add-one (sym (volume_suc (triangles m) (centre_of k) s t))))
 
   beyond : (n j t : ℕ) → m.faces ≤ t
@@ -56,9 +57,9 @@ module _ (m : Mesh) (k : Kernel) (fit : Pieces) (hf : 0 < m.faces) where
   beyond n j t h ih =
       let f = m.faces in
       let x = (t - f) / f in
-      let s = get_or fit.sigma j nan in
+      let s = (part_at fit j).sigma in
       let v = volume_to (triangles m) (centre_of k) s f in
-      let pre = s ∷ get_or fit.coefficient j nan ∷ v ∷ [] in
+      let pre = s ∷ (part_at fit j).coefficient ∷ v ∷ [] in
       let r = cellsFrom n (suc j) (t - f) in
       let a : min f t ≡ f = omega arith in
       let b : min f (t + 1) ≡ f = omega arith in

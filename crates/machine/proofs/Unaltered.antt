@@ -6,7 +6,7 @@ use Prim.Native.Nat.{ℕ, zero, suc, ◌+◌, ◌<◌}
 use native.Mathlib.Omega.{arith}
 use lib.Dec.{ltb, leb}
 use lib.ListN.{get_or}
-use lib.Ieee.{Float, nan}
+use lib.Ieee.{Float}
 use Rattle.base.specs.Floats.{+0}
 use Rattle.base.specs.Loops.{iterate}
 use Rattle.base.specs.Answers.{refused}
@@ -18,7 +18,7 @@ use Rattle.kernel.specs.Field.{centre_of}
 use Rattle.kernel.specs.declared.kernel.Kernel.{Kernel}
 use Rattle.pieces.specs.declared.pieces.Pieces.{Pieces}
 use Rattle.pieces.specs.declared.fit.Fit.{Fit}
-use Rattle.pieces.specs.Pieces.{decomposed}
+use Rattle.pieces.specs.Pieces.{decomposed, part_at}
 use Rattle.pieces.specs.FitEnd.{fit_of}
 use Rattle.layout.specs.Layout.{place_limit}
 use Rattle.density.specs.declared.convention.Convention.{Convention}
@@ -65,7 +65,7 @@ module _ (m : Mesh) (xs : List Float) (ks : List ℕ) (w : ℕ) where
     part_same : (k : Kernel) (fit : Pieces) (j : ℕ) → fresh_part n k fit j ≡ fresh_part m k fit j
     part_same k fit j =
         ap (λ (x : Float). record { kernel = (fresh_part m k fit j).kernel; volume = x })
-        (volume_same m xs ks w same (centre_of k) (get_or fit.sigma j nan) m.faces (omega arith))
+        (volume_same m xs ks w same (centre_of k) (part_at fit j).sigma m.faces (omega arith))
 
     parts_same : (k : Kernel) (fit : Pieces) (j : ℕ) → fresh_at n k fit j ≡ fresh_at m k fit j
     parts_same k fit zero = refl

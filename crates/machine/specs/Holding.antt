@@ -7,6 +7,7 @@ use Rattle.mesh.specs.declared.triangles.Triangle.{Triangle}
 use Rattle.volume.specs.Volume.{volume_to}
 use Rattle.kernel.specs.Field.{centre_of}
 use Rattle.kernel.specs.declared.kernel.Kernel.{Kernel}
+use Rattle.pieces.specs.Pieces.{part_at}
 use Rattle.pieces.specs.declared.pieces.Pieces.{Pieces}
 use Rattle.layout.specs.Layout.{coords_from, corners_from, layer_words}
 use Rattle.machine.specs.Machine.{Mesh, Place, empty, full}
@@ -28,9 +29,9 @@ triangles m = triangle_at m.coords m.corners
 abbrev pub cells : Mesh → Kernel → Pieces → ℕ → ℕ → ℕ → List Float
 cells m k fit zero j t = []
 cells m k fit (suc n) j t =
-    get_or fit.sigma j nan
-    ∷ get_or fit.coefficient j nan
-    ∷ volume_to (triangles m) (centre_of k) (get_or fit.sigma j nan) (min m.faces t)
+    (part_at fit j).sigma
+    ∷ (part_at fit j).coefficient
+    ∷ volume_to (triangles m) (centre_of k) (part_at fit j).sigma (min m.faces t)
     ∷ cells m k fit n (suc j) (t - m.faces)
 
 -- "Unused fields are zero": those of the pieces past its last

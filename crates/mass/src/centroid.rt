@@ -1,21 +1,21 @@
-// The centroid of a body, for meshes that are sound.
-// Internal: a function with a `requires` is called by proved code alone.
-ghost use Rattle.std.specs.Prelude.{◌≡◌, length};
-ghost use Rattle.mesh.specs.Triangles.{triangle_at, face_count, Sound};
+// The centroid of a body.
+ghost use Rattle.std.specs.Prelude.{◌≡◌};
+ghost use Rattle.mesh.specs.Meshes.{face_count_of, triangles_of};
 ghost use Rattle.mass.specs.Centroid.{moment, face_moment, moment_to, centred, volume_centroid};
 
 use base::floats::abs;
 use mesh::dunavant::{Node, node_at, point_of};
-use mesh::triangles::{Triangle, normal_of, triangle_at};
-use mesh::vectors::{V3, dot};
+use mesh::triangles::{Mesh, Triangle};
+use mesh::vectors::V3;
 use volume::faces::{ORIGIN, body_volume_of};
 
 // The sums after the point at a node, for the normal n.
+#[tactic(auto, unfolding(crate::specs::Centroid::moment))]
 fn moment(acc: V3, t: Triangle, n: V3, k: Node) -> V3
     ensures { result ≡ moment t n k acc }
 {
     let y = point_of(t, k);
-    let m = k.w * 0.25 * dot(y, y);
+    let m = k.w * 0.25 * y.dot(y);
     V3 {
         x: acc.x + m * n.x,
         y: acc.y + m * n.y,
@@ -24,10 +24,11 @@ fn moment(acc: V3, t: Triangle, n: V3, k: Node) -> V3
 }
 
 // The sums after one more face.
+#[tactic(auto, unfolding(crate::specs::Centroid::face_moment), using(base::specs::TimesLaws::turns))]
 fn face_moment(acc: V3, t: Triangle) -> V3
     ensures { result ≡ face_moment t acc }
 {
-    let n = normal_of(t);
+    let n = t.normal();
     let mut acc = acc;
     for i in 0..7usize {
         acc = moment(acc, t, n, node_at(i));
@@ -35,23 +36,20 @@ fn face_moment(acc: V3, t: Triangle) -> V3
     acc
 }
 
-// The sums over all faces.
-fn moment_of(xyz: &[f64], faces: &[u32]) -> V3
-    requires { Sound (length xyz.now) faces.now }
-    ensures { result ≡ moment_to (triangle_at xyz.now faces.now)
-        (face_count faces.now) }
+// The sums over all faces, by face number, as `moment_to` goes.
+#[tactic(auto, unfolding(crate::specs::Centroid::moment_to), using(base::specs::TimesLaws::turns))]
+fn moment_of(mesh: Mesh) -> V3
+    ensures { result ≡ moment_to (triangles_of mesh.entry) (face_count_of mesh.entry) }
 {
     let mut acc = ORIGIN;
-    let mut f: usize = 0;
-    let count = faces.len() / 3;
-    while f < count {
-        acc = face_moment(acc, triangle_at(xyz, faces, f));
-        f += 1;
+    for f in 0..mesh.face_count() {
+        acc = face_moment(acc, mesh.triangle_at(f));
     }
     acc
 }
 
 // The sums over the volume, zeros unless that is above 1e-30 in absolute value.
+#[tactic(auto, unfolding(crate::specs::Centroid::centred))]
 fn centred(a: V3, v: f64) -> V3
     ensures { result ≡ centred a v }
 {
@@ -66,10 +64,9 @@ fn centred(a: V3, v: f64) -> V3
 }
 
 // The centroid of the enclosed volume.
-pub fn centroid_of(xyz: &[f64], faces: &[u32]) -> V3
-    requires { Sound (length xyz.now) faces.now }
-    ensures { result ≡ volume_centroid (triangle_at xyz.now faces.now)
-        (face_count faces.now) }
+#[tactic(auto, unfolding(crate::specs::Centroid::volume_centroid))]
+pub fn centroid_of(mesh: Mesh) -> V3
+    ensures { result ≡ volume_centroid (triangles_of mesh.entry) (face_count_of mesh.entry) }
 {
-    centred(moment_of(xyz, faces), body_volume_of(xyz, faces))
+    centred(moment_of(mesh), body_volume_of(mesh))
 }

@@ -1,10 +1,10 @@
 -- Laws of the check of a mesh. Assumes nothing.
-use Rattle.std.specs.Prelude.{◌≡◌, refl, Bool, true, false, ◌&&◌, ◌||◌, cond, List, [], ◌∷◌, ◌++◌, ℕ, zero, suc, ◌+◌}
+use Rattle.base.specs.Answers.{passed}
+use Rattle.std.specs.Prelude.{◌≡◌, refl, Bool, true, false, ◌&&◌, ◌||◌, cond, List, [], ◌∷◌, ◌++◌, ℕ, zero, suc, ◌+◌, Err}
 use Rattle.std.specs.Prelude.{◌/◌, ◌≤◌, ◌<◌, ltb, length, get_or, take}
 use Rattle.std.proofs.Common.{sym, not-suc-le-zero, le_of_suc-le-suc, arith, take-suc, add-one, ltb-true, ltb-false}
 use Rattle.std.proofs.Math.Bool.{and-true, and_assoc, and-eq-true_iff}
 use Rattle.base.specs.declared.refusal.Refusal.TheVariants.{Ragged, Oversize, LooseCorner}
-use Rattle.base.specs.declared.refusal.Checked.TheVariants.{Passed, Failed}
 use Rattle.mesh.specs.Triangles.{Sound}
 use Rattle.mesh.specs.Checks.{vertex_limit, face_limit, ragged, oversize, all_below, mesh_check}
 
@@ -35,12 +35,12 @@ in_limit n ks h = ltb-false vertex_limit (n / 3) (first (ltb vertex_limit (n / 3
     first false h = refl
 
 -- a mesh that passes is sound
-pub passed-sound : {n : ℕ} {corners : List ℕ} → mesh_check n corners ≡ Passed → Sound n corners
+pub passed_sound : {n : ℕ} {corners : List ℕ} → mesh_check n corners ≡ passed → Sound n corners
 unfolding mesh_check
-passed-sound {n} {corners} h = go (ragged n corners) (oversize n corners) (all_below (n / 3) corners) refl h
+passed_sound {n} {corners} h = go (ragged n corners) (oversize n corners) (all_below (n / 3) corners) refl h
   where
     go : (a b d : Bool) → all_below (n / 3) corners ≡ d
-        → cond a (Failed Ragged) (cond b (Failed Oversize) (cond d Passed (Failed LooseCorner))) ≡ Passed
+        → cond a (Err Ragged) (cond b (Err Oversize) (cond d passed (Err LooseCorner))) ≡ passed
         → Sound n corners
     go false false true e h = record { corner = λ k l. omega (arith, below_each (n / 3) corners e k l) }
     go false false false e h = let z : ◌≡◌ {A = ℕ} 0 1 = cc in absurd (omega arith)

@@ -1,8 +1,7 @@
 -- 01, "The store": refusals 1 to 3, which "concern a mesh given to a call". Definitions only.
-use Rattle.std.specs.Prelude.{ℕ, ◌/◌, ◌%◌, Bool, true, not, ◌&&◌, ◌||◌, cond, List, [], ◌∷◌, ltb, eqb, length}
+use Rattle.base.specs.Answers.{Checked, passed}
+use Rattle.std.specs.Prelude.{ℕ, ◌/◌, ◌%◌, Bool, true, not, ◌&&◌, ◌||◌, cond, List, [], ◌∷◌, ltb, eqb, length, Err}
 use Rattle.base.specs.declared.refusal.Refusal.TheVariants.{Ragged, Oversize, LooseCorner}
-use Rattle.base.specs.declared.refusal.Checked.{Checked}
-use Rattle.base.specs.declared.refusal.Checked.TheVariants.{Passed, Failed}
 
 -- "V vertices ≤ 1,048,576"
 abbrev pub vertex_limit : ℕ
@@ -31,6 +30,6 @@ oversize coordinates corners = above_limit (coordinates / 3) (length corners / 3
 -- refusals 1, 2 and 3 ("index ≥ V") of a mesh of so many coordinates and of these corners: the lowest that applies
 unfoldable pub mesh_check : ℕ → List ℕ → Checked
 mesh_check coordinates corners =
-    cond (ragged coordinates corners) (Failed Ragged)
-    (cond (oversize coordinates corners) (Failed Oversize)
-    (cond (all_below (coordinates / 3) corners) Passed (Failed LooseCorner)))
+    cond (ragged coordinates corners) (Err Ragged)
+    (cond (oversize coordinates corners) (Err Oversize)
+    (cond (all_below (coordinates / 3) corners) passed (Err LooseCorner)))

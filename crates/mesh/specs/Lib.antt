@@ -1,6 +1,7 @@
 pub mod Vectors
 pub mod Triangles
 pub mod TriangleLaws
+pub mod Meshes
 pub mod Checks
 pub mod CheckLaws
 pub mod Corners

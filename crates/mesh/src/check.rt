@@ -2,7 +2,7 @@
 ghost use Rattle.std.specs.Prelude.{◌≡◌, length};
 ghost use Rattle.mesh.specs.Checks.{all_below, mesh_check};
 
-use base::refusal::{Checked, Refusal};
+use base::refusal::Refusal;
 
 // The limits of 01, "The store": V vertices and F faces, as `vertex_limit` and `face_limit` say.
 pub const VERTEX_LIMIT: u32 = 1_048_576;
@@ -10,33 +10,33 @@ pub const VERTEX_LIMIT: u32 = 1_048_576;
 pub const FACE_LIMIT: u32 = 2_097_152;
 
 // Whether each word is below v. It reads all of them, so that it runs at the memory's speed.
+#[tactic(auto, using(crate::specs::CheckLaws::below_more), unfolding(crate::specs::Checks::all_below))]
 pub fn all_below(words: &[u32], v: u32) -> bool
     ensures { result ≡ all_below v words.now }
 {
     let mut all = true;
-    let mut i: usize = 0;
-    while i < words.len() {
-        all = all & (words[i] < v);
-        i += 1;
+    for word in words {
+        all = all & (*word < v);
     }
     all
 }
 
 // Refusals 1, 2 and 3 of a mesh, the lowest that applies.
-pub fn check_mesh(xyz: &[f64], faces: &[u32]) -> Checked
+#[tactic(auto, unfolding(crate::specs::Checks::mesh_check), using(crate::specs::CheckLaws::in_limit))]
+pub fn check_mesh(xyz: &[f64], faces: &[u32]) -> Result<(), Refusal>
     ensures { result ≡ mesh_check (length xyz.now) faces.now }
 {
     let ragged = (xyz.len() % 3 != 0) | (faces.len() % 3 != 0);
     if ragged {
-        return Checked::Failed(Refusal::Ragged);
+        return Err(Refusal::Ragged);
     }
     let v = xyz.len() / 3;
     let oversize = (v > VERTEX_LIMIT as usize) | (faces.len() / 3 > FACE_LIMIT as usize);
     if oversize {
-        return Checked::Failed(Refusal::Oversize);
+        return Err(Refusal::Oversize);
     }
     if all_below(faces, v as u32) {
-        return Checked::Passed;
+        return Ok(());
     }
-    Checked::Failed(Refusal::LooseCorner)
+    Err(Refusal::LooseCorner)
 }

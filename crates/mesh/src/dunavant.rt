@@ -36,19 +36,19 @@ pub const OUTER_TWO: f64 = 0.101_286_507_323_456_34;
 pub const OUTER_WEIGHT: f64 = 0.125_939_180_544_827_13;
 
 // Which of three numbers stands in row i.
+#[tactic(auto, unfolding(crate::specs::Dunavant::by_row))]
 fn by_row(i: usize, middle: f64, inner: f64, outer: f64) -> f64
     ensures { result ≡ by_row i middle inner outer }
 {
-    if i == 0 {
-        return middle;
+    match i {
+        0 => middle,
+        1..=3 => inner,
+        _ => outer,
     }
-    if i < 4 {
-        return inner;
-    }
-    outer
 }
 
 // The barycentric coordinate of row i at corner k.
+#[tactic(auto, unfolding(crate::specs::Dunavant::barycentric))]
 fn barycentric(i: usize, k: usize) -> f64
     requires { i < 7 }
     ensures { result ≡ barycentric i k }
@@ -60,6 +60,7 @@ fn barycentric(i: usize, k: usize) -> f64
 }
 
 // Row i.
+#[tactic(auto, unfolding(crate::specs::Dunavant::node))]
 pub fn node_at(i: usize) -> Node
     requires { i < 7 }
     ensures { result ≡ node i }
@@ -73,6 +74,7 @@ pub fn node_at(i: usize) -> Node
 }
 
 // The point of a triangle at a node.
+#[tactic(auto, unfolding(crate::specs::Dunavant::point_of))]
 pub fn point_of(t: Triangle, k: Node) -> V3
     ensures { result ≡ point_of t k }
 {

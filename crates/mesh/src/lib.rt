@@ -2,6 +2,7 @@
 #![tactic(auto)]
 
 pub mod check;
+pub mod corners;
 pub mod dunavant;
 pub mod triangles;
 pub mod vectors;

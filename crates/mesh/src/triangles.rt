@@ -1,9 +1,11 @@
-// The triangles of a mesh, read from its runs: three floats a vertex, three corners a face.
+// A mesh that is lent as two runs, and its triangles.
 // Internal: a function with a `requires` is called by proved code alone.
-ghost use Rattle.std.specs.Prelude.{◌≡◌, ◌+◌, ◌*◌, ◌≤◌, ◌<◌, length, get_or};
-ghost use Rattle.mesh.specs.Triangles.{vertex, triangle_at, normal_of, Sound};
+ghost use Rattle.std.specs.Prelude.{◌≡◌, length};
+ghost use Rattle.mesh.specs.Triangles.{normal_of, Sound};
 
-use crate::vectors::{V3, cross, sub};
+use crate::check::check_mesh;
+use crate::vectors::V3;
+use base::refusal::Refusal;
 
 // The three corners of a face, in the face's order.
 #[repr(C)]
@@ -14,45 +16,78 @@ pub struct Triangle {
     pub c: V3,
 }
 
-// Vertex i.
-pub fn vertex(xyz: &[f64], i: usize) -> V3
-    requires { 3 * i + 3 ≤ length xyz.now }
-    ensures { result ≡ vertex xyz.now i }
-{
-    V3 {
-        x: xyz[3 * i],
-        y: xyz[3 * i + 1],
-        z: xyz[3 * i + 2],
+impl Triangle {
+    // The normal, as long as twice the triangle's area.
+    #[tactic(auto, unfolding(crate::specs::Triangles::normal_of))]
+    pub fn normal(self) -> V3
+        ensures { result ≡ normal_of self }
+    {
+        (self.b - self.a).cross(self.c - self.b)
     }
 }
 
-// The vertex that corner k names.
-fn corner(xyz: &[f64], faces: &[u32], k: usize) -> V3
-    requires fact_1 { Sound (length xyz.now) faces.now }
-    requires fact_2 { k < length faces.now }
-    ensures { result ≡ vertex xyz.now (get_or faces.now k 0) }
-{
-    vertex(xyz, faces[k] as usize)
+// A mesh that passed the check: three coordinates a vertex, three corners a face, and each corner names a vertex. Loops
+// go over its faces by number, since the definitions of volumes, masses and centroids add up by face number, as
+// `triangles_of` gives each: an iterator of triangles would need the same number in its contract.
+#[derive(Clone, Copy)]
+pub struct Mesh<'a> {
+    pub xyz: &'a [f64],
+    pub faces: &'a [u32],
+    pub ghost sound: { Sound (length xyz.now) faces.now },
 }
 
-// The triangle of face f.
-pub fn triangle_at(xyz: &[f64], faces: &[u32], f: usize) -> Triangle
-    requires fact_1 { Sound (length xyz.now) faces.now }
-    requires fact_2 { 3 * f + 3 ≤ length faces.now }
-    ensures { result ≡ triangle_at xyz.now faces.now f }
-{
-    let a = corner(xyz, faces, 3 * f);
-    let b = corner(xyz, faces, 3 * f + 1);
-    let c = corner(xyz, faces, 3 * f + 2);
-    Triangle { a, b, c }
-}
+impl<'a> Mesh<'a> {
+    ghost use Rattle.std.specs.Prelude.{◌+◌, ◌*◌, ◌≤◌, ◌<◌, get_or};
+    ghost use Rattle.mesh.specs.Triangles.{vertex};
+    ghost use Rattle.mesh.specs.Checks.{mesh_check};
+    ghost use Rattle.mesh.specs.Meshes.{face_count_of, triangles_of, MeshIf};
 
-// The normal of a triangle, as long as twice its area.
-pub fn normal_of(t: Triangle) -> V3
-    ensures { result ≡ normal_of t }
-{
-    let a = t.a;
-    let b = t.b;
-    let c = t.c;
-    cross(sub(b, a), sub(c, b))
+    // The mesh of two runs, or refusal 1, 2 or 3, the lowest that applies.
+    #[tactic(auto, using(crate::specs::CheckLaws::passed_sound))]
+    pub fn checked(xyz: &'a [f64], faces: &'a [u32]) -> Result<Self, Refusal>
+        ensures { MeshIf (mesh_check (length xyz.now) faces.now) xyz.now faces.now result }
+    {
+        check_mesh(xyz, faces)?;
+        Ok(Mesh { xyz, faces })
+    }
+
+    // How many faces there are.
+    pub fn face_count(self) -> usize
+        ensures { result ≡ face_count_of self.entry }
+    {
+        self.faces.len() / 3
+    }
+
+    // Vertex i.
+    #[tactic(auto, unfolding(crate::specs::Triangles::vertex))]
+    fn vertex(self, i: usize) -> V3
+        requires { 3 * i + 3 ≤ length self.xyz.now }
+        ensures { result ≡ vertex self.entry.xyz.now i }
+    {
+        V3 {
+            x: self.xyz[3 * i],
+            y: self.xyz[3 * i + 1],
+            z: self.xyz[3 * i + 2],
+        }
+    }
+
+    // The vertex that corner k names.
+    fn corner(self, k: usize) -> V3
+        requires { k < length self.faces.now }
+        ensures { result ≡ vertex self.entry.xyz.now (get_or self.entry.faces.now k 0) }
+    {
+        self.vertex(self.faces[k] as usize)
+    }
+
+    // The triangle of face f.
+    #[tactic(auto, unfolding(crate::specs::Triangles::triangle_at))]
+    pub fn triangle_at(self, f: usize) -> Triangle
+        requires { f < face_count_of self }
+        ensures { result ≡ triangles_of self.entry f }
+    {
+        let a = self.corner(3 * f);
+        let b = self.corner(3 * f + 1);
+        let c = self.corner(3 * f + 2);
+        Triangle { a, b, c }
+    }
 }

@@ -3,6 +3,7 @@ ghost use Rattle.std.specs.Prelude.{◌≡◌};
 ghost use Rattle.mesh.specs.Vectors.{vsub, dot, cross, norm};
 
 use root::root;
+use std::ops::Sub;
 
 // A point or a vector.
 #[repr(C)]
@@ -13,38 +14,48 @@ pub struct V3 {
     pub z: f64,
 }
 
-// The difference a - b.
-pub fn sub(a: V3, b: V3) -> V3
-    ensures { result ≡ vsub a b }
-{
-    V3 {
-        x: a.x - b.x,
-        y: a.y - b.y,
-        z: a.z - b.z,
+impl Sub for V3 {
+    type Output = V3;
+
+    ghost sub_gives = { λ a b r. r ≡ vsub a b };
+
+    // The difference.
+    #[tactic(auto, unfolding(crate::specs::Vectors::vsub))]
+    fn sub(self, b: V3) -> V3 {
+        V3 {
+            x: self.x - b.x,
+            y: self.y - b.y,
+            z: self.z - b.z,
+        }
     }
 }
 
-// The scalar product.
-pub fn dot(a: V3, b: V3) -> f64
-    ensures { result ≡ dot a b }
-{
-    a.x * b.x + a.y * b.y + a.z * b.z
-}
-
-// The vector product.
-pub fn cross(a: V3, b: V3) -> V3
-    ensures { result ≡ cross a b }
-{
-    V3 {
-        x: a.y * b.z - a.z * b.y,
-        y: a.z * b.x - a.x * b.z,
-        z: a.x * b.y - a.y * b.x,
+impl V3 {
+    // The scalar product.
+    #[tactic(auto, unfolding(crate::specs::Vectors::dot))]
+    pub fn dot(self, b: V3) -> f64
+        ensures { result ≡ dot self b }
+    {
+        self.x * b.x + self.y * b.y + self.z * b.z
     }
-}
 
-// The length of a vector.
-pub fn norm(a: V3) -> f64
-    ensures { result ≡ norm a }
-{
-    root(dot(a, a))
+    // The vector product.
+    #[tactic(auto, unfolding(crate::specs::Vectors::cross))]
+    pub fn cross(self, b: V3) -> V3
+        ensures { result ≡ cross self b }
+    {
+        V3 {
+            x: self.y * b.z - self.z * b.y,
+            y: self.z * b.x - self.x * b.z,
+            z: self.x * b.y - self.y * b.x,
+        }
+    }
+
+    // The length.
+    #[tactic(auto, unfolding(crate::specs::Vectors::norm))]
+    pub fn norm(self) -> f64
+        ensures { result ≡ norm self }
+    {
+        root(self.dot(self))
+    }
 }

@@ -1,6 +1,7 @@
 -- Laws of faces without a corner in a range, of the spans that tell them and of lists of the others. Assumes nothing.
 use Rattle.std.specs.Prelude.{◌≡◌, ℕ, zero, suc, ◌+◌, ◌*◌, ◌/◌, ◌%◌, ◌^◌, ◌<◌, ◌≤◌, Bool, true, false, cond, ◌&&◌, ◌||◌}
 use Rattle.std.specs.Prelude.{List, length, ◌==◌, nat_le, nat_lt, slice_index, slice_index_or, slice_set, refl}
+use Rattle.std.proofs.Math.Nat.{mul-le-mul_left}
 use Rattle.std.proofs.Common.{sym, ap, ◌∙◌, true≢false, add-zero, add-one, arith, length-set, get_or-set_same}
 use Rattle.std.proofs.Common.{get_or-set_other, le-leb, le-ltb, leb-true, leb-false, ltb-true, ltb-false, eqb-true}
 use Rattle.std.proofs.lemmas.Bool.{eqb-false}
@@ -238,3 +239,7 @@ listed-less l h =
       stops = l.stops;
       rest = within_less l.rest h;
     }
+
+-- ---- a block of `size` faces, of so many
+pub block_within : (size blocks k : ℕ) → k < blocks → size * k + size ≤ size * blocks
+block_within size blocks k h = omega (arith, mul-le-mul_left size h)

@@ -2,118 +2,71 @@
 // then the faces of these blocks. Each is put on its list and counts where it is near, so that no branch depends on it:
 // in a mesh without order the processor would guess such a branch wrong time and again.
 // Internal: a function with a `requires` is called by proved code alone.
-ghost use Rattle.std.specs.Prelude.{◌≡◌, ℕ, ◌+◌, ◌*◌, ◌<◌, ◌≤◌, false, length, if◌then◌else◌};
+ghost use Rattle.std.specs.Prelude.{◌≡◌, ℕ, ◌+◌, ◌*◌, ◌<◌, ◌≤◌, false, length};
 ghost use Rattle.near.specs.Near.{NoneWithin, Listed};
 
-// Whether one of the n corners from i on is one of first .. last. The difference from the first wraps for a lesser
-// corner, so that one comparison is enough.
-fn any_within(corners: &[u32], i: usize, n: usize, first: u32, last: u32) -> bool
-    requires { i + n ≤ length corners.now }
-    ensures { result ≡ false → NoneWithin corners.now first last i (i + n) }
+use crate::spans::CornerRange;
+use mesh::corners::Corners;
+
+// Whether one of the n corners from i on is in the range. The difference from the first wraps for a lesser corner, so
+// that one comparison is enough; all corners are looked at, so that the processor compares several at once.
+fn any_within(corners: Corners, i: usize, n: usize, range: CornerRange) -> bool
+    requires { i + n ≤ length corners.list.now }
+    ensures { result ≡ false → NoneWithin corners.entry.list.now range.first range.last i (i + n) }
 {
-    let width = std::num::wrapping_sub_u32(last, first);
+    let width = range.last.wrapping_sub(range.first);
     let mut any = false;
-    let mut j: usize = 0;
-    while j < n {
-        let x = corners[i + j];
-        any = any | (std::num::wrapping_sub_u32(x, first) <= width);
-        j += 1;
+    for k in &corners.list[i..i + n] {
+        any = any | (k.wrapping_sub(range.first) <= width);
     }
     any
 }
 
-// m, or m + 1.
-fn more(m: usize, one: bool) -> usize
-    requires { m < 256 }
-    ensures { (result ≡ m + (if one then 1 else 0)) × (result ≤ m + 1) }
-{
-    if one { m + 1 } else { m }
-}
-
-// Of so many blocks of 8 faces, those that have a corner among first .. last, listed by their first faces; answers how
-// many these are.
-fn near_blocks(
-    corners: &[u32],
+// Of so many blocks of SIZE faces, those that have a corner in the range, added to a list of m by their first faces;
+// answers how many it then has. The m stands beside the list, since `Listed` speaks of the first m words of a list that
+// is still written.
+#[tactic(auto, using(crate::specs::NearLaws::block_within))]
+fn list_blocks<const SIZE: usize>(
+    corners: Corners,
     from: usize,
     blocks: usize,
-    first: u32,
-    last: u32,
-    list: &mut [usize],
-) -> usize
-    requires { (blocks ≤ 32) × (length list.old ≡ 32) × (3 * (from + 8 * blocks) ≤ length corners.now)
-        × (length corners.now ≤ 6291456) }
-    ensures { (result ≤ blocks) × Listed corners.now first last 8 from (from + 8 * blocks)
-        list.new result }
-{
-    let mut m: usize = 0;
-    let mut face = from;
-    let mut left = blocks;
-    while 0 < left {
-        list[m] = face;
-        m = more(m, any_within(corners, 3 * face, 24, first, last));
-        face += 8;
-        left -= 1;
-    }
-    m
-}
-
-// Of so many faces, those that have a corner among first .. last, added to a list of m; answers how many it then has.
-fn near_faces(
-    corners: &[u32],
-    from: usize,
-    faces: usize,
-    first: u32,
-    last: u32,
+    range: CornerRange,
     list: &mut [usize],
     m: usize,
 ) -> usize
-    requires { (m + faces ≤ 256) × (length list.old ≡ 256) × (3 * (from + faces) ≤ length corners.now)
-        × (length corners.now ≤ 6291456) }
-    ensures { (result ≤ m + faces) × ((b : ℕ)
-        → Listed corners.now first last 1 b from list.old m
-        → Listed corners.now first last 1 b (from + faces) list.new result) }
+    requires { (SIZE ≤ 8) × (m + blocks ≤ length list.old) × (blocks ≤ 256)
+        × (3 * (from + SIZE * blocks) ≤ length corners.list.now) }
+    ensures { (result ≤ m + blocks) × ((b : ℕ)
+        → Listed corners.entry.list.now range.first range.last SIZE b from list.old m
+        → Listed corners.entry.list.now range.first range.last SIZE b (from + SIZE * blocks) list.new result) }
 {
     let mut n = m;
-    let mut face = from;
-    let mut left = faces;
-    while 0 < left {
+    for k in 0..blocks {
+        let face = from + SIZE * k;
         list[n] = face;
-        n = more(n, any_within(corners, 3 * face, 3, first, last));
-        face += 1;
-        left -= 1;
+        n += usize::from(any_within(corners, 3 * face, 3 * SIZE, range));
     }
     n
 }
 
-// Of up to 256 faces, those that have a corner among first .. last, listed; answers how many these are.
+// Of up to 256 faces, those that have a corner in the range, listed; answers how many these are. The blocks are gone
+// through by index, since `Listed` speaks of the first words of the whole list, not of a cut of it.
 pub fn list_near(
-    corners: &[u32],
+    corners: Corners,
     from: usize,
     faces: usize,
-    first: u32,
-    last: u32,
+    range: CornerRange,
     list: &mut [usize],
 ) -> usize
-    requires { (faces ≤ 256) × (length list.old ≡ 256) × (3 * (from + faces) ≤ length corners.now)
-        × (length corners.now ≤ 6291456) }
-    ensures { (result ≤ faces) × Listed corners.now first last 1 from (from + faces)
-        list.new result }
+    requires { (faces ≤ 256) × (faces ≤ length list.old) × (3 * (from + faces) ≤ length corners.list.now) }
+    ensures { (result ≤ faces)
+        × Listed corners.entry.list.now range.first range.last 1 from (from + faces) list.new result }
 {
     let mut blocks = [0usize; 32];
-    let near = near_blocks(corners, from, faces / 8, first, last, &mut blocks);
+    let count = list_blocks::<8>(corners, from, faces / 8, range, &mut blocks, 0);
     let mut n: usize = 0;
-    let mut i: usize = 0;
-    while i < near {
-        n = near_faces(corners, blocks[i], 8, first, last, list, n);
-        i += 1;
+    for i in 0..count {
+        n = list_blocks::<1>(corners, blocks[i], 8, range, list, n);
     }
-    near_faces(
-        corners,
-        from + faces / 8 * 8,
-        faces % 8,
-        first,
-        last,
-        list,
-        n,
-    )
+    list_blocks::<1>(corners, from + faces / 8 * 8, faces % 8, range, list, n)
 }

@@ -1,70 +1,65 @@
 // Which corners the faces of a stretch have, told in one word: a span. A pass asks it first, and passes over a stretch
 // that has no corner near its range without reading a corner of it. In a mesh whose neighbours have numbers near each
-// other that is nearly all of the mesh; in a mesh without order it is nothing, and costs as little.
+// other that is nearly all of the mesh; in a mesh without order it is nothing, and costs as little. A span is no struct
+// of two halves: `span` alone makes it and `misses` alone reads it, and `Spanned` speaks of one list of words.
 // Internal: a function with a `requires` is called by proved code alone.
-ghost use Rattle.std.specs.Prelude.{◌≡◌, ℕ, ◌+◌, ◌<◌, ◌≤◌, true, false, length};
-ghost use Rattle.mesh.specs.Corners.{Below};
+ghost use Rattle.std.specs.Prelude.{◌≡◌, ℕ, ◌≤◌, true, false, length};
 ghost use Rattle.sort.specs.Order.{All};
 ghost use Rattle.near.specs.Near.{inside, Spans, Spanned};
 
-// The lesser of two corners.
-fn lesser(a: u32, b: u32) -> u32
-    ensures { (result ≤ a) × (result ≤ b) }
-{
-    if a < b { a } else { b }
+use mesh::corners::Corners;
+
+// The corners first .. last: those that the numbers of a range have as their lesser ones.
+#[derive(Clone, Copy)]
+pub struct CornerRange {
+    pub first: u32,
+    pub last: u32,
 }
 
-// The greater of two corners.
-fn greater(a: u32, b: u32) -> u32
-    requires { (a < 1048576) × (b < 1048576) }
-    ensures { (a ≤ result) × (b ≤ result) × (result < 1048576) }
-{
-    if a < b { b } else { a }
+impl CornerRange {
+    // Whether no corner within a span is one of these; a corner near to them by less than 16 may be taken for one.
+    #[tactic(auto, using(crate::specs::NearLaws::misses_span))]
+    pub fn misses(self, span: u32) -> bool
+        ensures { result ≡ true → (x : ℕ) → Spans span x → inside self.first self.last x ≡ false }
+    {
+        (span / 65536 < self.first / 16) | (self.last / 16 < span % 65536)
+    }
 }
 
 // The span of the corners from .. to - 1.
-fn span(corners: &[u32], from: usize, to: usize) -> u32
-    requires fact_1 { (from ≤ to) × (to ≤ length corners.now) }
-    requires fact_2 { Below 1048576 corners.now }
-    ensures { All (Spans result) corners.now from to }
+fn span(corners: Corners, from: usize, to: usize) -> u32
+    requires { (from ≤ to) × (to ≤ length corners.list.now) }
+    ensures { All (Spans result) corners.entry.list.now from to }
 {
     let mut least: u32 = 1_048_575;
     let mut greatest: u32 = 0;
-    let mut j = from;
-    while j < to {
-        let x = corners[j];
-        least = lesser(least, x);
-        greatest = greater(greatest, x);
-        j += 1;
+    for k in &corners.list[from..to] {
+        least = least.min(*k);
+        greatest = greatest.max(*k);
     }
     greatest / 16 * 65536 + least / 16
 }
 
-// Where a stretch that begins at corner i ends, of n corners.
-fn stop(i: usize, n: usize) -> usize
-    requires { (i < n) × (n ≤ 6291456) }
-    ensures { (i < result) × (result ≤ n) × (result ≤ i + 3072) × (result < n → result ≡ i + 3072) }
-{
-    if n - i < 3072 { n } else { i + 3072 }
+// The faces of a mesh, with the spans of their stretches of 1,024.
+#[derive(Drop)]
+pub struct Faces<'a> {
+    pub corners: Corners<'a>,
+    pub spans: [u32; 2049],
+    pub ghost spanned: { Spanned corners.list.now spans (length corners.list.now) },
 }
 
-// The spans of all stretches.
-pub fn summarize(corners: &[u32], spans: &mut [u32])
-    requires fact_1 { (length corners.now ≤ 6291456) × (length spans.old ≡ 2049) }
-    requires fact_2 { Below 1048576 corners.now }
-    ensures { Spanned corners.now spans.new (length corners.now) }
-{
-    let mut i: usize = 0;
-    while i < corners.len() {
-        let to = stop(i, corners.len());
-        spans[i / 3072] = span(corners, i, to);
-        i = to;
+impl<'a> Faces<'a> {
+    // The faces that have these corners. By the stretches' numbers, since `Spanned` finds a corner's span by the
+    // corner's place in the whole list.
+    pub fn new(corners: Corners<'a>) -> Self
+        ensures { result.corners.list.now ≡ corners.entry.list.now }
+    {
+        let mut spans = [0u32; 2049];
+        let n = corners.list.len();
+        for k in 0..n.div_ceil(3072) {
+            let i = 3072 * k;
+            spans[k] = span(corners, i, n.min(i + 3072));
+        }
+        Faces { corners, spans }
     }
-}
-
-// Whether no corner within a span is one of first .. last; a corner near to them by less than 16 may be taken for one.
-pub fn misses(span: u32, first: u32, last: u32) -> bool
-    ensures { result ≡ true → (x : ℕ) → Spans span x → inside first last x ≡ false }
-{
-    (span / 65536 < first / 16) | (last / 16 < span % 65536)
 }

@@ -1,5 +1,6 @@
 -- The answers of the page, and what is read in a page that is given: what follows from its length. Assumes nothing.
-use Rattle.std.specs.Prelude.{◌≡◌, Bool, cond, List, [], ◌∷◌, map, ℕ, suc, ◌*◌, ◌+◌, ◌≤◌, ◌<◌, Float}
+use Rattle.std.specs.Result.{result_and}
+use Rattle.std.specs.Prelude.{◌≡◌, Bool, cond, List, [], ◌∷◌, ℕ, suc, ◌*◌, ◌+◌, ◌≤◌, ◌<◌, Float, Ok, Err}
 use Rattle.std.proofs.Math.Path.{refl, ap}
 use Rattle.std.proofs.Common.{sym, ◌∙◌, arith}
 use Rattle.std.proofs.Math.Bool.{true, false}
@@ -7,18 +8,16 @@ use Rattle.std.proofs.Math.Dec.{leb}
 use Rattle.std.proofs.Math.ListN.{length, take, drop}
 use Rattle.std.proofs.Math.Seq.{take-append_seam, drop-append_seam}
 use borrow.Author.Tests.{le-leb, lt-leb}
-use Rattle.base.specs.Answers.{counted, refused, and_then, Printout, printout, guarded_bytes}
+use Rattle.base.specs.Answers.{counted, refused, Printout, printout, guarded_bytes, Checked, passed}
 use Rattle.base.specs.RefusalLaws.{not-zero}
 use Rattle.base.specs.declared.refusal.Refusal.TheVariants.{NoFigure, ShortPage}
-use Rattle.base.specs.declared.refusal.Checked.{Checked}
-use Rattle.base.specs.declared.refusal.Checked.TheVariants.{Passed, Failed}
 use Rattle.layout.specs.Runs.{write}
-use Rattle.layout.specs.Layout.{place_limit, faces_of}
+use Rattle.layout.specs.Layout.{place_limit}
 use Rattle.layout.specs.SoundLaws.{fine}
 use Rattle.readings.specs.Readings.{held_filled}
-use Rattle.page.specs.Page.{done_check, Row, total_of, page_of, all_printable, page_answer, held_rows, page_step}
-use Rattle.page.specs.PageLaws.{AllFair, done-passed, page_length, rows-count, rows_fair, filled_most}
-use Rattle.page.specs.ReadBack.{Lines, exactly, read_mass, read_lines, shown, page_lines, page_back, total_back}
+use Rattle.page.specs.Page.{done_check, Row, page_of, all_printable, page_answer, held_rows, page_step}
+use Rattle.page.specs.PageLaws.{AllFair, done_passed, page_length, rows_count, rows_fair, filled_most}
+use Rattle.page.specs.ReadBack.{page_lines, page_back, total_back}
 use Rattle.page.specs.Posted.{Posted}
 
 module _ (rs : List Row) (bs : List ℕ) where
@@ -54,12 +53,12 @@ module _ (q : ℕ) (fs : List Float) (ws bs : List ℕ) where
   -- what follows where the checks of the store, of the masses and of the room end so
   abbrev so : Checked → Bool → Bool → Printout
   so a b c = guarded_bytes a bs (guarded_bytes
-      (and_then (cond b Passed (Failed NoFigure)) (cond c Passed (Failed ShortPage))) bs
+      (result_and (cond b passed (Err NoFigure)) (cond c passed (Err ShortPage))) bs
       (printout (counted (length (page_of rows) ∷ [])) (write bs 0 (page_of rows))))
 
   -- a page that is not refused passed all three
   record Good : Type 0 where
-    sound : done_check q fs ws ≡ Passed
+    sound : done_check q fs ws ≡ passed
     figures : all_printable rows ≡ true
     is : got ≡ printout (counted (length (page_of rows) ∷ [])) (write bs 0 (page_of rows))
 
@@ -69,18 +68,19 @@ module _ (q : ℕ) (fs : List Float) (ws bs : List ℕ) where
     where
       go : (a : Checked) (b c : Bool) → done_check q fs ws ≡ a → all_printable rows ≡ b
           → leb (length (page_of rows)) (length bs) ≡ c → (so a b c).reply.refusal ≡ 0 → Good
-      go (Failed e) b c x y z r = not-zero e r
-      go Passed false c x y z r = absurd (omega arith)
-      go Passed true false x y z r = absurd (omega arith)
-      go Passed true true x y z r = record { sound = x; figures = y; is = rw (x, y, z) refl }
+      go (Err e) b c x y z r = not-zero e r
+      go (Ok _) false c x y z r = absurd (omega arith)
+      go (Ok _) true false x y z r = absurd (omega arith)
+      go (Ok _) true true x y z r = record { sound = x; figures = y; is = rw (x, y, z) refl }
 
   pub posted : got.reply.refusal ≡ 0 → Posted q fs ws bs
   unfolding write
   posted h =
       let g = good h in
-      let s = fine q fs ws (done-passed q fs ws g.sound) in
-      let f : AllFair rows = rows_fair q fs ws (faces_of ws) s.places place_limit (omega arith) g.figures in
-      let k = rows-count q fs ws place_limit in
+      let s = fine q fs ws (done_passed q fs ws g.sound) in
+      let f : AllFair rows
+      = rows_fair q fs ws (λ i h. (s.places.place i h).pieces) place_limit (omega arith) g.figures in
+      let k = rows_count q fs ws place_limit in
       let few : length rows ≤ 32 = rw k (filled_most q ws place_limit) in
       let n : length (page_of rows) ≡ size = page_length rows f few ∙ omega (arith, k) in
       let w : wall ≡ page_of rows = ap (λ (p : Printout). take size p.bytes) g.is

@@ -25,11 +25,11 @@ module _ (fs : List Float) (i s : ℕ) (e : s ≡ 0) where
   pub none_is : row_at fs i s ≡ []
   none_is = rw (eq-eqb s 0 e)
 
-  pub none-printable : true ≡ all_printable (row_at fs i s)
-  none-printable = rw none_is
+  pub none_printable : true ≡ all_printable (row_at fs i s)
+  none_printable = rw none_is
 
-  pub none-count : length (row_at fs i s) ≡ 0
-  none-count = rw none_is
+  pub none_count : length (row_at fs i s) ≡ 0
+  none_count = rw none_is
 
   pub none_written : {o : List ℕ} {at : ℕ} → Wrote o at (lines_of (row_at fs i s)) at o
   none_written {o} {at} = subst (λ (l : List Row). Wrote o at (lines_of l) at o) (sym none_is) nothing
@@ -49,15 +49,15 @@ module _ (fs : List Float) (i s p : ℕ) (n : s ≡ 0 → ⊥) (e : p ≡ s - 1)
   test : all_printable (row_at fs i s) ≡ printable m
   test = ap all_printable one-is ∙ and-true (printable m)
 
-  pub one-printable : (a : Float) → a ≡ abs m → le a mass_limit ≡ all_printable (row_at fs i s)
+  pub one_printable : (a : Float) → a ≡ abs m → le a mass_limit ≡ all_printable (row_at fs i s)
   unfolding printable
-  one-printable a h = ap (λ (x : Float). le x mass_limit) h ∙ sym test
+  one_printable a h = ap (λ (x : Float). le x mass_limit) h ∙ sym test
 
   pub fair_mass : all_printable (row_at fs i s) ≡ true → printable m ≡ true
   fair_mass h = sym test ∙ h
 
-  pub one-count : length (row_at fs i s) ≡ 1
-  one-count = ap length one-is
+  pub one_count : length (row_at fs i s) ≡ 1
+  one_count = ap length one-is
 
   module _ (v : ℤ) (h : v ≡ rounded m) where
     pub one_total : total_of (row_at fs i s) ≡ v

@@ -1,9 +1,8 @@
 -- 02, L8, "The wall page": its lines, what they show, when it is refused. Definitions only.
-use Rattle.std.specs.Prelude.{ℕ, zero, suc, ◌-◌, Bool, true, ◌&&◌, cond, List, [], ◌∷◌, ◌++◌, ltb, leb, eqb, ℤ, pos, negsuc, ◌+ℤ◌, length, replicate, Float}
-use Rattle.base.specs.Answers.{counted, and_then, Printout, printout, guarded_bytes}
+use Rattle.std.specs.Result.{result_and}
+use Rattle.std.specs.Prelude.{ℕ, zero, suc, ◌-◌, Bool, true, ◌&&◌, cond, List, [], ◌∷◌, ◌++◌, ltb, leb, eqb, ℤ, pos, negsuc, ◌+ℤ◌, length, replicate, Float, Err}
+use Rattle.base.specs.Answers.{counted, Printout, printout, guarded_bytes, Checked, passed}
 use Rattle.base.specs.declared.refusal.Refusal.TheVariants.{Unfinished, NoFigure, ShortPage}
-use Rattle.base.specs.declared.refusal.Checked.{Checked}
-use Rattle.base.specs.declared.refusal.Checked.TheVariants.{Passed, Failed}
 use Rattle.layout.specs.Runs.{write}
 use Rattle.layout.specs.Layout.{place_limit, faces_of, status_of}
 use Rattle.layout.specs.Soundness.{store_check}
@@ -75,16 +74,16 @@ all_printable [] = true
 all_printable (r ∷ rs) = printable r.mass && all_printable rs
 
 abbrev pub figure_check : List Row → Checked
-figure_check rs = cond (all_printable rs) Passed (Failed NoFigure)
+figure_check rs = cond (all_printable rs) passed (Err NoFigure)
 
 -- "18 when the lent page is too short, after 17"; both are counts of bytes
 abbrev pub page_check : ℕ → ℕ → Checked
-page_check need room = cond (leb need room) Passed (Failed ShortPage)
+page_check need room = cond (leb need room) passed (Err ShortPage)
 
 -- "it answers its byte count, bytes past that untouched"
 unfoldable pub page_answer : List Row → List ℕ → Printout
 page_answer rs bs =
-    guarded_bytes (and_then (figure_check rs) (page_check (length (page_of rs)) (length bs))) bs
+    guarded_bytes (result_and (figure_check rs) (page_check (length (page_of rs)) (length bs))) bs
     (printout (counted (length (page_of rs) ∷ [])) (write bs 0 (page_of rs)))
 
 -- ---- as a store's runs hold it: place i, empty where its status is 0. "The mass is the place's own field mass"
@@ -99,7 +98,7 @@ held_rows q fs ws (suc k) = held_rows q fs ws k ++ row_at fs k (status_of q ws k
 -- rows 4, 5 and 8: "It is given only when nothing is left to do, else 8"; "The page takes places of every layer"
 unfoldable pub done_check : ℕ → List Float → List ℕ → Checked
 done_check q fs ws =
-    and_then (store_check q fs ws) (cond (ltb 0 (left_of q ws (faces_of ws) place_limit)) (Failed Unfinished) Passed)
+    result_and (store_check q fs ws) (cond (ltb 0 (left_of q ws (faces_of ws) place_limit)) (Err Unfinished) passed)
 
 -- the contract
 unfoldable pub page_step : ℕ → List Float → List ℕ → List ℕ → Printout

@@ -6,17 +6,15 @@ use Rattle.std.proofs.Math.Bool.{true, and-eq-true_iff}
 use Prim.Native.Nat.{ℕ, zero, suc, ◌+◌, ◌-◌, ◌*◌, ◌≤◌, ◌<◌}
 use native.Mathlib.Omega.{arith}
 use Rattle.std.proofs.Math.Decide.{dec_lt}
-use borrow.Author.Tests.{lt-ltb, le-ltb, le-leb, lt-leb}
+use borrow.Author.Tests.{lt-ltb, le-ltb}
 use Rattle.std.proofs.Math.IntN.{+ℤ_assoc, +ℤ_comm, +ℤ_idl, neg_ℤ-+ℤ, pos-+ℤ-pos}
 use Rattle.std.proofs.Math.ListN.{length, length-append}
 use Rattle.std.proofs.lemmas.List.{length-replicate}
-use Rattle.base.specs.Answers.{counted, refused, printout}
-use Rattle.base.specs.declared.refusal.Refusal.TheVariants.{NoFigure, ShortPage}
-use Rattle.base.specs.declared.refusal.Checked.TheVariants.{Passed}
-use Rattle.layout.specs.Runs.{write}
-use Rattle.layout.specs.Layout.{status_of}
+use Rattle.base.specs.Answers.{refused, printout, passed}
+use Rattle.base.specs.declared.refusal.Refusal.TheVariants.{NoFigure}
+use Rattle.layout.specs.Layout.{place_limit, piece_limit, status_of}
 use Rattle.layout.specs.Soundness.{store_check}
-use Rattle.layout.specs.SoundLaws.{Worded, passed-both}
+use Rattle.layout.specs.SoundLaws.{passed-both}
 use Rattle.readings.specs.Readings.{raw_mass_lem, held_at, held_filled}
 use Rattle.text.specs.Print.{decimal_text}
 use Rattle.text.specs.LengthLaws.{decimal-length, digits-under}
@@ -153,20 +151,20 @@ module _ (q : ℕ) (fs : List Float) (ws : List ℕ) where
       go true = refl
       go false = refl
 
-  pub rows-count : (k : ℕ) → length (held_rows q fs ws k) ≡ held_filled q ws k
+  pub rows_count : (k : ℕ) → length (held_rows q fs ws k) ≡ held_filled q ws k
   unfolding held_rows held_filled
-  rows-count zero = refl
-  rows-count (suc k) =
-      length-append (held_rows q fs ws k) (at k) ∙ (λ i. rows-count k i + row_count k (status_of q ws k) i)
+  rows_count zero = refl
+  rows_count (suc k) =
+      length-append (held_rows q fs ws k) (at k) ∙ (λ i. rows_count k i + row_count k (status_of q ws k) i)
 
   -- all of them can be printed: each can
-  pub each-printable : (n k : ℕ) → k < n → all_printable (held_rows q fs ws n) ≡ true → all_printable (at k) ≡ true
+  pub each_printable : (n k : ℕ) → k < n → all_printable (held_rows q fs ws n) ≡ true → all_printable (at k) ≡ true
   unfolding held_rows
-  each-printable zero k h e = absurd (omega arith)
-  each-printable (suc n) k h e =
+  each_printable zero k h e = absurd (omega arith)
+  each_printable (suc n) k h e =
       let z = (and-eq-true_iff (all_printable (held_rows q fs ws n)) (all_printable (at n))).0
       (sym (printable_append (held_rows q fs ws n) (at n)) ∙ e) in
-      go z (λ (l : k < n). each-printable n k l z.0) (dec_lt k n)
+      go z (λ (l : k < n). each_printable n k l z.0) (dec_lt k n)
     where
       go : (all_printable (held_rows q fs ws n) ≡ true) × (all_printable (at n) ≡ true)
           → (k < n → all_printable (at k) ≡ true) → Dec (k < n) → all_printable (at k) ≡ true
@@ -185,7 +183,8 @@ module _ (q : ℕ) (fs : List Float) (ws : List ℕ) where
       go false f =
           (record { place = omega arith; pieces = omega arith; mass = ((and-eq-true_iff (printable m) true).0 f).0 }, tt)
 
-  module _ (ms : ℕ) (w : Worded q ws ms) where
+  -- each place has room for its pieces
+  module _ (fit : (i : ℕ) → i < place_limit → status_of q ws i - 1 ≤ piece_limit) where
     pub rows_fair : (n : ℕ) → n ≤ 32 → all_printable (held_rows q fs ws n) ≡ true → AllFair (held_rows q fs ws n)
     unfolding held_rows
     rows_fair zero h e = tt
@@ -193,7 +192,7 @@ module _ (q : ℕ) (fs : List Float) (ws : List ℕ) where
         let z = (and-eq-true_iff (all_printable (held_rows q fs ws n)) (all_printable (at n))).0
         (sym (printable_append (held_rows q fs ws n) (at n)) ∙ e) in
         fair_append (held_rows q fs ws n) (at n) (rows_fair n (omega arith) z.0)
-        (row-fair n (status_of q ws n) (omega arith) (w.place n (omega arith)).pieces z.1)
+        (row-fair n (status_of q ws n) (omega arith) (fit n (omega arith)) z.1)
 
   pub rows_mono : (k n : ℕ) → k ≤ n → length (held_rows q fs ws k) ≤ length (held_rows q fs ws n)
   unfolding held_rows
@@ -213,8 +212,8 @@ add_plus p l n =
     ∙ ap (λ (z : ℤ). pos p +ℤ z) (+ℤ_comm (pos n) (neg_ℤ (pos l)))
     ∙ sym (+ℤ_assoc (pos p) (neg_ℤ (pos l)) (pos n))
 
-pub add-less : (p l n : ℕ) → pos p -ℤ pos (l + n) ≡ (pos p -ℤ pos l) +ℤ neg_ℤ (pos n)
-add-less p l n =
+pub add_less : (p l n : ℕ) → pos p -ℤ pos (l + n) ≡ (pos p -ℤ pos l) +ℤ neg_ℤ (pos n)
+add_less p l n =
     ap (λ (z : ℤ). pos p +ℤ neg_ℤ z) (sym (pos-+ℤ-pos l n))
     ∙ ap (λ (z : ℤ). pos p +ℤ z) (neg_ℤ-+ℤ (pos l) (pos n))
     ∙ sym (+ℤ_assoc (pos p) (neg_ℤ (pos l)) (neg_ℤ (pos n)))
@@ -223,9 +222,9 @@ pub plus_over : (p l : ℕ) → l ≤ p → pos (p - l) ≡ pos p -ℤ pos l
 plus_over p zero h = ap pos (let e : p - 0 ≡ p + 0 = omega arith in e)
 plus_over p (suc l) h = rw (le-ltb p (suc l) h)
 
-pub less-over : (p l : ℕ) → p < l → neg_ℤ (pos (l - p)) ≡ pos p -ℤ pos l
-less-over p zero h = absurd (omega arith)
-less-over p (suc l) h =
+pub less_over : (p l : ℕ) → p < l → neg_ℤ (pos (l - p)) ≡ pos p -ℤ pos l
+less_over p zero h = absurd (omega arith)
+less_over p (suc l) h =
     let e : suc l - p ≡ suc (suc l - suc p) = omega arith in
     rw (lt-ltb p (suc l) h, e)
 
@@ -236,6 +235,6 @@ module _ (rs : List Row) (bs : List ℕ) where
   unprintable_is e = rw e
 
 -- ---- the check passes only on a store that passes
-pub done-passed : (q : ℕ) (fs : List Float) (ws : List ℕ) → done_check q fs ws ≡ Passed → store_check q fs ws ≡ Passed
+pub done_passed : (q : ℕ) (fs : List Float) (ws : List ℕ) → done_check q fs ws ≡ passed → store_check q fs ws ≡ passed
 unfolding done_check
-done-passed q fs ws h = (passed-both (store_check q fs ws) _ h).0
+done_passed q fs ws h = (passed-both (store_check q fs ws) _ h).0

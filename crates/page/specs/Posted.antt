@@ -1,24 +1,18 @@
 -- 02, L8, of any runs at all: what is read in a page that is given, and that a refused one stays as it was.
 -- Assumes nothing.
-use Rattle.std.specs.Prelude.{◌≡◌, Bool, cond, List, [], ◌∷◌, map, ℕ, suc, ◌*◌, ◌≤◌, Float}
-use Rattle.std.proofs.Math.Path.{refl, ap}
-use Rattle.std.proofs.Common.{◌∙◌, arith}
+use Rattle.std.specs.Result.{result_and}
+use Rattle.std.specs.Prelude.{◌≡◌, Bool, cond, List, [], ◌∷◌, map, ℕ, suc, ◌*◌, Float, Ok, Err}
+use Rattle.std.proofs.Math.Path.{refl}
 use Rattle.std.proofs.Math.Bool.{true, false}
 use Rattle.std.proofs.Math.Dec.{leb}
 use Rattle.std.proofs.Math.ListN.{length, take, drop}
-use Rattle.std.proofs.Math.Seq.{take-append_seam, drop-append_seam}
-use Rattle.base.specs.Answers.{counted, and_then, Printout, printout, guarded_bytes}
-use Rattle.base.specs.RefusalLaws.{not-zero}
+use Rattle.base.specs.Answers.{counted, Printout, printout, guarded_bytes, Checked, passed}
 use Rattle.base.specs.declared.refusal.Refusal.TheVariants.{NoFigure, ShortPage}
-use Rattle.base.specs.declared.refusal.Checked.{Checked}
-use Rattle.base.specs.declared.refusal.Checked.TheVariants.{Passed, Failed}
 use Rattle.layout.specs.Runs.{write}
-use Rattle.layout.specs.Layout.{place_limit, faces_of}
-use Rattle.layout.specs.SoundLaws.{fine}
+use Rattle.layout.specs.Layout.{place_limit}
 use Rattle.readings.specs.Readings.{held_filled}
 use Rattle.page.specs.Page.{done_check, Row, total_of, page_of, all_printable, page_answer, held_rows, page_step}
-use Rattle.page.specs.PageLaws.{AllFair, done-passed, page_length, rows-count, rows_fair, filled_most}
-use Rattle.page.specs.ReadBack.{Lines, exactly, read_mass, read_lines, shown, page_lines, page_back, total_back}
+use Rattle.page.specs.ReadBack.{Lines, exactly, read_mass, read_lines, shown}
 
 module _ (q : ℕ) (fs : List Float) (ws bs : List ℕ) where
   -- the call, the filled places, how many bytes their page has, and those bytes
@@ -49,7 +43,7 @@ module _ (q : ℕ) (fs : List Float) (ws bs : List ℕ) where
   -- what follows where the checks of the store, of the masses and of the room end so
   abbrev so : Checked → Bool → Bool → Printout
   so a b c = guarded_bytes a bs (guarded_bytes
-      (and_then (cond b Passed (Failed NoFigure)) (cond c Passed (Failed ShortPage))) bs
+      (result_and (cond b passed (Err NoFigure)) (cond c passed (Err ShortPage))) bs
       (printout (counted (length (page_of rows) ∷ [])) (write bs 0 (page_of rows))))
 
   -- "a refused call changes nothing"
@@ -58,7 +52,7 @@ module _ (q : ℕ) (fs : List Float) (ws bs : List ℕ) where
   unchanged h = go (done_check q fs ws) (all_printable rows) (leb (length (page_of rows)) (length bs)) h
     where
       go : (a : Checked) (b c : Bool) → ((so a b c).reply.refusal ≡ 0 → ⊥) → (so a b c).bytes ≡ bs
-      go (Failed e) b c n = refl
-      go Passed false c n = refl
-      go Passed true false n = refl
-      go Passed true true n = absurd (n refl)
+      go (Err e) b c n = refl
+      go (Ok _) false c n = refl
+      go (Ok _) true false n = refl
+      go (Ok _) true true n = absurd (n refl)

@@ -1,46 +1,40 @@
 // The masses that a page shows, place by place, and their sum.
 // Internal: a function with a `requires` is called by proved code alone.
 ghost use Rattle.std.specs.Prelude.{◌≡◌, true, ◌+◌, ◌*◌, ◌-◌, ◌≤◌, ◌<◌, pos, ◌+ℤ◌, ◌-ℤ◌, length};
-ghost use Rattle.layout.specs.Layout.{width, place_limit, piece_limit, coords_from};
-ghost use Rattle.layout.specs.SoundLaws.{Worded};
+ghost use Rattle.layout.specs.Layout.{width, place_limit, status_of};
 ghost use Rattle.text.specs.Print.{Wrote};
 ghost use Rattle.whole.specs.Whole.{signed_whole};
 ghost use Rattle.page.specs.Page.{row_at, held_rows, all_printable, lines_of, total_of};
 
 use crate::lines::write_line;
 use base::floats::abs;
-use layout::left::pieces;
-use layout::offsets::{PLACES, STATE, WIDTH};
-use readings::sums::place_mass;
+use layout::offsets::PLACES;
+use readings::places::Places;
 use whole::rounding::{Whole, rounded};
 
 // Whether place i is empty or its mass can be printed.
-fn place_printable(floats: &[f64], i: usize, status: u32) -> bool
-    requires { (coords_from ≤ length floats.now) × (i < place_limit) × (status - 1 ≤ piece_limit) }
-    ensures { result ≡ all_printable (row_at floats.now i status) }
+#[tactic(auto, using(crate::proofs::Rows::none_printable, crate::proofs::Rows::one_printable))]
+fn place_printable(places: Places, i: usize) -> bool
+    requires { i < place_limit }
+    ensures { result ≡ all_printable (row_at places.entry.floats.now i (status_of width places.entry.words.now i)) }
 {
-    if status == 0 {
-        return true;
-    }
-    abs(place_mass(floats, i, pieces(status), 0.0)) <= 1e15
+    places.status_at(i) == 0 || abs(places.mass_with(i, 0.0)) <= 1e15
 }
 
 // Whether the masses of all filled places can be printed.
-pub fn all_printable(floats: &[f64], words: &[u32], faces: usize) -> bool
-    requires fact_1 { coords_from ≤ length floats.now }
-    requires fact_2 { Worded width words.now faces }
-    ensures { result ≡ all_printable (held_rows width floats.now words.now place_limit) }
+#[tactic(auto, unfolding(crate::specs::Page::held_rows), using(crate::specs::PageLaws::printable_append))]
+pub fn all_printable(places: Places) -> bool
+    ensures { result ≡ all_printable (held_rows width places.entry.floats.now places.entry.words.now place_limit) }
 {
     let mut good = true;
-    let mut i: usize = 0;
-    while i < PLACES {
-        good = good & place_printable(floats, i, words[STATE + WIDTH * i]);
-        i += 1;
+    for i in 0..PLACES {
+        good &= place_printable(places, i);
     }
     good
 }
 
-// How far a page is written, and the sums of its masses above and below zero.
+// How far a page is written, and the sums of its masses above and below zero. The two sums are kept apart since a mass
+// comes, and the total is printed, as a sign and a magnitude: a signed sum would be turned to and fro.
 #[derive(Clone, Copy)]
 pub struct Sums {
     pub at: usize,
@@ -49,6 +43,7 @@ pub struct Sums {
 }
 
 // The sums with a mass more, the page written up to `at`.
+#[tactic(auto, using(crate::specs::PageLaws::add_plus, crate::specs::PageLaws::add_less))]
 fn add(s: Sums, at: usize, v: Whole) -> Sums
     requires { (v.size ≤ 1000000000000000) × (s.plus ≤ 31000000000000000) × (s.less ≤ 31000000000000000) }
     ensures { (result.at ≡ at) × (pos result.plus -ℤ pos result.less
@@ -72,6 +67,7 @@ fn add(s: Sums, at: usize, v: Whole) -> Sums
 }
 
 // The total.
+#[tactic(auto, using(crate::specs::PageLaws::plus_over, crate::specs::PageLaws::less_over))]
 pub fn total(plus: u64, less: u64) -> Whole
     ensures { (signed_whole result.minus result.size ≡ pos plus -ℤ pos less) × (result.size ≤ plus + less) }
 {
@@ -88,23 +84,22 @@ pub fn total(plus: u64, less: u64) -> Whole
 }
 
 // The line of place i, if it is filled.
-pub fn place_line(out: &mut [u8], floats: &[f64], i: usize, status: u32, s: Sums) -> Sums
-    requires fact_1 { (coords_from ≤ length floats.now) × (i < place_limit) × (status - 1 ≤ piece_limit) }
-    requires fact_2 { all_printable (row_at floats.now i status) ≡ true }
-    requires fact_3 { (s.at + 65 * length (row_at floats.now i status) ≤ length out.old) × (s.plus ≤ 31000000000000000)
-        × (s.less ≤ 31000000000000000) }
-    ensures at_value { (result.at ≡ s.at + 65 * length (row_at floats.now i status))
-        × Wrote out.old s.at (lines_of (row_at floats.now i status)) result.at
-        out.new }
-    ensures less_value { (pos result.plus -ℤ pos result.less
-        ≡ (pos s.plus -ℤ pos s.less) +ℤ total_of (row_at floats.now i status)) ×
+pub fn place_line(out: &mut [u8], places: Places, i: usize, s: Sums) -> Sums
+    requires place { i < place_limit }
+    requires printable { all_printable (row_at places.floats.now i (status_of width places.words.now i)) ≡ true }
+    requires room { s.at + 65 * length (row_at places.floats.now i (status_of width places.words.now i))
+        ≤ length out.old }
+    requires sums { (s.plus ≤ 31000000000000000) × (s.less ≤ 31000000000000000) }
+    ensures at_value { let row = row_at places.entry.floats.now i (status_of width places.entry.words.now i) in
+        (result.at ≡ s.at + 65 * length row) × Wrote out.old s.at (lines_of row) result.at out.new }
+    ensures less_value { let row = row_at places.entry.floats.now i (status_of width places.entry.words.now i) in
+        (pos result.plus -ℤ pos result.less ≡ (pos s.plus -ℤ pos s.less) +ℤ total_of row) ×
         (result.plus ≤ s.plus + 1000000000000000) × (result.less ≤ s.less + 1000000000000000) }
 {
-    if status == 0 {
+    if places.status_at(i) == 0 {
         return s;
     }
-    let count = pieces(status);
-    let v = rounded(place_mass(floats, i, count, 0.0));
-    let at = write_line(out, s.at, i as u64, count as u64, v);
+    let v = rounded(places.mass_with(i, 0.0));
+    let at = write_line(out, s.at, i as u64, places.pieces_at(i) as u64, v);
     add(s, at, v)
 }

@@ -1,3 +1,2 @@
-pub mod Fits
-pub mod Runs
+pub mod Turns
 pub mod ListLaws

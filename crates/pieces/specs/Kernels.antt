@@ -1,27 +1,25 @@
 -- 01, "Pieces" and "The store": pieces written as kernels, "six floats each". Definitions only.
-use Rattle.std.specs.Prelude.{ℕ, ◌+◌, ◌*◌, List, [], ◌∷◌, get_or, length, Float}
-use Rattle.std.specs.Float.{nan}
+use Rattle.std.specs.Prelude.{ℕ, ◌+◌, ◌*◌, List, [], ◌∷◌, length, Float, Result}
 use Rattle.base.specs.Floats.{◌⊗◌}
 use Rattle.base.specs.Loops.{times}
-use Rattle.base.specs.Answers.{Answer, refused, Outcome, outcome, guarded_run, room_check}
+use Rattle.base.specs.Answers.{Answer, answer_by, Outcome, outcome, guarded_run, room_check}
+use Rattle.base.specs.declared.refusal.Refusal.{Refusal}
 use Rattle.kernel.specs.declared.kernel.Kernel.{Kernel}
 use Rattle.kernel.specs.Kernels.{kernel_set}
 use Rattle.pieces.specs.declared.fit.Fit.{Fit}
+use Rattle.pieces.specs.declared.pieces.Piece.{Piece}
 use Rattle.pieces.specs.declared.pieces.Pieces.{Pieces}
 use Rattle.pieces.specs.declared.kernels.Decomposed.{Decomposed}
-use Rattle.pieces.specs.declared.kernels.Decomposed.TheVariants.{Written, Refused}
-use Rattle.pieces.specs.Pieces.{decomposed, piece_alpha}
+use Rattle.pieces.specs.Pieces.{part_at, decomposed, piece_alpha}
 use Rattle.pieces.specs.FitEnd.{fit_of, kind_of, column_of, pivot_told}
 
--- piece i of a kernel: its centre, the piece's sigma, "its weight is w times the coefficient"
+-- a piece of a kernel: its centre, the piece's sigma, "its weight is w times the coefficient"
+abbrev pub as_kernel : Kernel → Piece → Kernel
+as_kernel k p = record { c = k.c; sigma = p.sigma; w = k.w ⊗ p.coefficient; alpha = piece_alpha k.alpha }
+
+-- piece i of a kernel
 unfoldable pub piece_at : Kernel → Pieces → ℕ → Kernel
-piece_at k p i =
-    record {
-      c = k.c;
-      sigma = get_or p.sigma i nan;
-      w = k.w ⊗ get_or p.coefficient i nan;
-      alpha = piece_alpha k.alpha;
-    }
+piece_at k p i = as_kernel k (part_at p i)
 
 -- the pieces laid over a run in order, behind its first n kernels
 abbrev pub lay_at : ℕ → Kernel → Pieces → ℕ → List Float → List Float
@@ -42,6 +40,5 @@ decomposition k radius xs =
     (laid 0 k (decomposed k radius) xs))
 
 -- 01's number and values for each case of the code's answer
-abbrev pub decomposed_as : Decomposed → Answer
-decomposed_as (Written n e fit) = fitted_one n e fit
-decomposed_as (Refused r) = refused r
+abbrev pub decomposed_as : Result Decomposed Refusal → Answer
+decomposed_as = answer_by (λ d. fitted_one d.pieces d.error d.fit)

@@ -6,6 +6,7 @@ pub mod PieceLaws
 pub mod FitEndLaws
 pub mod Rows
 pub mod Fit
+pub mod Tables
 pub mod Samples
 pub mod FitLaws
 pub mod SampleLaws

@@ -1,11 +1,12 @@
 -- 01, "Pieces (`adaptive_cauchy_decompose`)": the pieces of a list of kernels, "six floats each". Definitions only.
-use Rattle.std.specs.Prelude.{ℕ, zero, suc, ◌+◌, ◌*◌, ◌/◌, List, [], ◌∷◌, length, Float}
+use Rattle.std.specs.Result.{result_and}
+use Rattle.std.specs.Prelude.{ℕ, zero, suc, ◌+◌, ◌*◌, ◌/◌, List, [], ◌∷◌, length, Float, Result}
 use Rattle.base.specs.Floats.{+0, greater}
-use Rattle.base.specs.Answers.{Answer, refused, and_then, Outcome, outcome, guarded_run, room_check}
+use Rattle.base.specs.Answers.{Answer, answer_by, Outcome, outcome, guarded_run, room_check}
+use Rattle.base.specs.declared.refusal.Refusal.{Refusal}
 use Rattle.kernel.specs.Kernels.{kernel_at, list_check}
 use Rattle.pieces.specs.declared.pieces.Pieces.{Pieces}
 use Rattle.pieces.specs.declared.lists.DecomposedList.{DecomposedList}
-use Rattle.pieces.specs.declared.lists.DecomposedList.TheVariants.{Written, Refused}
 use Rattle.pieces.specs.Pieces.{decomposed}
 use Rattle.pieces.specs.Kernels.{laid}
 
@@ -41,10 +42,9 @@ fitted_all n m e = record { refusal = 0; counts = n ∷ m ∷ []; floats = e ∷
 unfoldable pub list_decomposition : List Float → Float → List Float → Outcome
 list_decomposition ks radius xs =
     let n = length ks / 6 in
-    guarded_run (and_then (list_check ks) (room_check (6 * piece_count ks radius n) (length xs))) xs
+    guarded_run (result_and (list_check ks) (room_check (6 * piece_count ks radius n) (length xs))) xs
     (outcome (fitted_all n (piece_count ks radius n) (greatest_error ks radius n)) (spread ks radius n xs))
 
 -- 01's number and values for each case of the code's answer
-abbrev pub listed_as : DecomposedList → Answer
-listed_as (Written n m e) = fitted_all n m e
-listed_as (Refused r) = refused r
+abbrev pub listed_as : Result DecomposedList Refusal → Answer
+listed_as = answer_by (λ d. fitted_all d.kernels d.pieces d.error)

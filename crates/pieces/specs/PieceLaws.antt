@@ -13,9 +13,10 @@ use Rattle.solve.specs.Elimination.{eliminated}
 use Rattle.solve.specs.Solve.{answers}
 use Rattle.pieces.specs.Fit.{zeros, scales_of, coefficients_of}
 use Rattle.pieces.specs.FitLaws.{zero-least, error_least, error_one}
-use Rattle.pieces.specs.Pieces.{delta, stays, size_of, most_pieces, none, itself, keep, keep_at, kept, fitted, decomposed, piece_alpha}
+use Rattle.pieces.specs.Pieces.{delta, stays, size_of, most_pieces, blank_piece, past_pieces, part_at, blanks, none, itself, keep, keep_at, kept, fitted, decomposed, piece_alpha}
 use Rattle.kernel.specs.declared.kernel.Kernel.{Kernel}
 use Rattle.pieces.specs.declared.pieces.Size.{Size}
+use Rattle.pieces.specs.declared.pieces.Piece.{Piece}
 use Rattle.pieces.specs.declared.pieces.Pieces.{Pieces}
 
 -- ---- how many
@@ -87,25 +88,35 @@ at_most_16 k radius = le_trans (pieces_within k radius) (most_16 k)
 -- ---- what is not a piece is +0
 
 pub record Clean (p : Pieces) : Type 0 where
-  pub no_sigma : (i : ℕ) → p.count ≤ i → i < 16 → get_or p.sigma i nan ≡ +0
-  pub no_coefficient : (i : ℕ) → p.count ≤ i → i < 16 → get_or p.coefficient i nan ≡ +0
+  pub no_sigma : (i : ℕ) → p.count ≤ i → i < 16 → (part_at p i).sigma ≡ +0
+  pub no_coefficient : (i : ℕ) → p.count ≤ i → i < 16 → (part_at p i).coefficient ≡ +0
 
-all_zero : (n i : ℕ) → i < n → get_or (replicate n +0) i nan ≡ +0
-all_zero zero i h = absurd (omega (arith, h))
-all_zero (suc n) zero h = refl
-all_zero (suc n) (suc i) h = all_zero n i (omega arith)
+-- the same of both floats at once
+pub blank-clean : (p : Pieces) → ((i : ℕ) → p.count ≤ i → i < 16 → part_at p i ≡ blank_piece) → Clean p
+blank-clean p h =
+    record {
+      no_sigma = λ i l b. ap (λ (q : Piece). q.sigma) (h i l b);
+      no_coefficient = λ i l b. ap (λ (q : Piece). q.coefficient) (h i l b);
+    }
 
-set_below : (xs : List Float) (j i : ℕ) (x : Float) → j < i → get_or (set xs j x) i nan ≡ get_or xs i nan
-set_below xs j i x h = get_or-set_other xs j i x nan (λ e. omega arith)
+all_blank : (n i : ℕ) → i < n → get_or (replicate n blank_piece) i past_pieces ≡ blank_piece
+all_blank zero i h = absurd (omega (arith, h))
+all_blank (suc n) zero h = refl
+all_blank (suc n) (suc i) h = all_blank n i (omega arith)
+
+set_below : (xs : List Piece) (j i : ℕ) (x : Piece) → j < i
+    → get_or (set xs j x) i past_pieces ≡ get_or xs i past_pieces
+set_below xs j i x h = get_or-set_other xs j i x past_pieces (λ e. omega arith)
 
 keep-clean : (p : Pieces) (s k : Float) → Clean p → Clean (keep p s k)
 unfolding keep
 keep-clean p s k h =
+    let at = λ (i : ℕ) (l : p.count < i). set_below p.list p.count i (record { sigma = s; coefficient = k }) l in
     cond_of Clean (lt keep_limit (abs k))
     (record {
-      no_sigma = λ i l b. set_below p.sigma p.count i s (omega arith) ∙ h.no_sigma i (omega arith) b;
+      no_sigma = λ i l b. ap (λ (q : Piece). q.sigma) (at i (omega arith)) ∙ h.no_sigma i (omega arith) b;
       no_coefficient =
-          λ i l b. set_below p.coefficient p.count i k (omega arith) ∙ h.no_coefficient i (omega arith) b;
+          λ i l b. ap (λ (q : Piece). q.coefficient) (at i (omega arith)) ∙ h.no_coefficient i (omega arith) b;
     })
     h
 
@@ -121,11 +132,9 @@ kept-clean terms sigma scales coefs p h = go terms 0 p h
 pub with_clean : (k : Kernel) (scales coefs : List Float) (e : Float) → Clean (fitted_with k scales coefs e)
 with_clean k scales coefs e =
     cond_of Clean (stays k.alpha)
-    (record {
-      no_sigma = λ i l b. set_below zeros 0 i k.sigma l ∙ all_zero 16 i b;
-      no_coefficient = λ i l b. set_below zeros 0 i one l ∙ all_zero 16 i b;
-    })
-    (kept-clean _ _ _ _ _ (record { no_sigma = λ i l b. all_zero 16 i b; no_coefficient = λ i l b. all_zero 16 i b }))
+    (blank-clean (itself k)
+    (λ i l b. set_below blanks 0 i (record { sigma = k.sigma; coefficient = one }) l ∙ all_blank 16 i b))
+    (kept-clean _ _ _ _ _ (blank-clean (none e) (λ i l b. all_blank 16 i b)))
 
 pub clean : (k : Kernel) (radius : Float) → Clean (decomposed k radius)
 unfolding decomposed fitted

@@ -1,5 +1,5 @@
 -- 01, "Pieces (`adaptive_cauchy_decompose`)": a kernel's pieces. Definitions only.
-use Rattle.std.specs.Prelude.{ℕ, ◌+◌, Bool, cond, List, get_or, set, Float}
+use Rattle.std.specs.Prelude.{ℕ, ◌+◌, Bool, cond, List, get_or, set, replicate, Float}
 use Rattle.std.specs.Float.{nan}
 use Rattle.std.specs.Float.Ieee.{lt, le}
 use Rattle.base.specs.Floats.{◌⊖◌, ◌⊗◌, +0, abs, greater}
@@ -12,6 +12,7 @@ use Rattle.pieces.specs.Fit.{zeros, scales_of, equations, ridged, coefficients_o
 use Rattle.kernel.specs.declared.kernel.Kernel.{Kernel}
 use Rattle.pieces.specs.declared.points.Curve.{Curve}
 use Rattle.pieces.specs.declared.pieces.Size.{Size}
+use Rattle.pieces.specs.declared.pieces.Piece.{Piece}
 use Rattle.pieces.specs.declared.pieces.Pieces.{Pieces}
 
 -- ---- what an exponent asks for
@@ -45,13 +46,27 @@ curve_of k radius =
 
 -- ---- the pieces
 
+-- what stands in the array of pieces where there is none, and past its end
+abbrev pub blank_piece : Piece
+blank_piece = record { sigma = +0; coefficient = +0 }
+
+abbrev pub past_pieces : Piece
+past_pieces = record { sigma = nan; coefficient = nan }
+
+-- piece i
+abbrev pub part_at : Pieces → ℕ → Piece
+part_at p i = get_or p.list i past_pieces
+
+abbrev pub blanks : List Piece
+blanks = replicate 16 blank_piece
+
 -- no piece, and a fit's peak error
 abbrev pub none : Float → Pieces
-none e = record { count = 0; sigma = zeros; coefficient = zeros; error = e }
+none e = record { count = 0; list = blanks; error = e }
 
 -- "the kernel stays, alpha untouched, coefficient 1"
 abbrev pub itself : Kernel → Pieces
-itself k = record { count = 1; sigma = set zeros 0 k.sigma; coefficient = set zeros 0 one; error = +0 }
+itself k = record { count = 1; list = set blanks 0 (record { sigma = k.sigma; coefficient = one }); error = +0 }
 
 -- "A coefficient is kept only if its absolute value exceeds 1e-12"
 unfoldable pub keep : Pieces → Float → Float → Pieces
@@ -59,8 +74,7 @@ keep p sigma coefficient =
     cond (lt keep_limit (abs coefficient))
     (record {
       count = p.count + 1;
-      sigma = set p.sigma p.count sigma;
-      coefficient = set p.coefficient p.count coefficient;
+      list = set p.list p.count (record { sigma = sigma; coefficient = coefficient });
       error = p.error;
     })
     p

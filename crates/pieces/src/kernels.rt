@@ -2,59 +2,59 @@
 // Internal: a function with a `requires` is called by proved code alone.
 ghost use Rattle.std.specs.Prelude.{◌≡◌, ◌+◌, ◌*◌, ◌<◌, ◌≤◌, length};
 ghost use Rattle.base.specs.Answers.{outcome};
-ghost use Rattle.pieces.specs.Kernels.{piece_at, laid, decomposed_as, decomposition};
+ghost use Rattle.pieces.specs.Kernels.{as_kernel, laid, decomposed_as, decomposition};
 
 use crate::fit::Fit;
-use crate::pieces::{Pieces, decompose, piece_alpha};
+use crate::pieces::{Decomposition, Piece, Pieces, decompose, piece_alpha};
 use base::refusal::Refusal;
 use kernel::kernel::{Kernel, write_kernel};
 
-// How a decomposition was answered: so many pieces are written, with the fit's peak error and how it ended; or
-// a refusal.
+// What a decomposition answers: how many pieces are written, the fit's peak error and how it ended.
 #[derive(Clone, Copy)]
-pub enum Decomposed {
-    Written(usize, f64, Fit),
-    Refused(Refusal),
+pub struct Decomposed {
+    pub pieces: usize,
+    pub error: f64,
+    pub fit: Fit,
 }
 
-// Piece i of a kernel.
-fn piece_at(k: Kernel, p: Pieces, i: usize) -> Kernel
-    requires { i < 16 }
-    ensures { result ≡ piece_at k p i }
+// A piece of a kernel, as a kernel.
+fn as_kernel(k: Kernel, piece: Piece) -> Kernel
+    ensures { result ≡ as_kernel k piece }
 {
     let c = k.c;
     Kernel {
         c,
-        sigma: p.sigma[i],
-        w: k.w * p.coefficient[i],
+        sigma: piece.sigma,
+        w: k.w * piece.coefficient,
         alpha: piece_alpha(k.alpha),
     }
 }
 
 // Writes the pieces to a run, behind the first `at` kernels in it.
-pub fn lay_pieces(out: &mut [f64], at: usize, k: Kernel, p: Pieces)
-    requires { (p.count ≤ 16) × (6 * (at + p.count) ≤ length out.old) }
-    ensures { out.new ≡ laid at k p out.old }
+#[tactic(auto, unfolding(crate::specs::Kernels::laid, crate::specs::Kernels::piece_at), using(crate::proofs::Turns::turns))]
+pub fn lay_pieces(out: &mut [f64], at: usize, k: Kernel, p: &Pieces)
+    requires { (p.now.count ≤ 16) × (6 * (at + p.now.count) ≤ length out.old) }
+    ensures { out.new ≡ laid at k p.now out.old }
 {
-    let count = p.count;
-    let mut i = 0;
-    while i < count {
-        write_kernel(out, at + i, piece_at(k, p, i));
-        i += 1;
+    for (i, piece) in p.list[..p.count].iter().enumerate() {
+        write_kernel(out, at + i, as_kernel(k, *piece));
     }
 }
 
 // Decomposes a kernel on a body of this radius and writes its pieces to the start of the run. Words
 // past them, and the whole run at a refusal, stay as they were.
-pub fn decompose_into(k: Kernel, radius: f64, out: &mut [f64]) -> Decomposed
+#[tactic(auto, unfolding(crate::specs::Kernels::decomposition), using(crate::specs::PieceLaws::at_most_16))]
+pub fn decompose_into(k: Kernel, radius: f64, out: &mut [f64]) -> Result<Decomposed, Refusal>
     ensures { outcome (decomposed_as result) out.new ≡ decomposition k radius out.old }
 {
-    let d = decompose(k, radius);
-    let p = d.pieces;
-    let fit = d.fit;
-    if out.len() < 6 * p.count {
-        return Decomposed::Refused(Refusal::ShortList);
+    let Decomposition { pieces, fit } = decompose(k, radius);
+    if out.len() < 6 * pieces.count {
+        return Err(Refusal::ShortList);
     }
-    lay_pieces(out, 0, k, p);
-    Decomposed::Written(p.count, p.error, fit)
+    lay_pieces(out, 0, k, &pieces);
+    Ok(Decomposed {
+        pieces: pieces.count,
+        error: pieces.error,
+        fit,
+    })
 }

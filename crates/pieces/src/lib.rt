@@ -2,10 +2,11 @@
 // What users call, `decompose`, `decompose_into` and `decompose_list`, has no `requires`.
 #![tactic(auto)]
 
-pub mod error;
+pub mod basis;
 pub mod fit;
 pub mod kernels;
 pub mod lists;
 pub mod normal;
 pub mod pieces;
 pub mod points;
+pub mod tables;

@@ -4,3 +4,5 @@ pub mod Wholes
 pub mod Bounds
 pub mod Binaries
 pub mod SmallWholes
+pub mod Turns
+pub mod Names

@@ -1,5 +1,7 @@
 -- The powers of two by their patterns, a field and no digits. Assumes nothing.
-use Rattle.std.proofs.Common.{◌≡◌, ℕ, suc, ◌+◌, ◌-◌, ◌*◌, ◌/◌, ◌%◌, ◌^◌, ◌<◌, ◌≤◌, false, pos, negsuc, ◌∙◌, arith, ne_eqb, le-leb}
+use Rattle.std.proofs.Common.{◌≡◌, ℕ, ℤ, ◌+ℤ◌, ◌≤ℤ◌, suc, ◌+◌, ◌-◌, ◌*◌, ◌/◌, ◌%◌, ◌^◌, ◌<◌, ◌≤◌, false, pos, negsuc, ◌∙◌, arith, ne_eqb, le-leb, refl, ap}
+use Rattle.std.proofs.lemmas.Int.{ints}
+use lib.IntN.{nat_abs}
 use borrow.Author.Tests.{lt-leb}
 use lib.Ieee.{fin, binary64, minus, odd, of_fields, of_bits}
 use Rattle.base.specs.UnitLaws.{clear}
@@ -27,3 +29,18 @@ pow_down c l h =
     let lt : 1022 - c + 52 < 1074 = omega arith in
     let d : 1074 - suc (1022 - c + 52) ≡ c - 1 = omega arith in
     rw (e, field_alone (1022 - c) (omega arith), lt-leb 1074 (1022 - c + 52) lt, d)
+
+-- either, by a whole number c
+pub pow_at : (c : ℤ) (b : ℕ) → pos b ≡ c +ℤ pos 1023 → negsuc 1021 ≤ℤ c → c ≤ℤ pos 1023
+    → of_bits binary64 (b * 2 ^ 52 % 2 ^ 64) ≡ fin false 1 c
+pow_at (pos n) b e l h =
+    let k : b ≡ n + 1023 = omega (arith, ints) in
+    rw k (pow_up n (omega (arith, ints)))
+pow_at (negsuc n) b e l h =
+    let k : b ≡ 1023 - (n + 1) = omega (arith, ints) in
+    let t : negsuc (n + 1 - 1) ≡ negsuc n = ap negsuc (omega arith) in
+    rw (k, pow_down (n + 1) (omega arith) (omega (arith, ints)), t)
+
+pub abs_is : (z : ℤ) → pos 0 ≤ℤ z → pos (nat_abs z) ≡ z
+abs_is (pos n) h = refl
+abs_is (negsuc n) h = absurd (omega (arith, ints))

@@ -2,6 +2,8 @@
 -- Assumes nothing.
 use Rattle.std.proofs.Common.{◌≡◌, ℕ, zero, suc, ◌+◌, ◌-◌, ◌*◌, ◌/◌, ◌%◌, ◌^◌, ◌<◌, ◌≤◌, Bool, true, false, ◌&&◌, T, eqb, ltb, leb, ℤ, pos, negsuc, sym, refl, ap, ◌∙◌, subst, zero-le, le_trans, lt_of_lt_of_le, add-zero, le_of_lt, lt_irrefl, mul-le-mul_right, mul_assoc, mul_comm, mul-le-mul, lt_of_mul-lt-mul_right, mul-le-mul_left, mul-lt-mul_of_pos_right, mul-pos, one-mul, zero-mul, mul-one, mul_right_comm, mul_left_comm, arith, lit≤, ltb→lt, leb→le, pow_pos, pow_mono, pow-add, ltb-false, ltb-true, leb-false, leb-true}
 use native.Mathlib.Nat.{eq_of_mul-eq-mul_right, div-eq_of_lt}
+use Rattle.std.proofs.Common.{◌+ℤ◌, ◌≤ℤ◌, ◌<ℤ◌}
+use Rattle.std.proofs.lemmas.Int.{ints}
 use lib.Ieee.{Float, nan, inf, fin, binary64, unlike, up, down, round, mul, le, lt, eq, neg, units, odd, size, fits, of_bits}
 use lib.Ieee.Fits.{down_pos, round_is}
 use lib.Ieee.Exact.{HasValue, round_exact}
@@ -252,3 +254,24 @@ down-tiny nan c l t = refl
 down-tiny (inf s) c l t = refl
 down-tiny (fin s m e) c l t =
     zero_of s m e 1022 (lit≤ tt) (small s m e t) ∙ sym (zero_of s m e (suc (c - 1)) (high c l) (small s m e t))
+
+-- ---- the cases of a whole number c
+pub at_top : (a : Float) (c : ℤ) → T (fits binary64 a) → pos 1023 <ℤ c → c ≤ℤ pos 1024
+    → scale (scale a (pos 1023)) (pos 1) ≡ scale a c
+at_top a (pos n) f l h = let e : n ≡ 1024 = omega (arith, ints) in rw e (up-two a f)
+at_top a (negsuc n) f l h = absurd (omega (arith, ints))
+
+last : (n : ℕ) → negsuc (n + 1 - 1) ≡ negsuc n
+last n = ap negsuc (omega arith)
+
+pub too_small : (a : Float) (c : ℤ) → c <ℤ negsuc 1021 → lt (abs a) tiny ≡ true → scale a (negsuc 1021) ≡ scale a c
+too_small a (pos n) l t = absurd (omega (arith, ints))
+too_small a (negsuc n) l t = rw (last n) at (down-tiny a (n + 1) (omega (arith, ints)) t)
+
+pub in_two : (a : Float) (c r : ℤ) → T (fits binary64 a) → r ≡ c +ℤ pos 1022 → negsuc 1079 ≤ℤ c → c <ℤ negsuc 1021
+    → lt (abs a) tiny ≡ false
+    → scale (scale a r) (negsuc 1021) ≡ scale a c
+in_two a (pos n) r f e l h t = absurd (omega (arith, ints))
+in_two a (negsuc n) r f e l h t =
+    let k : r ≡ negsuc (n + 1 - 1022 - 1) = omega (arith, ints) in
+    rw k (rw (last n) at (down-two a (n + 1) f (omega (arith, ints)) (omega (arith, ints)) t))

@@ -5,6 +5,7 @@ ghost use Rattle.powers.specs.Arc.{halved, arc_sum, arc_core, arc_abs, arc};
 use base::floats::{abs, signed};
 
 // The tangent of half the angle whose tangent is v.
+#[tactic(auto, unfolding(crate::specs::Arc::halved))]
 fn halved(v: f64) -> f64
     ensures { result ≡ halved v }
 {
@@ -20,19 +21,19 @@ fn quartered(v: f64) -> f64
 }
 
 // The series, without its first factor, at q = v * v.
+#[tactic(auto, using(crate::proofs::Turns::turns), unfolding(crate::specs::Arc::arc_sum))]
 fn arc_sum(q: f64) -> f64
     ensures { result ≡ arc_sum q }
 {
     let mut a = 1.0 / 23.0;
-    let mut k = 11u32;
-    while k > 0 {
-        k -= 1;
+    for k in (0..11u32).rev() {
         a = 1.0 / ((2 * k + 1) as f64) - q * a;
     }
     a
 }
 
 // Four times the arc of a small v.
+#[tactic(auto, unfolding(crate::specs::Arc::arc_core))]
 pub fn arc_core(v: f64) -> f64
     ensures { result ≡ arc_core v }
 {
@@ -40,6 +41,7 @@ pub fn arc_core(v: f64) -> f64
 }
 
 // The arc of an s whose sign is off.
+#[tactic(auto, unfolding(crate::specs::Arc::arc_abs))]
 fn arc_abs(s: f64) -> f64
     ensures { result ≡ arc_abs s }
 {
@@ -51,6 +53,7 @@ fn arc_abs(s: f64) -> f64
 }
 
 // A(t), the arc tangent.
+#[tactic(auto, unfolding(crate::specs::Arc::arc))]
 pub fn arc(t: f64) -> f64
     ensures { result ≡ arc t }
 {

@@ -38,20 +38,21 @@ fn exponent(place: u64) -> f64
     }
 }
 
-// The series, without its first factor, at q = s * s.
+// The series, without its first factor, at q = s * s. The arc's has minus where this has plus: one function of both
+// would take the step as a closure, and be no shorter.
+#[tactic(auto, using(crate::proofs::Turns::turns), unfolding(crate::specs::Log::log_sum))]
 fn log_sum(q: f64) -> f64
     ensures { result ≡ log_sum q }
 {
     let mut a = 1.0 / 21.0;
-    let mut k = 10u32;
-    while k > 0 {
-        k -= 1;
+    for k in (0..10u32).rev() {
         a = 1.0 / ((2 * k + 1) as f64) + q * a;
     }
     a
 }
 
 // The natural logarithm of (1 + s) / (1 - s).
+#[tactic(auto, unfolding(crate::specs::Log::log_core))]
 fn log_core(s: f64) -> f64
     ensures { result ≡ log_core s }
 {
@@ -59,6 +60,7 @@ fn log_core(s: f64) -> f64
 }
 
 // The logarithm of m * 2^(place - 1074).
+#[tactic(auto, unfolding(crate::specs::Log::log_at))]
 fn log_at(m: f64, place: u64) -> f64
     ensures { result ≡ log_at m place }
 {
@@ -66,6 +68,7 @@ fn log_at(m: f64, place: u64) -> f64
 }
 
 // The logarithm of a float above zero and below infinity.
+#[tactic(auto, unfolding(crate::specs::Log::log_positive))]
 fn log_positive(b: f64) -> f64
     requires { T (positive b) }
     ensures { result ≡ log_positive b }
@@ -79,6 +82,7 @@ fn log_positive(b: f64) -> f64
 }
 
 // L(b), the logarithm to base 2.
+#[tactic(auto, unfolding(crate::specs::Log::log))]
 pub fn log(b: f64) -> f64
     ensures { result ≡ log b }
 {
@@ -86,12 +90,12 @@ pub fn log(b: f64) -> f64
         return b;
     }
     if b < 0.0 {
-        return 0.0 / 0.0;
+        return f64::NAN;
     }
     if b == 0.0 {
-        return -1.0 / 0.0;
+        return f64::NEG_INFINITY;
     }
-    if b == 1.0 / 0.0 {
+    if b == f64::INFINITY {
         return b;
     }
     log_positive(b)

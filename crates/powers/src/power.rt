@@ -7,6 +7,7 @@ use crate::log::log;
 use base::floats::abs;
 
 // P(b, y), b to the power y.
+#[tactic(auto, unfolding(crate::specs::Power::power))]
 pub fn power(b: f64, y: f64) -> f64
     ensures { result ≡ power b y }
 {
@@ -20,6 +21,7 @@ pub fn power(b: f64, y: f64) -> f64
 }
 
 // Ten to the power y by 01's steps.
+#[tactic(auto, unfolding(crate::specs::Power::ten_steps))]
 fn ten_steps(y: f64) -> f64
     ensures { result ≡ ten_steps y }
 {
@@ -28,6 +30,7 @@ fn ten_steps(y: f64) -> f64
 
 // The float 10^k. The powers stand in the code one by one: an array that is read at k would be laid out in memory
 // anew at each call.
+#[tactic(auto, unfolding(crate::specs::Power::whole_ten))]
 fn whole_ten(k: u64) -> f64
     requires { k ≤ 22 }
     ensures { result ≡ whole_ten k }
@@ -86,6 +89,7 @@ pub fn ten(y: f64) -> f64
 }
 
 // The logarithm to base ten.
+#[tactic(auto, unfolding(crate::specs::Power::log10))]
 pub fn log10(b: f64) -> f64
     ensures { result ≡ log10 b }
 {

@@ -9,6 +9,7 @@ use lib.Dec.{eqb, ltb}
 use lib.ListN.{length, take, set, length-append, length-set}
 use lib.Seq.{take-suc-set}
 use borrow.Author.Tests.{le-leb, lt-leb, le-ltb, ltb-true, ltb-false, eq-eqb, ne_eqb}
+use Rattle.std.specs.Prelude.{Option}
 use Rattle.forms.specs.declared.line.Line.{Line}
 use Rattle.forms.specs.Forms.{parse_line}
 use Rattle.session.specs.Session.{Session, respond}
@@ -64,7 +65,7 @@ module _ (line : List ℕ) (n : ℕ) where
   at_end s [] h = rw (eq-eqb n 0 (none h))
   at_end s (b ∷ l) h =
       rw (ne_eqb n 0 (not_none l line n b h))
-      (ap (λ (x : Line). (respond s x).text) (holds-line (b ∷ l) h)
+      (ap (λ (x : Option Line). (respond s x).text) (holds-line (b ∷ l) h)
       ∙ sym (append-nil (respond s (parse_line (b ∷ l))).text))
 
 -- the input that is left, from within a line
@@ -89,7 +90,7 @@ from s l line n (b ∷ input) r h =
         ≡ answers_to s (cond t (l ∷ lines_from [] input) (lines_from (l ++ (b ∷ [])) input))
     go true p q =
         ap (λ (t : List ℕ). (respond s (line_in line n)).text ++ t) p
-        ∙ ap (λ (x : Line). (respond s x).text ++ answers_to (respond s x).next (lines_from [] input))
+        ∙ ap (λ (x : Option Line). (respond s x).text ++ answers_to (respond s x).next (lines_from [] input))
         (holds-line line n l h)
     go false p q = q
 

@@ -11,8 +11,7 @@ use lib.Seq.{drop-append_seam}
 use borrow.Author.Tests.{le-leb}
 use Rattle.base.specs.Floats.{+0}
 use Rattle.base.specs.LoopLaws.{every_all}
-use Rattle.base.specs.Answers.{counted}
-use Rattle.base.specs.declared.refusal.Checked.TheVariants.{Passed}
+use Rattle.base.specs.Answers.{counted, passed}
 use Rattle.layout.specs.Runs.{write}
 use Rattle.mesh.specs.Checks.{mesh_check, all_below}
 use Rattle.layout.specs.Layout.{place_limit, width, coords_from, corners_from, layer_of}
@@ -63,7 +62,7 @@ module _ (q a b : ℕ) (long : coords_from ≤ a) (wide : corners_from q ≤ b) 
       )
       (λ i. after (counted (0 ∷ 0 ∷ [])) (f i) (w i))
 
-  pub zeros-sound : store_check q (replicate a +0) (replicate b 0) ≡ Passed
+  pub zeros-sound : store_check q (replicate a +0) (replicate b 0) ≡ passed
   unfolding store_check long_enough sound place_sound_at place_sound layer_sound all_below
   zeros-sound =
       let s : (i : ℕ) → place_sound_at q (replicate b 0) i ≡ true =
@@ -83,5 +82,5 @@ pub first_opened : open_step width at_first.floats at_first.words +0 [] []
     ≡ after (counted (0 ∷ 0 ∷ [])) at_first.floats at_first.words
 first_opened = zeros-opened width 3261 3130 (lit≤ tt) (lit≤ tt)
 
-pub first_sound : store_check width at_first.floats at_first.words ≡ Passed
+pub first_sound : store_check width at_first.floats at_first.words ≡ passed
 first_sound = zeros-sound width 3261 3130 (lit≤ tt) (lit≤ tt)

@@ -1,10 +1,9 @@
 -- 01, "Remainder", program `bench`: what the code does with a byte of its input. Definitions only; Bench.antt says what
 -- comes of them.
-use Rattle.std.specs.Prelude.{ℕ, ◌+◌, ◌≡◌, cond, List, [], ◌∷◌, ◌++◌, leb, ltb, eqb, take, set, get_or}
+use Rattle.std.specs.Prelude.{ℕ, ◌+◌, ◌≡◌, cond, List, [], ◌∷◌, ◌++◌, leb, ltb, eqb, take, set, get_or, Option, None}
 use Rattle.base.specs.Loops.{times}
 use Rattle.text.specs.Print.{Wrote}
 use Rattle.forms.specs.declared.line.Line.{Line}
-use Rattle.forms.specs.declared.line.Line.TheVariants.{Bad}
 use Rattle.forms.specs.Forms.{parse_line}
 use Rattle.session.specs.Session.{Session, respond}
 
@@ -34,9 +33,9 @@ Feeds f s line n s' line' n' out k out' =
     let r = f (held_with s line n) in
     (held_with s' line' n' ≡ r.next) × Wrote out 0 r.text k out'
 
--- the line that is held
-unfoldable pub line_in : List ℕ → ℕ → Line
-line_in line n = cond (leb n line_room) (parse_line (take n line)) Bad
+-- what the line that is held means
+unfoldable pub line_in : List ℕ → ℕ → Option Line
+line_in line n = cond (leb n line_room) (parse_line (take n line)) None
 
 -- at its end
 unfoldable pub end_line : Held → Fed

@@ -11,7 +11,8 @@ use forms::read::parse_line;
 use session::opening::{Opening, idle};
 use session::respond::respond;
 
-// An opening under way, the bytes of the line so far (257 where they are too many), and the length of what was written.
+// An opening under way, the bytes of the line so far (257 where they are too many: what is held, `Held`, has the count as
+// a number, and the theorem `prints` speaks of it), and the length of what was written.
 #[derive(Clone, Copy)]
 pub struct State {
     pub opening: Opening,
@@ -30,13 +31,12 @@ pub fn start() -> State
     }
 }
 
-// The line in the first `count` bytes; one of more than 256 is none.
-fn line_in(line: &[u8], count: usize) -> Line
-    requires { length line.now ≡ 256 }
+// What the line in the first `count` bytes means; one of more than 256 means nothing.
+fn line_in(line: &[u8; 256], count: usize) -> Option<Line>
     ensures { result ≡ line_in line.now count }
 {
     if count > 256 {
-        return Line::Bad;
+        return None;
     }
     parse_line(&line[..count])
 }
@@ -61,11 +61,9 @@ fn end_line(
         out.old result.wrote out.new }
 {
     let l = line_in(line, st.count);
-    let o = st.opening;
-    let s = respond(o, l, floats, words, coords, corners, out);
-    let p = s.opening;
+    let s = respond(st.opening, l, floats, words, coords, corners, out);
     State {
-        opening: p,
+        opening: s.opening,
         count: 0,
         wrote: s.wrote,
     }
@@ -77,20 +75,19 @@ fn keep(st: State, b: u8, line: &mut [u8; 256]) -> State
     ensures line_after { (line.new ≡ line_with line.old st.count b)
         × (result.count ≡ count_with st.count) }
 {
-    let opening = st.opening;
     let n = st.count;
     if n >= 256 {
         return State {
-            opening,
             count: 257,
             wrote: 0,
+            ..st
         };
     }
     line[n] = b;
     State {
-        opening,
         count: n + 1,
         wrote: 0,
+        ..st
     }
 }
 
@@ -140,12 +137,7 @@ pub fn end(
         out.old result.wrote out.new }
 {
     if st.count == 0 {
-        let opening = st.opening;
-        return State {
-            opening,
-            count: 0,
-            wrote: 0,
-        };
+        return State { wrote: 0, ..st };
     }
     end_line(st, line, floats, words, coords, corners, out)
 }

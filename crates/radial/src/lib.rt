@@ -8,6 +8,7 @@ use base::floats::abs;
 use powers::arc::arc;
 
 // 1/3 - t²/5 + t⁴/7 - .., to the term of k = 9: no cancellation near 0.
+#[tactic(auto, using(crate::proofs::Turns::turns), unfolding(crate::specs::Radial::series_of))]
 pub fn radial_g_series(t: f64) -> f64
     ensures { result ≡ radial_gSeries t }
 {
@@ -22,6 +23,7 @@ pub fn radial_g_series(t: f64) -> f64
 }
 
 // g(t) = (t - atan t) / t³, by the series below 0.1.
+#[tactic(auto, unfolding(crate::specs::Radial::radial_g))]
 pub fn radial_g(t: f64) -> f64
     ensures { result ≡ radial_g t }
 {

@@ -1,4 +1,3 @@
 pub mod Turns
 pub mod PutTurns
-pub mod Entries
 pub mod StepsOf

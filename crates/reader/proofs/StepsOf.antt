@@ -1,13 +1,12 @@
 -- What the reader's call does, by what its passes found. Assumes nothing.
-use Rattle.std.specs.Prelude.{◌≡◌, List, [], ◌∷◌, Bool, ℕ, ◌+◌, ◌*◌, Float}
+use Rattle.std.specs.Result.{result_and}
+use Rattle.std.specs.Prelude.{◌≡◌, List, [], ◌∷◌, Bool, ℕ, ◌+◌, ◌*◌, Float, Err}
 use Rattle.std.proofs.Common.{sym, ◌∙◌}
 use Rattle.std.proofs.Math.Dec.{ltb, leb}
 use Rattle.std.proofs.Math.ListN.{length}
-use Rattle.base.specs.Answers.{counted, refused, and_then}
+use Rattle.base.specs.Answers.{counted, refused, Checked, passed}
 use Rattle.base.specs.declared.refusal.Refusal.{Refusal}
 use Rattle.base.specs.declared.refusal.Refusal.TheVariants.{BadLine}
-use Rattle.base.specs.declared.refusal.Checked.{Checked}
-use Rattle.base.specs.declared.refusal.Checked.TheVariants.{Passed, Failed}
 use Rattle.mesh.specs.Checks.{vertex_limit, face_limit, all_below}
 use Rattle.layout.specs.Layout.{coords_from, corners_from}
 use Rattle.layout.specs.After.{After, after, guarded}
@@ -32,14 +31,14 @@ module _ {s : List ℕ} {r : Float} {v f h a b : ℕ} (p : Parsed s r v f h a b)
         (played q fs ws script).words)
 
     step_is : (t : Text) → P.text ≡ t → load_step q fs ws s
-        ≡ effect (and_then (form_check t) (script_check q script (length fs) (length ws)))
+        ≡ effect (result_and (form_check t) (script_check q script (length fs) (length ws)))
     unfolding load_step
     step_is t e =
         (λ i. let d = (read_is p i).val in
-        guarded (and_then (form_check (read_is p i).text) (script_check q d (length fs) (length ws))) fs ws
+        guarded (result_and (form_check (read_is p i).text) (script_check q d (length fs) (length ws))) fs ws
         (after (counted (d.verts ∷ d.faces ∷ length d.puts ∷ [])) (played q fs ws d).floats
         (played q fs ws d).words))
-        ∙ (λ i. effect (and_then (form_check (e i)) (script_check q script (length fs) (length ws))))
+        ∙ (λ i. effect (result_and (form_check (e i)) (script_check q script (length fs) (length ws))))
 
     pub tests_are : script_check q script (length fs) (length ws)
         ≡ verdict (ltb vertex_limit v) (ltb face_limit f) (all_below v (corners_in (lines_from face_line f (rest s a)).val))
@@ -65,12 +64,12 @@ module _ {s : List ℕ} {r : Float} {v f h a b : ℕ} (p : Parsed s r v f h a b)
     step_bad e = sym (step_is lost e)
 
     -- 2, 3, 4, 6, 16
-    pub step_refused : (x : Refusal) → P.text ≡ left [] → script_check q script (length fs) (length ws) ≡ Failed x
+    pub step_refused : (x : Refusal) → P.text ≡ left [] → script_check q script (length fs) (length ws) ≡ Err x
         → after (refused x) fs ws ≡ load_step q fs ws s
     step_refused x e g = sym (step_is (left []) e ∙ (λ i. effect (g i)))
 
     pub step_done : (n : ℕ) {fs' : List Float} {ws' : List ℕ} → P.text ≡ left []
-        → script_check q script (length fs) (length ws) ≡ Passed → n ≡ length P.val
+        → script_check q script (length fs) (length ws) ≡ passed → n ≡ length P.val
         → fs' ≡ (played q fs ws (script_from s r v f n h)).floats → ws' ≡ (played q fs ws (script_from s r v f n h)).words
         → after (counted (v ∷ f ∷ n ∷ [])) fs' ws' ≡ load_step q fs ws s
     step_done n e g m x y =

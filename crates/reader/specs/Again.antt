@@ -1,7 +1,8 @@
 -- 02, L10: "The writer's lines thus give the same mesh, radius, kernels and layers, with all steps still to do", and
 -- "Writing a store read from the writer's own lines yields them byte for byte": for every sound store, its floats being
 -- of the format, and any runs that are long enough for it. Assumes nothing.
-use Rattle.std.specs.Prelude.{◌≡◌, ◌&&◌, cond, List, [], ◌∷◌, ◌++◌, eqb, leb, length, get_or, drop}
+use Rattle.std.specs.Result.{result_and}
+use Rattle.std.specs.Prelude.{◌≡◌, ◌&&◌, cond, List, [], ◌∷◌, ◌++◌, eqb, leb, length, get_or, drop, Err}
 use Rattle.std.proofs.Math.Path.{refl}
 use Rattle.std.proofs.Common.{sym, ap, subst, ◌∙◌, inr, arith, length-drop, length-take-le, lt-ltb, le-leb, le-ltb, eq-eqb, ne_eqb}
 use Rattle.std.proofs.Math.Bool.{Bool, true, false}
@@ -9,11 +10,9 @@ use Prim.Native.Nat.{ℕ, zero, suc, ◌+◌, ◌*◌, ◌-◌, ◌/◌, ◌%◌
 use Rattle.std.proofs.Math.Decide.{dec_lt}
 use Rattle.std.specs.Float.Ieee.{Float}
 use Rattle.std.specs.Float.{nan}
-use Rattle.base.specs.Answers.{and_then}
+use Rattle.base.specs.Answers.{Checked, passed}
 use Rattle.base.specs.declared.refusal.Refusal.{Refusal}
 use Rattle.base.specs.declared.refusal.Refusal.TheVariants.{Unsound, ShortStore, NoPlace, NoLayer}
-use Rattle.base.specs.declared.refusal.Checked.{Checked}
-use Rattle.base.specs.declared.refusal.Checked.TheVariants.{Passed, Failed}
 use Rattle.mesh.specs.Checks.{vertex_limit, face_limit, all_below, mesh_check}
 use Rattle.pieces.specs.Pieces.{decomposed}
 use Rattle.layout.specs.Layout.{width, place_limit, layer_limit, radius_of, kernel_from, coords_from, state_from, corners_from, corners_of, verts_of, faces_of, status_of, layer_of}
@@ -99,7 +98,7 @@ module _ (fs : List Float) (ws : List ℕ) where
       go true ih = ih
       go false ih = rw (lt-ltb (layer_of width ws i) layer_limit (l i (omega arith)), ih) refl
 
-  corners_below : store_check width fs ws ≡ Passed → all_below (verts_of ws) (corners_of width ws) ≡ true
+  corners_below : store_check width fs ws ≡ passed → all_below (verts_of ws) (corners_of width ws) ≡ true
   unfolding store_check sound
   corners_below e = go (long_enough width fs ws) (sound width ws) refl e
     where
@@ -109,7 +108,7 @@ module _ (fs : List Float) (ws : List ℕ) where
       places : Bool
       places = every (place_sound_at width ws) place_limit
 
-      go : (a b : Bool) → sound width ws ≡ b → cond a (cond b Passed (Failed Unsound)) (Failed ShortStore) ≡ Passed
+      go : (a b : Bool) → sound width ws ≡ b → cond a (cond b passed (Err Unsound)) (Err ShortStore) ≡ passed
           → below ≡ true
       go true true s h =
           (both places below
@@ -119,16 +118,16 @@ module _ (fs : List Float) (ws : List ℕ) where
 
 -- ---- checks that pass
 
-both-passed : {a b : Checked} → a ≡ Passed → b ≡ Passed → and_then a b ≡ Passed
+both-passed : {a b : Checked} → a ≡ passed → b ≡ passed → result_and a b ≡ passed
 both-passed x y = rw (x, y) refl
 
-test_is : (b : Bool) (r : Refusal) → b ≡ true → cond b Passed (Failed r) ≡ Passed
+test_is : (b : Bool) (r : Refusal) → b ≡ true → cond b passed (Err r) ≡ passed
 test_is b r e = rw e refl
 
 -- a mesh of v vertices and f faces
 opens : (n : ℕ) (ks : List ℕ) (v f a b : ℕ) → n ≡ 3 * v → length ks ≡ 3 * f → v ≤ vertex_limit → f ≤ face_limit
     → all_below v ks ≡ true → coords_from + 3 * v ≤ a → corners_from width + 3 * f ≤ b
-    → open_check width n ks a b ≡ Passed
+    → open_check width n ks a b ≡ passed
 unfolding open_check mesh_check
 opens n ks v f a b en ek hv hf below room space =
     let v0 : 3 * v % 3 ≡ 0 = omega arith in
@@ -265,7 +264,7 @@ module _ (fs : List Float) (ws : List ℕ) (gs : List Float) (vs : List ℕ) (s 
       ) refl
 
 -- ---- a sound store, written and read into any runs that are long enough
-module _ (fs : List Float) (ws : List ℕ) (e : store_check width fs ws ≡ Passed) (g : Floats fs)
+module _ (fs : List Float) (ws : List ℕ) (e : store_check width fs ws ≡ passed) (g : Floats fs)
     (gs : List Float) (vs : List ℕ) (room : coords_from + 3 * verts_of ws ≤ length gs)
     (space : corners_from width + 3 * faces_of ws ≤ length vs) where
   abbrev s : Fine width fs ws
@@ -277,13 +276,13 @@ module _ (fs : List Float) (ws : List ℕ) (e : store_check width fs ws ≡ Pass
   abbrev ks : List ℕ
   ks = corners_of width ws
 
-  opening-passes : open_check width (length xs) ks (length gs) (length vs) ≡ Passed
+  opening-passes : open_check width (length xs) ks (length gs) (length vs) ≡ passed
   opening-passes =
       opens (length xs) ks (verts_of ws) (faces_of ws) (length gs) (length vs) (coords-long fs ws s)
       (corners-long fs ws s) s.mesh.verts s.mesh.faces
       (corners_below fs ws e) room space
 
-  passes : script_check width (script_of width fs ws) (length gs) (length vs) ≡ Passed
+  passes : script_check width (script_of width fs ws) (length gs) (length vs) ≡ passed
   passes =
       both-passed opening-passes
       (both-passed (test_is (places_in (puts_from width fs ws 32 0)) NoPlace (named_in fs ws 32 0 (omega arith)))

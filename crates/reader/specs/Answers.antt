@@ -1,10 +1,9 @@
--- 02's number and values for each case of the reader's answer. Definitions only.
-use Rattle.std.specs.Prelude.{[], ◌∷◌}
-use Rattle.base.specs.Answers.{Answer, refused, counted}
+-- 02's number and values for the reader's answer. Definitions only.
+use Rattle.std.specs.Prelude.{Result, [], ◌∷◌}
+use Rattle.base.specs.Answers.{Answer, answer_by, counted}
+use Rattle.base.specs.declared.refusal.Refusal.{Refusal}
 use Rattle.reader.specs.declared.read.Loaded.{Loaded}
-use Rattle.reader.specs.declared.read.Loaded.TheVariants.{Counts, Refused}
 
 -- vertices, faces, lines of puts
-abbrev pub loaded : Loaded → Answer
-loaded (Counts verts faces puts) = counted (verts ∷ faces ∷ puts ∷ [])
-loaded (Refused r) = refused r
+abbrev pub loaded : Result Loaded Refusal → Answer
+loaded = answer_by (λ l. counted (l.verts ∷ l.faces ∷ l.puts ∷ []))

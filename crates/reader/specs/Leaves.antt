@@ -1,6 +1,7 @@
 -- 02, L10: the reader "leaves what that opening and those puts, line by line, would": what that is, field by field. The
 -- mesh and the radius are the script's; a place that a put names holds the kernel and layer of the last such put, its
 -- pieces and "all steps still to do"; every other place is empty. And such a store is sound. Assumes nothing.
+use Rattle.base.specs.Answers.{passed}
 use Rattle.std.specs.Prelude.{◌≡◌, Bool, false, ◌&&◌, cond, ℕ, ◌+◌, ◌*◌, ◌-◌, ◌/◌, ◌≤◌, ◌<◌, eqb, ltb, leb, length, get_or, take, replicate, Float}
 use Rattle.std.proofs.Math.Path.{refl, ap}
 use Rattle.std.proofs.Common.{sym, subst, ◌∙◌, div-add-mod', arith, length-append, length-drop, take-append-drop, get_or-take, get_or-drop, drop_at}
@@ -13,7 +14,6 @@ use Rattle.std.proofs.Math.Seq.{length-take-le, take-length, drop-append-add, ta
 use Rattle.std.specs.Float.Ieee.{nan}
 use borrow.Author.Tests.{lt-ltb, le-leb, eq-eqb, ne_eqb, eqb-true, eqb-false}
 use Rattle.base.specs.Floats.{+0}
-use Rattle.base.specs.declared.refusal.Checked.TheVariants.{Passed}
 use Rattle.kernel.specs.declared.kernel.Kernel.{Kernel}
 use Rattle.pieces.specs.declared.pieces.Pieces.{Pieces}
 use Rattle.pieces.specs.Pieces.{decomposed}
@@ -350,7 +350,7 @@ module _ {r : Float} {xs : List Float} {ks : List ℕ} {held : ℕ → Held} {fs
             lt-ltb layer layer_limit l,
           ) refl
 
-  pub stands-sound : Meshes (length xs) ks → store_check width fs ws ≡ Passed
+  pub stands-sound : Meshes (length xs) ks → store_check width fs ws ≡ passed
   stands-sound m =
       let x = div-add-mod' (length xs) 3 in
       let y = div-add-mod' (length ks) 3 in

@@ -2,17 +2,16 @@
 -- line by line, would". The checks that it makes ahead pass exactly where neither the opening nor any put after it is
 -- refused; and what it then leaves is a sound store of the script's mesh and radius, with the last put of each place.
 -- Assumes nothing.
-use Rattle.std.specs.Prelude.{◌≡◌, Bool, true, false, ◌&&◌, cond, ℕ, ◌*◌, eqb, ltb, length, Float}
+use Rattle.std.specs.Result.{result_and}
+use Rattle.std.specs.Prelude.{◌≡◌, Bool, true, false, ◌&&◌, cond, ℕ, ◌*◌, eqb, ltb, length, Float, Ok, Err}
 use Rattle.std.proofs.Math.Path.{refl, ap}
 use Rattle.std.proofs.Common.{sym, ◌∙◌, arith}
 use mathlib.Core.List.{List, [], ◌∷◌, ◌++◌}
 use borrow.Author.Tests.{ltb-true, eqb-true}
-use Rattle.base.specs.Answers.{counted, and_then}
+use Rattle.base.specs.Answers.{counted, Checked, passed}
 use Rattle.base.specs.RefusalLaws.{not-zero}
 use Rattle.base.specs.declared.refusal.Refusal.{Refusal}
 use Rattle.base.specs.declared.refusal.Refusal.TheVariants.{NoPlace, NoLayer}
-use Rattle.base.specs.declared.refusal.Checked.{Checked}
-use Rattle.base.specs.declared.refusal.Checked.TheVariants.{Passed, Failed}
 use Rattle.kernel.specs.declared.kernel.Kernel.{Kernel}
 use Rattle.pieces.specs.Pieces.{decomposed}
 use Rattle.pieces.specs.FitEnd.{fit_of}
@@ -51,16 +50,16 @@ held_after (v ∷ vs) held = held_after vs (held_by v held)
 -- ---- one call
 
 -- a call that is not refused has passed its checks
-passed : (c : Checked) (fs : List Float) (ws : List ℕ) (good : After) → Taken (guarded c fs ws good) → c ≡ Passed
-passed Passed fs ws good t = refl
-passed (Failed r) fs ws good t = not-zero r t
+unrefused_passed : (c : Checked) (fs : List Float) (ws : List ℕ) (good : After) → Taken (guarded c fs ws good) → c ≡ passed
+unrefused_passed (Ok _) fs ws good t = refl
+unrefused_passed (Err r) fs ws good t = not-zero r t
 
-test_passed : (b : Bool) (r : Refusal) → cond b Passed (Failed r) ≡ Passed → b ≡ true
+test_passed : (b : Bool) (r : Refusal) → cond b passed (Err r) ≡ passed → b ≡ true
 test_passed true r e = refl
 test_passed false r e = absurd (let z : ◌≡◌ {A = ℕ} 0 1 = cc in omega arith)
 
 put_taken : (fs : List Float) (ws : List ℕ) (p : ℕ) (k : Kernel) (layer : ℕ)
-    → store_check width fs ws ≡ Passed → ltb p place_limit ≡ true → ltb layer layer_limit ≡ true
+    → store_check width fs ws ≡ passed → ltb p place_limit ≡ true → ltb layer layer_limit ≡ true
     → put_step_lem width fs ws p k layer
     ≡ after (placed_with (decomposed k (radius_of fs)).count ((decomposed k (radius_of fs)).count * faces_of ws)
     (fit_of k (radius_of fs)))
@@ -73,8 +72,8 @@ put_named : (fs : List Float) (ws : List ℕ) (p : ℕ) (k : Kernel) (layer : �
 unfolding put_step_lem place_check layer_check
 put_named fs ws p k layer t =
     let c = place_check width fs ws p in
-    let x = passed-both c (layer_check layer) (passed (and_then c (layer_check layer)) fs ws _ t) in
-    let y = passed-both (store_check width fs ws) (cond (ltb p place_limit) Passed (Failed NoPlace)) x.0 in
+    let x = passed-both c (layer_check layer) (unrefused_passed (result_and c (layer_check layer)) fs ws _ t) in
+    let y = passed-both (store_check width fs ws) (cond (ltb p place_limit) passed (Err NoPlace)) x.0 in
     (test_passed (ltb p place_limit) NoPlace y.1, test_passed (ltb layer layer_limit) NoLayer x.1)
 
 -- ---- puts
@@ -115,31 +114,31 @@ module _ (d : Script) (fs : List Float) (ws : List ℕ) where
   abbrev opening : After
   opening = open_step width fs ws d.radius d.coords d.corners
 
-  opened : open_check width (length d.coords) d.corners (length fs) (length ws) ≡ Passed
+  opened : open_check width (length d.coords) d.corners (length fs) (length ws) ≡ passed
       → Taken opening × Stands d.radius d.coords d.corners (λ i. none) opening.floats opening.words
   unfolding open_step
   opened e =
       let o = open_passes width (length d.coords) d.corners (length fs) (length ws) e in
       rw e (refl, opened-stands d.radius d.coords d.corners fs ws o.floats o.words)
 
-  pub checked : script_check width d (length fs) (length ws) ≡ Passed
+  pub checked : script_check width d (length fs) (length ws) ≡ passed
       → EachTaken width d.puts opening
       × Stands d.radius d.coords d.corners (held_after d.puts (λ i. none)) (played width fs ws d).floats
       (played width fs ws d).words
   checked e =
       let c = open_check width (length d.coords) d.corners (length fs) (length ws) in
       let x = passed-both c (puts_check d.puts) e in
-      let y = passed-both (cond (places_in d.puts) Passed (Failed NoPlace))
-      (cond (layers_in d.puts) Passed (Failed NoLayer)) x.1 in
+      let y = passed-both (cond (places_in d.puts) passed (Err NoPlace))
+      (cond (layers_in d.puts) passed (Err NoLayer)) x.1 in
       let m = (open_passes width (length d.coords) d.corners (length fs) (length ws) x.0).mesh in
       let o = opened x.0 in
       all_taken d.radius d.coords d.corners m d.puts (λ i. none) opening o.1 o.0
       (test_passed (places_in d.puts) NoPlace y.0) (test_passed (layers_in d.puts) NoLayer y.1)
 
-  pub unrefused : EachTaken width d.puts opening → script_check width d (length fs) (length ws) ≡ Passed
+  pub unrefused : EachTaken width d.puts opening → script_check width d (length fs) (length ws) ≡ passed
   unfolding open_step
   unrefused t =
-      let o = passed (open_check width (length d.coords) d.corners (length fs) (length ws)) fs ws _
+      let o = unrefused_passed (open_check width (length d.coords) d.corners (length fs) (length ws)) fs ws _
       (first_taken width d.puts opening t) in
       let n = all_named d.puts opening t in
       rw (o, n.0, n.1) refl
@@ -158,22 +157,22 @@ module _ (fs : List Float) (ws : List ℕ) (s : List ℕ) where
       after-script.words
 
   -- it refuses nothing else than bad lines and what the script's checks refuse
-  pub passing : form_check (read_of s).text ≡ Passed → script_check width script (length fs) (length ws) ≡ Passed
+  pub passing : form_check (read_of s).text ≡ passed → script_check width script (length fs) (length ws) ≡ passed
       → Taken (load_step width fs ws s)
   unfolding load_step
   passing f c = rw (f, c) refl
 
   has-passed : Taken (load_step width fs ws s)
-      → (form_check (read_of s).text ≡ Passed) × (script_check width script (length fs) (length ws) ≡ Passed)
+      → (form_check (read_of s).text ≡ passed) × (script_check width script (length fs) (length ws) ≡ passed)
   unfolding load_step
   has-passed t = go (form_check (read_of s).text) (script_check width script (length fs) (length ws)) refl refl
     where
       go : (a b : Checked) → form_check (read_of s).text ≡ a → script_check width script (length fs) (length ws) ≡ b
-          → (form_check (read_of s).text ≡ Passed) × (script_check width script (length fs) (length ws) ≡ Passed)
-      go Passed Passed e g = (e, g)
-      go Passed (Failed r) e g = not-zero _ (simp (e, g) at t)
-      go (Failed r) Passed e g = not-zero _ (simp (e, g) at t)
-      go (Failed r) (Failed q) e g = not-zero _ (simp (e, g) at t)
+          → (form_check (read_of s).text ≡ passed) × (script_check width script (length fs) (length ws) ≡ passed)
+      go (Ok _) (Ok _) e g = (e, g)
+      go (Ok _) (Err r) e g = not-zero _ (simp (e, g) at t)
+      go (Err r) (Ok _) e g = not-zero _ (simp (e, g) at t)
+      go (Err r) (Err q) e g = not-zero _ (simp (e, g) at t)
 
   -- a text that is not refused is played, line by line
   pub plays : Taken (load_step width fs ws s) → load_step width fs ws s ≡ all_done
@@ -196,7 +195,7 @@ module _ (fs : List Float) (ws : List ℕ) (s : List ℕ) where
       (x.verts ∙ omega (arith, y.0), x.faces ∙ omega (arith, y.1))
 
   -- "refuses the whole where one line would be refused", and nowhere else
-  pub refuses_where : form_check (read_of s).text ≡ Passed
+  pub refuses_where : form_check (read_of s).text ≡ passed
       → (Taken (load_step width fs ws s) → EachTaken width script.puts (opening script fs ws))
       × (EachTaken width script.puts (opening script fs ws) → Taken (load_step width fs ws s))
   refuses_where f = ((λ t. (checked script fs ws (has-passed t).1).0), (λ t. passing f (unrefused script fs ws t)))

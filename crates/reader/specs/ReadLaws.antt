@@ -102,13 +102,13 @@ module _ (f : Form) where
           ∙ ap (lines_to f m) (rest_end s) ∙ to_whole m
       go false e = let d = eqb-false k (length s) e in ap (lines_to f m) (rest_out s k (omega arith)) ∙ to_lost m
 
--- what the check of the put lines finds: whether they are all that follows, how many, and whether each names a place
--- and each a layer
-pub record Ends (s : List ℕ) (at : ℕ) (ended : Bool) (n : ℕ) (placed layered : Bool) : Type 0 where
-  pub text : (lines_to put_line (length s) (rest s at)).text ≡ cond ended (left []) lost
-  pub count : ended ≡ true → n ≡ length (lines_to put_line (length s) (rest s at)).val
-  pub places : ended ≡ true → placed ≡ places_in (lines_to put_line (length s) (rest s at)).val
-  pub layers : ended ≡ true → layered ≡ layers_in (lines_to put_line (length s) (rest s at)).val
+-- what the check of the put lines finds, where they are all that follows: how many, and whether each names a place and
+-- each a layer
+pub record Ends (s : List ℕ) (at : ℕ) (n : ℕ) (placed layered : Bool) : Type 0 where
+  pub text : (lines_to put_line (length s) (rest s at)).text ≡ left []
+  pub count : n ≡ length (lines_to put_line (length s) (rest s at)).val
+  pub places : placed ≡ places_in (lines_to put_line (length s) (rest s at)).val
+  pub layers : layered ≡ layers_in (lines_to put_line (length s) (rest s at)).val
 
 pub and_assoc : (x y z : Bool) → (x && y) && z ≡ x && (y && z)
 and_assoc true y z = refl

@@ -1,18 +1,18 @@
 -- 02, L10: "a reader of such lines from lent bytes": what bytes mean, and what the call does with them. Definitions
 -- only.
-use Rattle.std.specs.Prelude.{ℕ, zero, suc, Bool, true, ◌&&◌, cond, List, [], ◌∷◌, ltb, length, Float}
-use Rattle.base.specs.Answers.{counted, and_then}
+use Rattle.std.specs.Result.{result_and}
+use Rattle.std.specs.Prelude.{ℕ, zero, suc, Bool, true, ◌&&◌, cond, List, [], ◌∷◌, ltb, length, Float, Err}
+use Rattle.base.specs.Answers.{counted, Checked, passed}
 use Rattle.base.specs.declared.refusal.Refusal.TheVariants.{NoPlace, BadLine, NoLayer}
-use Rattle.base.specs.declared.refusal.Checked.{Checked}
-use Rattle.base.specs.declared.refusal.Checked.TheVariants.{Passed, Failed}
 use Rattle.kernel.specs.declared.kernel.Kernel.{Kernel}
 use Rattle.layout.specs.Layout.{place_limit, layer_limit}
 use Rattle.layout.specs.After.{After, after, guarded}
 use Rattle.store.specs.Calls.{open_check, open_step}
 use Rattle.store.specs.Puts.{put_step_lem}
 use Rattle.text.specs.Text.{Text, lost, left, Got}
-use Rattle.text.specs.Form.{Form, end, either, Vals, choose, read, ◌&◌}
+use Rattle.text.specs.Form.{Form, end, either, Vals, choose, read}
 use Rattle.forms.specs.Forms.{put_end}
+use Rattle.reader.specs.declared.lines.Entry.{Entry}
 use Rattle.script.specs.Lines.{open_line, vert_line, face_line, layer_end, put_line}
 
 -- ---- lines one after the other
@@ -73,10 +73,8 @@ abbrev pub layer_in : Vals put_line → ℕ
 layer_in v = layer_named v.1.1.1.1.1.1.1
 
 -- all that a put line says
-abbrev pub entry_in : Vals put_line → ℕ × (Float × (Float × (Float × (Float × (Float × (Float × (ℕ × Unit {0})))))))
-entry_in v =
-    place_in v & v.1.0 & v.1.1.0 & v.1.1.1.0 & v.1.1.1.1.0 & v.1.1.1.1.1.0 & v.1.1.1.1.1.1.0
-    & layer_in v & tt
+abbrev pub entry_of : Vals put_line → Entry
+entry_of v = record { put = record { place = place_in v; kernel = kernel_in v }; layer = layer_in v }
 
 -- ---- "one whole opening and then puts": a put line has a byte at least, so that there are no more of them than bytes
 pub record Script : Type 0 where
@@ -123,8 +121,8 @@ played q fs ws d = puts_on q d.puts (open_step q fs ws d.radius d.coords d.corne
 -- ---- refusals: "13 [..] comes ahead of all others", then 2, 3, 4, 6 and 16, each where it applies to any line
 
 abbrev pub form_check : Text → Checked
-form_check lost = Failed BadLine
-form_check (left l) = Passed
+form_check lost = Err BadLine
+form_check (left l) = passed
 
 -- each line names a place, and each a layer
 unfoldable pub places_in : List (Vals put_line) → Bool
@@ -137,11 +135,11 @@ layers_in (v ∷ vs) = ltb (layer_in v) layer_limit && layers_in vs
 
 abbrev pub puts_check : List (Vals put_line) → Checked
 puts_check vs =
-    and_then (cond (places_in vs) Passed (Failed NoPlace)) (cond (layers_in vs) Passed (Failed NoLayer))
+    result_and (cond (places_in vs) passed (Err NoPlace)) (cond (layers_in vs) passed (Err NoLayer))
 
 -- for runs of a floats and b words; 1 is never, since coordinates and corners come by threes
 abbrev pub script_check : ℕ → Script → ℕ → ℕ → Checked
-script_check q d a b = and_then (open_check q (length d.coords) d.corners a b) (puts_check d.puts)
+script_check q d a b = result_and (open_check q (length d.coords) d.corners a b) (puts_check d.puts)
 
 -- ---- the contract: "refuses the whole where one line would be refused"; else it answers vertices, faces and lines of
 -- puts
@@ -150,5 +148,5 @@ load_step q fs ws s =
     let g = read_of s in
     let d = g.val in
     let e = played q fs ws d in
-    guarded (and_then (form_check g.text) (script_check q d (length fs) (length ws))) fs ws
+    guarded (result_and (form_check g.text) (script_check q d (length fs) (length ws))) fs ws
     (after (counted (d.verts ∷ d.faces ∷ length d.puts ∷ [])) e.floats e.words)

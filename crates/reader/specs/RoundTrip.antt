@@ -1,5 +1,6 @@
 -- 02, L10: "The writer's lines thus give the same mesh, radius, kernels and layers": what the writer writes of a sound
 -- store is read, and read as that store's radius, counts, coordinates, corners and filled places. Assumes nothing.
+use Rattle.base.specs.Answers.{passed}
 use Rattle.std.specs.Prelude.{◌≡◌, Bool, cond, T, eqb, length, get_or, take, drop, Float}
 use Rattle.std.proofs.Math.Path.{refl, subst}
 use Rattle.std.proofs.Common.{sym, ap, ◌∙◌, add-one, arith, drop-cons}
@@ -10,9 +11,8 @@ use Rattle.std.proofs.Math.Nat.{add-zero}
 use Rattle.std.proofs.Math.Numerals.{add-two, add-three}
 use Rattle.std.specs.Float.{nan, binary64}
 use Rattle.std.specs.Float.Ieee.{fits}
-use Rattle.base.specs.declared.refusal.Checked.TheVariants.{Passed}
 use Rattle.kernel.specs.declared.kernel.Kernel.{Kernel}
-use Rattle.layout.specs.Layout.{place_limit, radius_of, kernel_from, centre_floats, weight_of, alpha_of, coords_from, corners_from, coords_of, corners_of, verts_of, faces_of, status_of, layer_of}
+use Rattle.layout.specs.Layout.{place_limit, radius_of, kernel_from, centre_floats, weight_of, alpha_of, coords_from, corners_from, corners_of, verts_of, faces_of, status_of, layer_of}
 use Rattle.layout.specs.Soundness.{store_check}
 use Rattle.layout.specs.SoundLaws.{Fine, fine}
 use Rattle.text.specs.Text.{left}
@@ -107,7 +107,7 @@ module _ {A : Type 0} (d : A) (l : List A) where
       ) refl
 
 -- ---- a sound store
-module _ (q : ℕ) (fs : List Float) (ws : List ℕ) (e : store_check q fs ws ≡ Passed) (g : Floats fs) where
+module _ (q : ℕ) (fs : List Float) (ws : List ℕ) (e : store_check q fs ws ≡ passed) (g : Floats fs) where
   abbrev s : Fine q fs ws
   s = fine q fs ws e
 

@@ -1,10 +1,9 @@
 -- What 02 and its readings say of the reader, row by row. Assumes nothing.
-use Rattle.std.specs.Prelude.{◌≡◌, refl, List, [], ◌∷◌, ◌++◌, ℕ, ◌<◌, Float}
+use Rattle.std.specs.Prelude.{◌≡◌, refl, List, [], ◌∷◌, ◌++◌, ℕ, ◌<◌, Float, Err}
 use Rattle.std.proofs.Common.{inl, lt-ltb, eq-eqb}
 use Rattle.std.specs.Float.Ieee.{of_bits}
-use Rattle.base.specs.Answers.{refused}
+use Rattle.base.specs.Answers.{refused, passed}
 use Rattle.base.specs.declared.refusal.Refusal.TheVariants.{Oversize, BadLine}
-use Rattle.base.specs.declared.refusal.Checked.TheVariants.{Passed, Failed}
 use Rattle.mesh.specs.Checks.{vertex_limit}
 use Rattle.layout.specs.Layout.{width}
 use Rattle.layout.specs.After.{after}
@@ -20,26 +19,26 @@ use Rattle.reader.specs.LineByLine.{held_by, held_after}
 -- ---- "one whole opening and then puts"
 
 -- no line at all; an opening with its newline and without; fewer lines than it names
-pub no_line : form_check (read_of []).text ≡ Failed BadLine
+pub no_line : form_check (read_of []).text ≡ Err BadLine
 unfolding read_of lines_from lines_to float pattern_from decimal
 no_line = refl
 
-pub an_opening : form_check (read_of (bytes "(open (radius 0000000000000000) (verts 0) (faces 0))\n")).text ≡ Passed
+pub an_opening : form_check (read_of (bytes "(open (radius 0000000000000000) (verts 0) (faces 0))\n")).text ≡ passed
 unfolding read_of lines_from lines_to float pattern_from decimal of_bits
 an_opening = refl
 
 pub no_newline : form_check (read_of (bytes "(open (radius 0000000000000000) (verts 0) (faces 0))")).text
-    ≡ Failed BadLine
+    ≡ Err BadLine
 unfolding read_of lines_from lines_to float pattern_from decimal of_bits
 no_newline = refl
 
 pub a_line_missing : form_check (read_of (bytes "(open (radius 0000000000000000) (verts 0) (faces 1))\n")).text
-    ≡ Failed BadLine
+    ≡ Err BadLine
 unfolding read_of lines_from lines_to float pattern_from decimal of_bits
 a_line_missing = refl
 
 -- "a count above them being 2", where its lines are there
-pub above_limit_lem : (fs : List Float) (ws : List ℕ) (s : List ℕ) → form_check (read_of s).text ≡ Passed
+pub above_limit_lem : (fs : List Float) (ws : List ℕ) (s : List ℕ) → form_check (read_of s).text ≡ passed
     → vertex_limit < (read_of s).val.verts → load_step width fs ws s ≡ after (refused Oversize) fs ws
 unfolding load_step
 above_limit_lem fs ws s f h =

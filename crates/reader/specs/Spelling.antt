@@ -1,6 +1,7 @@
 -- 02, L10: the reader takes exactly the texts that are "one whole opening and then puts": an opening line, as many
 -- vertex lines and face lines as it names, and put lines, one behind the other, each float by any pattern of it. Any
 -- other bytes are refused with 13. Assumes nothing.
+use Rattle.base.specs.Answers.{passed}
 use Rattle.std.specs.Prelude.{◌≡◌, Bool, true, false, T, length}
 use Rattle.std.proofs.Math.Path.{refl, sym, ap}
 use Rattle.std.proofs.Common.{subst, ◌∙◌, arith, length-append}
@@ -11,7 +12,6 @@ use Rattle.text.specs.Form.{Form, end, word, number, real, either, Vals, read, S
 use Rattle.text.specs.FormLaws.{reads, spells, read_lost}
 use Rattle.text.specs.LengthLaws.{at_least}
 use Rattle.text.specs.Tokens.{not_lost}
-use Rattle.base.specs.declared.refusal.Checked.TheVariants.{Passed}
 use Rattle.mesh.specs.Checks.{ragged}
 use Rattle.script.specs.Lines.{open_line, vert_line, face_line, put_line}
 use Rattle.reader.specs.ReadOf.{more, lines_from, to_next, lines_to, coords_in, corners_in, Script, read_of, form_check}
@@ -230,11 +230,11 @@ accepts s d = (
 
 -- "13 is [..] also for bytes that aren't one whole opening and then puts", and for no others
 pub well_formed : (s : List ℕ)
-    → (form_check (read_of s).text ≡ Passed → (d : Script) × SpellsScript s d)
-    × ((d : Script) → SpellsScript s d → form_check (read_of s).text ≡ Passed)
+    → (form_check (read_of s).text ≡ passed → (d : Script) × SpellsScript s d)
+    × ((d : Script) → SpellsScript s d → form_check (read_of s).text ≡ passed)
 well_formed s = (go (read_of s).text refl, (λ d x. (λ i. form_check (taken s d x i).text)))
   where
-    go : (t : Text) → (read_of s).text ≡ t → form_check t ≡ Passed → (d : Script) × SpellsScript s d
+    go : (t : Text) → (read_of s).text ≡ t → form_check t ≡ passed → (d : Script) × SpellsScript s d
     go lost e h = absurd (let z : ◌≡◌ {A = ℕ} 0 1 = cc in omega arith)
     go (left r) e h = ((read_of s).val, (spelt s r e).1)
 

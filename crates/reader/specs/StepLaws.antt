@@ -1,43 +1,41 @@
 -- What the reader's call does, by what its passes found. Assumes nothing.
-use Rattle.std.specs.Prelude.{◌≡◌, refl, List, [], ◌∷◌, Bool, true, false, ◌&&◌, ◌||◌, cond, ℕ, ◌+◌, ◌*◌, ◌/◌, ◌%◌, ◌≤◌, Float}
+use Rattle.std.specs.Result.{result_and}
+use Rattle.std.specs.Prelude.{◌≡◌, refl, List, [], ◌∷◌, Bool, true, false, ◌&&◌, ◌||◌, cond, ℕ, ◌+◌, ◌*◌, ◌/◌, ◌%◌, ◌≤◌, Float, Err}
 use Rattle.std.proofs.Common.{sym, ap, ◌∙◌}
 use native.Mathlib.Omega.{arith}
 use Rattle.std.proofs.Math.Dec.{ltb, leb}
 use Rattle.std.proofs.Math.ListN.{length}
-use Rattle.base.specs.Answers.{counted, refused, done, and_then}
-use Rattle.base.specs.declared.refusal.Refusal.{Refusal}
-use Rattle.base.specs.declared.refusal.Refusal.TheVariants.{Oversize, LooseCorner, ShortStore, NoPlace, BadLine, NoLayer}
-use Rattle.base.specs.declared.refusal.Checked.{Checked}
-use Rattle.base.specs.declared.refusal.Checked.TheVariants.{Passed, Failed}
+use Rattle.base.specs.Answers.{counted, done, Checked, passed}
+use Rattle.base.specs.declared.refusal.Refusal.TheVariants.{Oversize, LooseCorner, ShortStore, NoPlace, NoLayer}
 use Rattle.layout.specs.Runs.{write}
 use Rattle.mesh.specs.Checks.{vertex_limit, face_limit, all_below, mesh_check}
 use Rattle.layout.specs.Layout.{width, coords_from, corners_from}
 use Rattle.layout.specs.Soundness.{store_check}
 use Rattle.store.specs.OpenLaws.{open_passes}
 use Rattle.store.specs.SoundStores.{open_stays}
-use Rattle.layout.specs.After.{After, after, guarded}
+use Rattle.layout.specs.After.{after}
 use Rattle.store.specs.Calls.{open_check, open_floats, open_words, open_step}
-use Rattle.text.specs.Text.{Text, lost, left, rest, got, Got}
+use Rattle.text.specs.Text.{Text, left, rest, got, Got}
 use Rattle.text.specs.TextLaws.{rest_all}
 use Rattle.text.specs.Form.{Vals, read, ◌&◌}
 use Rattle.script.specs.Lines.{open_line, vert_line, face_line, put_line}
-use Rattle.reader.specs.ReadOf.{lines_from, lines_to, coords_in, corners_in, Script, read_of, puts_on, played, form_check, places_in, layers_in, puts_check, script_check, load_step}
+use Rattle.reader.specs.ReadOf.{lines_from, lines_to, coords_in, corners_in, Script, read_of, puts_on, played, places_in, layers_in, puts_check, script_check}
 use Rattle.reader.specs.ReadLaws.{coords_count, corners_count, to_from, puts_reply}
 use Rattle.layout.specs.SoundLaws.{passed-both}
 
 -- ---- the refusals 2, 3, 4, 6 and 16 by their tests
 abbrev pub verdict : Bool → Bool → Bool → Bool → Bool → Bool → Bool → Checked
 verdict big₁ big₂ below room₁ room₂ placed layered =
-    cond big₁ (Failed Oversize) (cond big₂ (Failed Oversize)
+    cond big₁ (Err Oversize) (cond big₂ (Err Oversize)
     (cond below
-    (cond room₁ (cond room₂ (cond placed (cond layered Passed (Failed NoLayer)) (Failed NoPlace)) (Failed ShortStore))
-    (Failed ShortStore))
-    (Failed LooseCorner)))
+    (cond room₁ (cond room₂ (cond placed (cond layered passed (Err NoLayer)) (Err NoPlace)) (Err ShortStore))
+    (Err ShortStore))
+    (Err LooseCorner)))
 
 verdict-is : (a b c d e f g : Bool)
-    → and_then (and_then (cond (a || b) (Failed Oversize) (cond c Passed (Failed LooseCorner)))
-    (cond (d && e) Passed (Failed ShortStore)))
-    (and_then (cond f Passed (Failed NoPlace)) (cond g Passed (Failed NoLayer)))
+    → result_and (result_and (cond (a || b) (Err Oversize) (cond c passed (Err LooseCorner)))
+    (cond (d && e) passed (Err ShortStore)))
+    (result_and (cond f passed (Err NoPlace)) (cond g passed (Err NoLayer)))
     ≡ verdict a b c d e f g
 verdict-is true b c d e f g = refl
 verdict-is false true c d e f g = refl
@@ -65,7 +63,7 @@ module _ (q : ℕ) (d : Script) (ex : length d.coords ≡ 3 * d.verts) (ek : len
 
   -- an opening that is not refused leaves these runs, and so its puts these
   pub opened_as : (fs : List Float) (ws : List ℕ)
-      → open_check q (length d.coords) d.corners (length fs) (length ws) ≡ Passed
+      → open_check q (length d.coords) d.corners (length fs) (length ws) ≡ passed
       → open_step q fs ws d.radius d.coords d.corners
       ≡ after (counted (length d.coords / 3 ∷ length d.corners / 3 ∷ []))
       (write fs 0 (open_floats d.radius d.coords)) (write ws 0 (open_words q d.verts d.faces d.corners))
@@ -76,7 +74,7 @@ module _ (q : ℕ) (d : Script) (ex : length d.coords ≡ 3 * d.verts) (ek : len
       rw o (λ i. after (counted (length d.coords / 3 ∷ length d.corners / 3 ∷ []))
       (write fs 0 (open_floats d.radius d.coords)) (write ws 0 (open_words q (x i) (y i) d.corners)))
 
-  pub played_as : (fs : List Float) (ws : List ℕ) → script_check q d (length fs) (length ws) ≡ Passed
+  pub played_as : (fs : List Float) (ws : List ℕ) → script_check q d (length fs) (length ws) ≡ passed
       → let o = puts_on q d.puts (after done (write fs 0 (open_floats d.radius d.coords))
       (write ws 0 (open_words q d.verts d.faces d.corners))) in
       (o.floats ≡ (played q fs ws d).floats) × (o.words ≡ (played q fs ws d).words)
@@ -110,11 +108,11 @@ script_from s r v f n h =
     saying r v f (rest s h) xs.text (lines_from put_line n ks.text).val
 
 -- puts that pass their check
-pub put_tests : (vs : List (Vals put_line)) → puts_check vs ≡ Passed → (places_in vs ≡ true) × (layers_in vs ≡ true)
+pub put_tests : (vs : List (Vals put_line)) → puts_check vs ≡ passed → (places_in vs ≡ true) × (layers_in vs ≡ true)
 put_tests vs e = go (places_in vs) (layers_in vs) refl refl e
   where
     go : (p l : Bool) → places_in vs ≡ p → layers_in vs ≡ l
-        → and_then (cond p Passed (Failed NoPlace)) (cond l Passed (Failed NoLayer)) ≡ Passed
+        → result_and (cond p passed (Err NoPlace)) (cond l passed (Err NoLayer)) ≡ passed
         → (places_in vs ≡ true) × (layers_in vs ≡ true)
     go true true x y z = (x, y)
     go true false x y z = absurd (let o : ◌≡◌ {A = ℕ} 0 1 = cc in omega arith)
@@ -140,13 +138,13 @@ module _ (fs : List Float) (ws s : List ℕ) (r : Float) (v f n h : ℕ) where
   pub record Loads : Type 0 where
     pub floats : coords_from + 3 * v ≤ length fs
     pub words : corners_from width + 3 * f ≤ length ws
-    pub sound : store_check width F W ≡ Passed
+    pub sound : store_check width F W ≡ passed
     pub places : places_in PS ≡ true
     pub layers : layers_in PS ≡ true
     pub left_floats : (puts_on width PS (after done F W)).floats ≡ (played width fs ws (script_from s r v f n h)).floats
     pub left_words : (puts_on width PS (after done F W)).words ≡ (played width fs ws (script_from s r v f n h)).words
 
-  pub loads : script_check width (script_from s r v f n h) (length fs) (length ws) ≡ Passed → Loads
+  pub loads : script_check width (script_from s r v f n h) (length fs) (length ws) ≡ passed → Loads
   unfolding script_from
   loads e =
       let d = saying r v f (rest s h) X.text PS in

@@ -1,34 +1,35 @@
 // The reader: a pass over all bytes that changes nothing and finds the refusal, and then the pass that writes.
-ghost use Rattle.std.specs.Prelude.{◌≡◌, true, ◌&&◌, ◌||◌, ◌+◌, ◌*◌, ◌≤◌, ltb, leb, length};
+ghost use Rattle.std.specs.Prelude.{◌≡◌, true, ◌&&◌, ◌||◌, ◌+◌, ◌*◌, ◌≤◌, ltb, leb, length, MatchOption, ◌≢◌};
 ghost use Rattle.std.proofs.lemmas.List.Edits.{sets};
-ghost use Rattle.base.specs.Answers.{done};
-ghost use Rattle.base.specs.declared.refusal.Checked.TheVariants.{Passed};
+ghost use Rattle.base.specs.Answers.{done, passed};
 ghost use Rattle.layout.specs.After.{after};
 ghost use Rattle.layout.specs.Layout.{width, coords_from, corners_from};
 ghost use Rattle.layout.specs.Runs.{write};
 ghost use Rattle.layout.specs.Soundness.{store_check};
 ghost use Rattle.mesh.specs.Checks.{vertex_limit, face_limit, all_below};
 ghost use Rattle.store.specs.Calls.{open_floats, open_words};
-ghost use Rattle.text.specs.Text.{rest};
+ghost use Rattle.text.specs.Text.{rest, lost};
 ghost use Rattle.script.specs.Lines.{vert_line, face_line, put_line};
-ghost use Rattle.reader.specs.ReadOf.{lines_from, coords_in, corners_in, places_in, layers_in, puts_on, played, script_check, load_step};
+ghost use Rattle.reader.specs.ReadOf.{lines_from, lines_to, coords_in, corners_in, places_in, layers_in, puts_on, played, script_check, load_step};
 ghost use Rattle.reader.specs.Answers.{loaded};
 ghost use Rattle.reader.specs.ReadLaws.{Ends};
 ghost use Rattle.reader.specs.StepLaws.{verdict, script_from};
 
 use crate::lines::{read_face, read_open, read_put, read_vert, skip_vert};
-use base::refusal::{Checked, Refusal};
-use kernel::kernel::Kernel;
+use base::refusal::Refusal;
+use forms::line::Head;
 use layout::offsets::{COORDS, CORNERS, LAYERS};
-use layout::runs::{zero_floats, zero_words};
+use layout::runs::fill;
 use mesh::check::{FACE_LIMIT, VERTEX_LIMIT};
 use store::put::put_sound;
+use text::read::Read;
 
-// The answer of the reader: vertices, faces, lines of puts.
+// What was read: vertices, faces, lines of puts.
 #[derive(Clone, Copy)]
-pub enum Loaded {
-    Counts(u32, u32, u64),
-    Refused(Refusal),
+pub struct Loaded {
+    pub verts: u32,
+    pub faces: u32,
+    pub puts: u64,
 }
 
 // The position after n lines of vertices.
@@ -36,122 +37,125 @@ fn check_verts(s: &[u8], at: usize, n: usize) -> usize
     ensures { rest s.now result ≡ (lines_from vert_line n (rest s.now at)).text }
 {
     let mut k = at;
-    let mut i: usize = 0;
-    while i < n {
-        let p = skip_vert(s, k);
-        if p > s.len() {
-            return s.len() + 1;
+    for i in 0..n {
+        k = skip_vert(s, k);
+        if k > s.len() {
+            return k;
         }
-        k = p;
-        i += 1;
     }
     k
 }
 
-// The position after n lines of faces, and whether all corners are below v.
-#[derive(Clone, Copy)]
-struct Faces {
-    at: usize,
-    below: bool,
-}
-
-fn check_faces(s: &[u8], at: usize, n: usize, v: u32) -> Faces
+// Whether all corners of n lines of faces are below v, and the position after the lines. (No `Option`: a line that is
+// none is refused once, by `check_puts`, which takes a position one past the end as it comes.)
+fn check_faces(s: &[u8], at: usize, n: usize, v: u32) -> Read<bool>
     ensures at_value { rest s.now result.at ≡ (lines_from face_line n (rest s.now at)).text }
     ensures below_value { result.at ≤ length s.now
-        → result.below ≡ all_below v (corners_in (lines_from face_line n (rest s.now at)).val) }
+        → result.value ≡ all_below v (corners_in (lines_from face_line n (rest s.now at)).val) }
 {
     let mut k = at;
     let mut below = true;
-    let mut i: usize = 0;
-    while i < n {
-        let p = read_face(s, k);
-        if p.at > s.len() {
-            return Faces {
-                at: s.len() + 1,
-                below: false,
+    for i in 0..n {
+        let face = read_face(s, k);
+        k = face.at;
+        if k > s.len() {
+            return Read {
+                value: false,
+                at: k,
             };
         }
-        k = p.at;
-        below = below & (p.a < v) & (p.b < v) & (p.c < v);
-        i += 1;
+        let [a, b, c] = face.value;
+        below = below & (a < v) & (b < v) & (c < v);
     }
-    Faces { at: k, below }
+    Read {
+        value: below,
+        at: k,
+    }
 }
 
-// Whether only lines of puts follow, how many, and whether each names a place and each a layer.
+// How many lines of puts follow, and whether each names a place and each a layer.
 #[derive(Clone, Copy)]
 struct Puts {
-    ended: bool,
     count: usize,
     placed: bool,
     layered: bool,
 }
 
-fn check_puts(s: &[u8], at: usize) -> Puts
-    ensures { Ends s.now at result.ended result.count result.placed result.layered }
+// These puts, if their lines end where the text does.
+fn if_ended(s: &[u8], k: usize, puts: Puts) -> Option<Puts>
+    ensures { MatchOption result (k ≢ length s.now) (λ p. (k ≡ length s.now) × (p ≡ puts)) }
+{
+    if k == s.len() { Some(puts) } else { None }
+}
+
+// The lines of puts from `at` on, if no others follow. There are no more of them than bytes.
+#[tactic(auto, using(crate::proofs::PutTurns::puts_found))]
+fn check_puts(s: &[u8], at: usize) -> Option<Puts>
+    ensures { MatchOption result
+        ((lines_to put_line (length s.now) (rest s.now at)).text ≡ lost)
+        (λ p. Ends s.now at p.count p.placed p.layered) }
 {
     let mut k = at;
     let mut placed = true;
     let mut layered = true;
-    let mut turns = s.len();
-    while k < s.len() {
-        if turns == 0 {
-            return Puts {
-                ended: false,
-                count: 0,
-                placed: false,
-                layered: false,
+    for count in 0..s.len() {
+        if k >= s.len() {
+            let puts = Puts {
+                count,
+                placed,
+                layered,
             };
+            return if_ended(s, k, puts);
         }
-        let p = read_put(s, k);
-        k = p.at;
-        placed = placed & (p.place < 32);
-        layered = layered & (p.layer < LAYERS);
-        turns -= 1;
+        let entry = read_put(s, k);
+        k = entry.at;
+        placed = placed & (entry.value.put.place < 32);
+        layered = layered & (entry.value.layer < LAYERS);
     }
-    Puts {
-        ended: k == s.len(),
-        count: s.len() - turns,
+    let puts = Puts {
+        count: s.len(),
         placed,
         layered,
-    }
+    };
+    if_ended(s, k, puts)
 }
 
-// The first of 2, 3, 4, 6 and 16 that applies to an opening of so many vertices and faces, or to any of its puts.
+// The first of 2, 3, 4, 6 and 16 that applies to an opening, with all its corners below its count or not, in runs of
+// so many floats and words, or to any of its puts.
+#[tactic(auto, unfolding(crate::specs::StepLaws::verdict))]
 fn check_limits(
-    verts: u32,
-    faces: u32,
+    head: Head,
     below: bool,
     floats: usize,
     words: usize,
-    placed: bool,
-    layered: bool,
-) -> Checked
-    ensures { result ≡ verdict (ltb vertex_limit verts) (ltb face_limit faces) below
-        (leb (coords_from + 3 * verts) floats) (leb (corners_from width + 3 * faces) words) placed layered }
+    puts: Puts,
+) -> Result<(), Refusal>
+    ensures { result ≡ verdict (ltb vertex_limit head.verts) (ltb face_limit head.faces) below
+        (leb (coords_from + 3 * head.verts) floats) (leb (corners_from width + 3 * head.faces) words)
+        puts.placed puts.layered }
 {
-    if verts > VERTEX_LIMIT {
-        return Checked::Failed(Refusal::Oversize);
+    if head.verts > VERTEX_LIMIT {
+        return Err(Refusal::Oversize);
     }
-    if faces > FACE_LIMIT {
-        return Checked::Failed(Refusal::Oversize);
+    if head.faces > FACE_LIMIT {
+        return Err(Refusal::Oversize);
     }
     if !below {
-        return Checked::Failed(Refusal::LooseCorner);
+        return Err(Refusal::LooseCorner);
     }
-    if floats < COORDS + 3 * (verts as usize) {
-        return Checked::Failed(Refusal::ShortStore);
+    if floats < COORDS + 3 * (head.verts as usize) {
+        return Err(Refusal::ShortStore);
     }
-    if words < CORNERS + 3 * (faces as usize) {
-        return Checked::Failed(Refusal::ShortStore);
+    if words < CORNERS + 3 * (head.faces as usize) {
+        return Err(Refusal::ShortStore);
     }
-    if !placed {
-        return Checked::Failed(Refusal::NoPlace);
+    if !puts.placed {
+        return Err(Refusal::NoPlace);
     }
-    if !layered {
-        return Checked::Failed(Refusal::NoLayer);
+    if !puts.layered {
+        return Err(Refusal::NoLayer);
     }
-    Checked::Passed
+    Ok(())
 }
 
 // The coordinates of n lines into a store's floats; answers the position after them.
@@ -162,15 +166,12 @@ fn load_verts(floats: &mut [f64], s: &[u8], at: usize, n: usize) -> usize
         (coords_in (lines_from vert_line n (rest s.now at)).val) }
 {
     let mut k = at;
-    let mut i: usize = 0;
-    while i < n {
-        let p = read_vert(s, k);
+    for i in 0..n {
+        let vertex = read_vert(s, k);
         let j = COORDS + 3 * i;
-        floats[j] = p.x;
-        floats[j + 1] = p.y;
-        floats[j + 2] = p.z;
-        k = p.at;
-        i += 1;
+        let xyz = vertex.value;
+        floats[j..j + 3].copy_from_slice(&xyz);
+        k = vertex.at;
     }
     k
 }
@@ -183,22 +184,19 @@ fn load_faces(words: &mut [u32], s: &[u8], at: usize, n: usize) -> usize
         (corners_in (lines_from face_line n (rest s.now at)).val) }
 {
     let mut k = at;
-    let mut i: usize = 0;
-    while i < n {
-        let p = read_face(s, k);
+    for i in 0..n {
+        let face = read_face(s, k);
         let j = CORNERS + 3 * i;
-        words[j] = p.a;
-        words[j + 1] = p.b;
-        words[j + 2] = p.c;
-        k = p.at;
-        i += 1;
+        let corners = face.value;
+        words[j..j + 3].copy_from_slice(&corners);
+        k = face.at;
     }
     k
 }
 
 // The puts of n lines into a store with no fault, which each leaves so.
 fn load_puts(floats: &mut [f64], words: &mut [u32], s: &[u8], at: usize, n: usize)
-    requires { (store_check width floats.old words.old ≡ Passed)
+    requires { (store_check width floats.old words.old ≡ passed)
         × (places_in (lines_from put_line n (rest s.now at)).val ≡ true)
         × (layers_in (lines_from put_line n (rest s.now at)).val ≡ true) }
     ensures floats_after { floats.new ≡ (puts_on width (lines_from put_line n (rest s.now at)).val
@@ -207,18 +205,11 @@ fn load_puts(floats: &mut [f64], words: &mut [u32], s: &[u8], at: usize, n: usiz
         (after done floats.old words.old)).words }
 {
     let mut k = at;
-    let mut i: usize = 0;
-    while i < n {
-        let p = read_put(s, k);
-        let kernel = Kernel {
-            c: [p.x, p.y, p.z],
-            sigma: p.sigma,
-            w: p.w,
-            alpha: p.alpha,
-        };
-        put_sound(floats, words, p.place, kernel, p.layer);
-        k = p.at;
-        i += 1;
+    for i in 0..n {
+        let entry = read_put(s, k);
+        let line = entry.value;
+        put_sound(floats, words, line.put.place, line.put.kernel, line.layer);
+        k = entry.at;
     }
 }
 
@@ -230,7 +221,7 @@ fn load_floats(floats: &mut [f64], s: &[u8], at: usize, radius: f64, n: usize) -
         (open_floats radius (coords_in (lines_from vert_line n (rest s.now at)).val)) }
 {
     floats[0] = radius;
-    zero_floats(floats, 1, COORDS - 1);
+    fill(floats, 1, COORDS - 1, 0.0);
     load_verts(floats, s, at, n)
 }
 
@@ -243,58 +234,41 @@ fn load_words(words: &mut [u32], s: &[u8], at: usize, verts: u32, faces: u32) ->
 {
     words[0] = verts;
     words[1] = faces;
-    zero_words(words, 2, CORNERS - 2);
+    fill(words, 2, CORNERS - 2, 0);
     load_faces(words, s, at, faces as usize)
 }
 
 // The opening and n puts from position `at` on, once nothing is refused.
-fn load(
-    floats: &mut [f64],
-    words: &mut [u32],
-    s: &[u8],
-    at: usize,
-    radius: f64,
-    verts: u32,
-    faces: u32,
-    n: usize,
-)
-    requires { script_check width (script_from s.now radius verts faces n at) (length floats.old)
-        (length words.old) ≡ Passed }
+fn load(floats: &mut [f64], words: &mut [u32], s: &[u8], at: usize, head: Head, n: usize)
+    requires { script_check width (script_from s.now head.radius head.verts head.faces n at)
+        (length floats.old) (length words.old) ≡ passed }
     ensures floats_after { floats.new ≡ (played width floats.old words.old
-        (script_from s.now radius verts faces n at)).floats }
+        (script_from s.now head.radius head.verts head.faces n at)).floats }
     ensures words_after { words.new ≡ (played width floats.old words.old
-        (script_from s.now radius verts faces n at)).words }
+        (script_from s.now head.radius head.verts head.faces n at)).words }
 {
-    let a = load_floats(floats, s, at, radius, verts as usize);
-    let b = load_words(words, s, a, verts, faces);
+    let a = load_floats(floats, s, at, head.radius, head.verts as usize);
+    let b = load_words(words, s, a, head.verts, head.faces);
     load_puts(floats, words, s, b, n);
 }
 
 // Makes two runs the store that lines describe: an opening, its vertices and faces, and puts.
-pub fn read_store(floats: &mut [f64], words: &mut [u32], s: &[u8]) -> Loaded
+pub fn read_store(floats: &mut [f64], words: &mut [u32], s: &[u8]) -> Result<Loaded, Refusal>
     ensures { after (loaded result) floats.new words.new
         ≡ load_step width floats.old words.old s.now }
 {
     let h = read_open(s, 0);
-    let a = check_verts(s, h.at, h.verts as usize);
-    let b = check_faces(s, a, h.faces as usize, h.verts);
-    let p = check_puts(s, b.at);
-    if !p.ended {
-        return Loaded::Refused(Refusal::BadLine);
-    }
-    match check_limits(
-        h.verts,
-        h.faces,
-        b.below,
-        floats.len(),
-        words.len(),
-        p.placed,
-        p.layered,
-    ) {
-        Checked::Failed(r) => Loaded::Refused(r),
-        Checked::Passed => {
-            load(floats, words, s, h.at, h.radius, h.verts, h.faces, p.count);
-            Loaded::Counts(h.verts, h.faces, p.count as u64)
-        }
-    }
+    let head = h.value;
+    let a = check_verts(s, h.at, head.verts as usize);
+    let b = check_faces(s, a, head.faces as usize, head.verts);
+    let Some(puts) = check_puts(s, b.at) else {
+        return Err(Refusal::BadLine);
+    };
+    check_limits(head, b.value, floats.len(), words.len(), puts)?;
+    load(floats, words, s, h.at, head, puts.count);
+    Ok(Loaded {
+        verts: head.verts,
+        faces: head.faces,
+        puts: puts.count as u64,
+    })
 }

@@ -1,6 +1,7 @@
 -- 02, L7, "Mass of what is finished": "a report that may be taken while work is left". Definitions only.
+use Rattle.std.specs.Result.{result_and}
 use Rattle.std.specs.Prelude.{Bool, List, [], ◌∷◌, ◌++◌, ℕ, ◌-◌, eqb, Float}
-use Rattle.base.specs.Answers.{Answer, granted, and_then}
+use Rattle.base.specs.Answers.{Answer, granted}
 use Rattle.density.specs.declared.convention.Convention.{Convention}
 use Rattle.layout.specs.Layout.{place_limit, status_of, finished_of}
 use Rattle.layout.specs.Soundness.{store_check}
@@ -29,5 +30,5 @@ beside n a = record { refusal = a.refusal; counts = a.counts ++ (n ∷ []); floa
 -- 16
 unfoldable pub finished_step : ℕ → List Float → List ℕ → ℕ → Convention → Answer
 finished_step q fs ws layers v =
-    granted (and_then (store_check q fs ws) (layers_check layers))
+    granted (result_and (store_check q fs ws) (layers_check layers))
     (beside (passed_over_lem q layers ws) (answer_of (report v) (held_seen q fs (complete_in q layers ws))).reply)

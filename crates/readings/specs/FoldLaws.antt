@@ -72,15 +72,15 @@ masses : (ps : List Part) (a : Float) → foldl (λ (p : Part) (t : Float). t �
 masses [] a = refl
 masses (p ∷ ps) a = masses ps (mass_step p a)
 
-pub scaled-sum : (s : Float) (x : List Float) (ps : List Part)
+pub scaled_sum : (s : Float) (x : List Float) (ps : List Part)
     → density_at (map (rescaled s) (map bare ps)) x ≡ fold (scaled_step s x) ps +0
 unfolding density_at densitize_of
-scaled-sum s x ps = by_index (λ (k : Kernel) (rho : Float). rho ⊕ density_of k x) no_kernel
+scaled_sum s x ps = by_index (λ (k : Kernel) (rho : Float). rho ⊕ density_of k x) no_kernel
     (map (rescaled s) (map bare ps)) +0 ∙ mapped s x ps +0
 
-pub origin-sum : (ps : List Part) → density_at (map bare ps) origin ≡ fold origin_step ps +0
+pub origin_sum : (ps : List Part) → density_at (map bare ps) origin ≡ fold origin_step ps +0
 unfolding density_at densitize_of
-origin-sum ps =
+origin_sum ps =
     by_index (λ (k : Kernel) (rho : Float). rho ⊕ density_of k origin) no_kernel (map bare ps) +0 ∙ plain ps +0
 
 pub mass_sum : (ps : List Part) → raw_mass_lem ps ≡ fold mass_step ps +0

@@ -1,5 +1,6 @@
 -- 02, L5: "with all sixteen it reads as before"; and what a reading of no layer answers. Assumes nothing.
-use Rattle.std.specs.Prelude.{◌≡◌, Bool, ◌&&◌, length, Float}
+use Rattle.std.specs.Result.{result_and}
+use Rattle.std.specs.Prelude.{◌≡◌, Bool, ◌&&◌, length, Float, Ok, Err}
 use Rattle.std.proofs.Math.Path.{refl}
 use Rattle.std.proofs.Common.{ap, ◌∙◌, arith, le-leb}
 use Rattle.std.proofs.Math.Bool.{true, false, cond}
@@ -8,10 +9,8 @@ use Prim.Native.Nat.{ℕ, zero, suc, ◌≤◌, ◌<◌, ◌^◌}
 use Rattle.std.proofs.Math.Nat.{zero-div, zero-mul, zero-sub}
 use Rattle.base.specs.Floats.{+0}
 use Rattle.base.specs.Loops.{times}
-use Rattle.base.specs.Answers.{and_then, accepted, counted, Outcome, outcome}
+use Rattle.base.specs.Answers.{accepted, counted, Outcome, outcome, Checked, passed}
 use Rattle.base.specs.declared.refusal.Refusal.TheVariants.{Unfinished}
-use Rattle.base.specs.declared.refusal.Checked.{Checked}
-use Rattle.base.specs.declared.refusal.Checked.TheVariants.{Passed, Failed}
 use Rattle.volume.specs.Volume.{body_volume}
 use Rattle.density.specs.declared.convention.Convention.{Convention}
 use Rattle.density.specs.Densitize.{densitize_of}
@@ -39,9 +38,9 @@ reads_as_before q fs ws r = go (store_check q fs ws) refl
     before us = reading_of r (left_of q us (faces_of us) place_limit) (held_seen q fs us)
 
     go : (a : Checked) → store_check q fs ws ≡ a
-        → guarded_read (and_then a Passed) r (before (in_layers q all_layers ws)) ≡ guarded_read a r (before ws)
-    go Passed e = ap before (all_sixteen q fs ws e)
-    go (Failed x) e = refl
+        → guarded_read (result_and a passed) r (before (in_layers q all_layers ws)) ≡ guarded_read a r (before ws)
+    go (Ok _) e = ap before (all_sixteen q fs ws e)
+    go (Err x) e = refl
 
 -- ---- places that are all empty: nothing is held, and nothing is left
 module _ (q : ℕ) (fs : List Float) (ws : List ℕ) where
@@ -67,7 +66,7 @@ module _ (q : ℕ) (fs : List Float) (ws : List ℕ) where
       rw (none_left m k (λ i l. h i (omega arith)), h k (omega arith), zero-sub, zero-mul, zero-sub) refl
 
 -- ---- a reading of no layer of a sound store sees no piece and is never unfinished; the volume is the whole mesh's
-module _ (q : ℕ) (three : 3 ≤ q) (fs : List Float) (ws : List ℕ) (ok : store_check q fs ws ≡ Passed) where
+module _ (q : ℕ) (three : 3 ≤ q) (fs : List Float) (ws : List ℕ) (ok : store_check q fs ws ≡ passed) where
   abbrev body : Float
   body = body_volume (held q fs ws (verts_of ws) (faces_of ws)) (faces_of ws)
 

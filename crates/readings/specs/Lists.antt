@@ -38,8 +38,8 @@ pub record Listed (l : List Float) (at : ℕ) (vs f : List Float) : Type 0 where
   pub long : length f ≡ length l
   pub same : f ≡ write l at vs
 
-pub none-listed : (l : List Float) (at : ℕ) → Listed l at [] l
-none-listed l at = record { long = refl; same = sym (write-none l at) }
+pub none_listed : (l : List Float) (at : ℕ) → Listed l at [] l
+none_listed l at = record { long = refl; same = sym (write-none l at) }
 
 list_more : (l : List Float) (at : ℕ) (vs us f f' : List Float) (to : ℕ) → Listed l at vs f → to ≡ at + length vs
     → to + length us ≤ length l → f' ≡ write f to us → Listed l at (vs ++ us) f'
@@ -106,3 +106,6 @@ set6_write l i a b c d e f h = sets-write (a ∷ b ∷ c ∷ d ∷ e ∷ f ∷ [
 pub count_next : (q : ℕ) (ws : List ℕ) (k : ℕ) → held_pieces q ws (k + 1) ≡ held_pieces q ws k + (status_of q ws k - 1)
 unfolding held_pieces
 count_next q ws k = ap (held_pieces q ws) (add-one k)
+
+-- ---- the pieces of all places, a place more
+pub ruleset lists = (place_listed, count_mono, count_next)

@@ -1,5 +1,6 @@
 -- The readings' definitions, as their code works them. Assumes nothing.
-use Rattle.std.specs.Prelude.{◌≡◌, refl, Bool, true, false, ◌&&◌, List, [], ◌∷◌, map, ℕ, ◌*◌, ◌≤◌, ◌<◌, length, Float}
+use Rattle.std.specs.Result.{result_and}
+use Rattle.std.specs.Prelude.{◌≡◌, refl, Bool, true, false, ◌&&◌, List, [], ◌∷◌, map, ℕ, ◌*◌, ◌≤◌, ◌<◌, length, Float, Ok, Err}
 use Rattle.std.proofs.Math.Path.{sym, ap}
 use Rattle.std.proofs.Common.{◌∙◌, le-leb}
 use Rattle.std.proofs.Math.Bool.{cond}
@@ -8,11 +9,9 @@ use Rattle.std.proofs.lemmas.Bool.{lt-leb}
 use Rattle.layout.specs.Runs.{write}
 use Rattle.readings.specs.Lists.{rescaled_sixes}
 use Rattle.std.proofs.Math.Dec.{ltb}
-use Rattle.base.specs.Answers.{and_then, refused, counted, Outcome, outcome}
+use Rattle.base.specs.Answers.{refused, counted, Outcome, outcome, Checked, passed}
 use Rattle.base.specs.declared.refusal.Refusal.{Refusal}
 use Rattle.base.specs.declared.refusal.Refusal.TheVariants.{Unfinished, ShortList}
-use Rattle.base.specs.declared.refusal.Checked.{Checked}
-use Rattle.base.specs.declared.refusal.Checked.TheVariants.{Passed, Failed}
 use Rattle.layout.specs.Layout.{place_limit, faces_of}
 use Rattle.layout.specs.Soundness.{store_check}
 use Rattle.layout.specs.SoundLaws.{Fine, fine, passed-both}
@@ -29,61 +28,65 @@ pub read_as : (q : ℕ) (fs : List Float) (ws : List ℕ) (layers : ℕ) (r : Re
     (answer_of r (held_seen q fs (in_layers q layers ws)))
 unfolding read_step read_check
 read_as q fs ws layers r =
-    go (and_then (store_check q fs ws) (layers_check layers))
+    go (result_and (store_check q fs ws) (layers_check layers))
     (needs_work r && ltb 0 (left_of q (in_layers q layers ws) (faces_of (in_layers q layers ws)) place_limit))
   where
     A : Outcome
     A = answer_of r (held_seen q fs (in_layers q layers ws))
 
     go : (a : Checked) (b : Bool) → guarded_read a r (cond b (refusing r Unfinished) A)
-        ≡ guarded_read (and_then a (cond b (Failed Unfinished) Passed)) r A
-    go Passed true = refl
-    go Passed false = refl
-    go (Failed e) b = refl
+        ≡ guarded_read (result_and a (cond b (Err Unfinished) passed)) r A
+    go (Ok _) true = refl
+    go (Ok _) false = refl
+    go (Err e) b = refl
 
 -- it passes only on a store that passes
-pub read-passed : (q : ℕ) (fs : List Float) (ws : List ℕ) (layers : ℕ) (needs : Bool)
-    → read_check q fs ws layers needs ≡ Passed → store_check q fs ws ≡ Passed
+pub read_passed : (q : ℕ) (fs : List Float) (ws : List ℕ) (layers : ℕ) (needs : Bool)
+    → read_check q fs ws layers needs ≡ passed → store_check q fs ws ≡ passed
 unfolding read_check
-read-passed q fs ws layers needs h =
-    (passed-both (store_check q fs ws) _ (passed-both (and_then (store_check q fs ws) (layers_check layers)) _ h).0).0
+read_passed q fs ws layers needs h =
+    (passed-both (store_check q fs ws) _ (passed-both (result_and (store_check q fs ws) (layers_check layers)) _ h).0).0
 
-pub read-refused : (q : ℕ) (fs : List Float) (ws : List ℕ) (layers : ℕ) (r : Reading) (e : Refusal)
-    → read_check q fs ws layers (needs_work r) ≡ Failed e → read_step q fs ws layers r ≡ refusing r e
-read-refused q fs ws layers r e h =
+pub read_fine : (q : ℕ) (fs : List Float) (ws : List ℕ) (layers : ℕ) (needs : Bool) {c : Checked}
+    → c ≡ read_check q fs ws layers needs → c ≡ passed → Fine q fs ws
+read_fine q fs ws layers needs e h = fine q fs ws (read_passed q fs ws layers needs (sym e ∙ h))
+
+pub read_refused : (q : ℕ) (fs : List Float) (ws : List ℕ) (layers : ℕ) (r : Reading) (e : Refusal)
+    → read_check q fs ws layers (needs_work r) ≡ Err e → read_step q fs ws layers r ≡ refusing r e
+read_refused q fs ws layers r e h =
     read_as q fs ws layers r ∙ ap (λ (c : Checked). guarded_read c r
     (answer_of r (held_seen q fs (in_layers q layers ws)))) h
 
 -- ---- a check of the store and of the layers that ended in c, and what follows then
 module _ (q : ℕ) (fs : List Float) (ws : List ℕ) (layers : ℕ) {c : Checked}
-    (e : c ≡ and_then (store_check q fs ws) (layers_check layers)) where
-  pub check_fine : c ≡ Passed → Fine q fs ws
+    (e : c ≡ result_and (store_check q fs ws) (layers_check layers)) where
+  pub check_fine : c ≡ passed → Fine q fs ws
   check_fine h = fine q fs ws (passed-both (store_check q fs ws) (layers_check layers) (sym e ∙ h)).0
 
   abbrev then : Bool → Checked → Checked
   then needs a =
-      and_then a (cond (needs
+      result_and a (cond (needs
       && ltb 0 (left_of q (in_layers q layers ws) (faces_of (in_layers q layers ws)) place_limit))
-      (Failed Unfinished) Passed)
+      (Err Unfinished) passed)
 
-  pub check_failed : (needs : Bool) (r : Refusal) → c ≡ Failed r → Failed r ≡ read_check q fs ws layers needs
+  pub check_failed : (needs : Bool) (r : Refusal) → c ≡ Err r → Err r ≡ read_check q fs ws layers needs
   unfolding read_check
   check_failed needs r h = ap (then needs) (sym h ∙ e)
 
-  pub check_idle : (needs : Bool) → c ≡ Passed → needs ≡ false → Passed ≡ read_check q fs ws layers needs
+  pub check_idle : (needs : Bool) → c ≡ passed → needs ≡ false → passed ≡ read_check q fs ws layers needs
   unfolding read_check
-  check_idle needs h n = ap (λ (b : Bool). then b Passed) (sym n) ∙ ap (then needs) (sym h ∙ e)
+  check_idle needs h n = ap (λ (b : Bool). then b passed) (sym n) ∙ ap (then needs) (sym h ∙ e)
 
-  pub check_work : (needs b : Bool) (m : ℕ) → c ≡ Passed → needs ≡ true → m ≡ faces_of ws
+  pub check_work : (needs b : Bool) (m : ℕ) → c ≡ passed → needs ≡ true → m ≡ faces_of ws
       → b ≡ ltb 0 (left_of q (in_layers q layers ws) m place_limit)
-      → cond b (Failed Unfinished) Passed ≡ read_check q fs ws layers needs
+      → cond b (Err Unfinished) passed ≡ read_check q fs ws layers needs
   unfolding read_check
   check_work needs b m h n k l =
       let f : m ≡ faces_of (in_layers q layers ws) = k ∙ sym (seen_faces q layers ws (check_fine h).places.long) in
       let g : b ≡ ltb 0 (left_of q (in_layers q layers ws) (faces_of (in_layers q layers ws)) place_limit)
       = l ∙ ap (λ (x : ℕ). ltb 0 (left_of q (in_layers q layers ws) x place_limit)) f in
-      ap (λ (x : Bool). cond x (Failed Unfinished) Passed) g
-      ∙ (ap (λ (x : Bool). then x Passed) (sym n) ∙ ap (then needs) (sym h ∙ e))
+      ap (λ (x : Bool). cond x (Err Unfinished) passed) g
+      ∙ (ap (λ (x : Bool). then x passed) (sym n) ∙ ap (then needs) (sym h ∙ e))
 
 -- a list's two answers
 module _ (s : Float) (ps : List Part) (out : List Float) (n : ℕ) (e : n ≡ length ps) where

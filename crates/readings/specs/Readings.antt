@@ -1,16 +1,15 @@
 -- 01, "The store": "Readings (density, report, list) take filled places in order", which pieces, which scale, and what
 -- is made of them; 02, L1, the track, and L5, a set of layers. Definitions only.
-use Rattle.std.specs.Prelude.{Bool, true, false, ◌&&◌, cond, List, [], ◌∷◌, ◌++◌, map, ℕ, zero, suc, ◌+◌, ◌*◌, ◌-◌, ◌/◌}
+use Rattle.std.specs.Result.{result_and}
+use Rattle.std.specs.Prelude.{Bool, true, false, ◌&&◌, cond, List, [], ◌∷◌, ◌++◌, map, ℕ, zero, suc, ◌+◌, ◌*◌, ◌-◌, ◌/◌, Ok, Err}
 use Rattle.std.specs.Prelude.{◌%◌, ltb, leb, eqb, length, get_or, Float}
 use Rattle.std.specs.Float.{nan}
 use Rattle.std.specs.Float.Ieee.{lt}
-use Rattle.base.specs.Answers.{Answer, accepted, refused, counted, Outcome, outcome, guarded_run, room_check, and_then}
+use Rattle.base.specs.Answers.{Answer, accepted, refused, counted, Outcome, outcome, guarded_run, room_check, Checked, passed}
 use Rattle.base.specs.Floats.{◌⊕◌, ◌⊗◌, +0, greater}
 use Rattle.base.specs.Loops.{times}
 use Rattle.base.specs.declared.refusal.Refusal.{Refusal}
 use Rattle.base.specs.declared.refusal.Refusal.TheVariants.{Unfinished, BadTrack}
-use Rattle.base.specs.declared.refusal.Checked.{Checked}
-use Rattle.base.specs.declared.refusal.Checked.TheVariants.{Passed, Failed}
 use Rattle.layout.specs.Runs.{write}
 use Rattle.volume.specs.Volume.{body_volume}
 use Rattle.kernel.specs.declared.kernel.Kernel.{Kernel}
@@ -129,7 +128,7 @@ track_limit = 4096
 
 unfoldable pub track_check : ℕ → ℕ → Checked
 track_check coords room =
-    cond (eqb (coords % 3) 0 && leb (coords / 3) track_limit && leb (coords / 3) room) Passed (Failed BadTrack)
+    cond (eqb (coords % 3) 0 && leb (coords / 3) track_limit && leb (coords / 3) room) passed (Err BadTrack)
 
 -- "takes the points, one convention and a lent run for the densities, in point order"; "The scale and the rescaled
 -- weights are worked once for the track"
@@ -201,13 +200,13 @@ held_seen q fs ws = seen_by_lem q fs ws (body_volume (held q fs ws (verts_of ws)
 
 -- where a check of the store or of its layers refuses
 abbrev pub guarded_read : Checked → Reading → Outcome → Outcome
-guarded_read Passed r good = good
-guarded_read (Failed e) r good = refusing r e
+guarded_read (Ok _) r good = good
+guarded_read (Err e) r good = refusing r e
 
 -- the contract of the four readings, none of which changes the store. 02, L5: a reading of a set of layers is that of
 -- the store whose other places are empty; "16 when a layer is above 15" comes after 5 and before 8
 unfoldable pub read_step : ℕ → List Float → List ℕ → ℕ → Reading → Outcome
 read_step q fs ws layers r =
     let seen = in_layers q layers ws in
-    guarded_read (and_then (store_check q fs ws) (layers_check layers)) r
+    guarded_read (result_and (store_check q fs ws) (layers_check layers)) r
     (reading_of r (left_of q seen (faces_of seen) place_limit) (held_seen q fs seen))

@@ -1,14 +1,13 @@
 -- A reading of some layers looks at the words up to the corners alone, with the places outside the layers empty, and at
 -- the whole mesh. Assumes nothing.
+use Rattle.base.specs.Answers.{Checked, passed}
 use Rattle.std.specs.Prelude.{◌≡◌, Bool, true, false, cond, replicate, Float}
 use Rattle.std.proofs.Math.Path.{refl, ap}
 use Rattle.std.proofs.Common.{sym, ◌∙◌, arith}
-use mathlib.Core.List.{List, [], ◌++◌, append-nil}
-use Prim.Native.Nat.{ℕ, zero, suc, ◌+◌, ◌*◌, ◌≤◌, ◌<◌}
-use Rattle.std.proofs.Math.ListN.{length, take, drop, drop_of_length-le}
+use mathlib.Core.List.{List}
+use Prim.Native.Nat.{ℕ, zero, suc, ◌+◌, ◌-◌, ◌*◌, ◌≤◌, ◌<◌}
+use Rattle.std.proofs.Math.ListN.{length, take}
 use Rattle.std.proofs.Math.Seq.{length-take-le}
-use Rattle.base.specs.declared.refusal.Checked.{Checked}
-use Rattle.base.specs.declared.refusal.Checked.TheVariants.{Passed}
 use Rattle.volume.specs.Volume.{body_volume}
 use Rattle.layout.specs.Layout.{width, place_limit, corners_from, verts_of, faces_of, status_of}
 use Rattle.layout.specs.SoundLaws.{Worded, fine}
@@ -19,11 +18,12 @@ use Rattle.layout.specs.Layers.{hiding, in_layers}
 use Rattle.layout.specs.HidingLaws.{shown-next, hidden_next}
 use Rattle.layout.specs.LayerLaws.{seen_verts, seen_faces, seen_corners, seen_worded, front_status, front_worded}
 use Rattle.layout.specs.LayerLaws.{front-left}
+use Rattle.layout.specs.HidingLaws.{hid_worded}
 use Rattle.readings.specs.Readings.{Reading, needs_work, answer_of, guarded_read, seen_by_lem, held_all_lem}
 use Rattle.readings.specs.Readings.{held_filled, held_worst, held_seen, read_step}
 use Rattle.readings.specs.Checks.{read_check}
 use Rattle.readings.specs.Seeing.{shown, showing}
-use Rattle.readings.specs.ReadLaws.{read_as, read-passed}
+use Rattle.readings.specs.ReadLaws.{read_as, read_passed}
 
 -- ---- what is held of a place is told by its status
 module _ (q : ℕ) (fs : List Float) (ws us : List ℕ) where
@@ -67,13 +67,13 @@ seen_as q fs ws layers three long =
     refl
 
 -- a reading that is not refused, by the words that are seen
-pub read-seen : (q : ℕ) (fs : List Float) (ws : List ℕ) (layers : ℕ) (r : Reading) → 3 ≤ q
-    → read_check q fs ws layers (needs_work r) ≡ Passed
+pub read_seen : (q : ℕ) (fs : List Float) (ws : List ℕ) (layers : ℕ) (r : Reading) → 3 ≤ q
+    → read_check q fs ws layers (needs_work r) ≡ passed
     → (s : List ℕ) → s ≡ take (corners_from q) (in_layers q layers ws)
     → read_step q fs ws layers r ≡ answer_of r
     (seen_by_lem q fs s (body_volume (held q fs ws (verts_of ws) (faces_of ws)) (faces_of ws)))
-read-seen q fs ws layers r three h s e =
-    let long = (fine q fs ws (read-passed q fs ws layers (needs_work r) h)).places.long in
+read_seen q fs ws layers r three h s e =
+    let long = (fine q fs ws (read_passed q fs ws layers (needs_work r) h)).places.long in
     let body = body_volume (held q fs ws (verts_of ws) (faces_of ws)) (faces_of ws) in
     read_as q fs ws layers r
     ∙ (ap (λ (c : Checked). guarded_read c r (answer_of r (held_seen q fs (in_layers q layers ws)))) h
@@ -86,9 +86,20 @@ seen_ready layers ws s m e w =
     rw e (front_worded width (omega arith) (in_layers width layers ws) m
     (seen_worded width layers (omega arith) ws m w))
 
-pub seen-left : (layers : ℕ) (ws s : List ℕ) (m : ℕ) → s ≡ take (corners_from width) (in_layers width layers ws)
+-- and each place that is seen, of the complete ones too, has room for its pieces
+pub shown_fit : (layers : ℕ) (only : Bool) (ws : List ℕ) {s : List ℕ} (m : ℕ)
+    → s ≡ take (corners_from width) (showing width layers only ws)
+    → Worded width ws m → (i : ℕ) → i < 32 → status_of width s i - 1 ≤ 16
+unfolding showing
+shown_fit layers only ws m e w i h =
+    let test : ℕ → Bool = λ k. shown width layers only ws k in
+    let r = front_worded width (omega arith) (showing width layers only ws) m
+    (hid_worded width test ws w.long (omega arith) m w) in
+    rw e ((r.place i h).pieces)
+
+pub seen_left : (layers : ℕ) (ws s : List ℕ) (m : ℕ) → s ≡ take (corners_from width) (in_layers width layers ws)
     → left_of width s m place_limit ≡ left_of width (in_layers width layers ws) m place_limit
-seen-left layers ws s m e =
+seen_left layers ws s m e =
     ap (λ (t : List ℕ). left_of width t m place_limit) e
     ∙ front-left width (omega arith) (in_layers width layers ws) m 32 (omega arith)
 
@@ -103,18 +114,13 @@ module _ (layers : ℕ) (only : Bool) (ws : List ℕ) where
     pub size : length s ≡ 130
     pub same : s ≡ take 130 (hiding width test ws k)
 
-  pub none-looked : corners_from width ≤ length ws → (l s : List ℕ) → length l ≡ 130 → s ≡ write l 0 (take 130 ws)
-      → Looked 0 s
-  unfolding write hiding
-  none-looked long l s h e =
-      let n = length-take-le 130 ws long in
-      let d : drop (length (take 130 ws)) l ≡ [] = drop_of_length-le l {i = length (take 130 ws)} (omega arith) in
-      let f : s ≡ take 130 ws = e ∙ (ap (λ (r : List ℕ). take 130 ws ++ r) d ∙ append-nil (take 130 ws)) in
-      record { low = omega arith; size = ap length f ∙ n; same = f }
+  pub none_looked : corners_from width ≤ length ws → {s : List ℕ} → s ≡ take 130 ws → Looked 0 s
+  unfolding hiding
+  none_looked long e = record { low = omega arith; size = ap length e ∙ length-take-le 130 ws long; same = e }
 
-  pub next-looked : corners_from width ≤ length ws → (k : ℕ) {s t : List ℕ} → Looked k s → k < 32
+  pub next_looked : corners_from width ≤ length ws → (k : ℕ) {s t : List ℕ} → Looked k s → k < 32
       → t ≡ cond (test k) s (write s (2 + 4 * k) (replicate 4 0)) → Looked (k + 1) t
-  next-looked long k {s} {t} g h = go (test k) refl
+  next_looked long k {s} {t} g h = go (test k) refl
     where
       go : (b : Bool) → test k ≡ b → t ≡ cond b s (write s (2 + 4 * k) (replicate 4 0)) → Looked (k + 1) t
       go true e r =

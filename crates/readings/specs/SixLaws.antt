@@ -7,8 +7,7 @@ use Rattle.std.proofs.lemmas.List.{length-map}
 use Rattle.std.specs.Float.{nan}
 use Rattle.base.specs.Floats.{◌⊕◌, ◌⊗◌, +0}
 use Rattle.base.specs.LoopLaws.{times-same}
-use Rattle.base.specs.Answers.{accepted}
-use Rattle.base.specs.declared.refusal.Checked.TheVariants.{Passed}
+use Rattle.base.specs.Answers.{accepted, passed}
 use Rattle.mesh.specs.declared.triangles.Triangle.{Triangle}
 use Rattle.kernel.specs.Field.{centre_of}
 use Rattle.volume.specs.Volume.{kernel_volume}
@@ -57,7 +56,7 @@ at_laid (k ∷ ks) rest (suc i) h = next_kernel (get_or k.c 0 nan) (get_or k.c 1
 pub at_six : (ks : List Kernel) (i : ℕ) → i < length ks → kernel_at (sixes ks) i ≡ as_six (get_or ks i no_kernel)
 at_six ks i h = ap (λ (l : List Float). kernel_at l i) (sym (append-nil (sixes ks))) ∙ at_laid ks [] i h
 
-pub list_sound : (ks : List Kernel) → list_check (sixes ks) ≡ Passed
+pub list_sound : (ks : List Kernel) → list_check (sixes ks) ≡ passed
 unfolding list_check
 list_sound ks =
     let z : length (sixes ks) % 6 ≡ 0 = omega (arith, sixes-length ks) in

@@ -7,6 +7,7 @@ pub mod at_point;
 pub mod counts;
 pub mod held;
 pub mod lists;
+pub mod places;
 pub mod seen;
 pub mod shared;
 pub mod sums;

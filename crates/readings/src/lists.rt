@@ -1,47 +1,40 @@
 // The pieces of a sound store written into a lent run, six floats each.
 // Internal: a function with a `requires` is called by proved code alone.
-ghost use Rattle.std.specs.Prelude.{◌≡◌, ◌+◌, ◌*◌, ◌≤◌, ◌<◌, length};
+ghost use Rattle.std.specs.Prelude.{◌≡◌, ◌+◌, ◌-◌, ◌*◌, ◌≤◌, ◌<◌, length};
 ghost use Rattle.layout.specs.Runs.{write};
-ghost use Rattle.layout.specs.Layout.{width, place_limit, piece_limit, coords_from};
-ghost use Rattle.layout.specs.SoundLaws.{Worded};
+ghost use Rattle.layout.specs.Layout.{width, place_limit, status_of};
 ghost use Rattle.readings.specs.Readings.{held_at, held_all_lem};
 ghost use Rattle.readings.specs.Counts.{held_pieces};
 ghost use Rattle.readings.specs.Lists.{rescaled_sixes};
 
-use crate::held::rescaled_at;
+use crate::places::Places;
 use kernel::kernel::write_six;
-use layout::left::pieces;
-use layout::offsets::{PLACES, STATE, WIDTH};
+use layout::offsets::PLACES;
 
-// The first `count` pieces of place i, by a scale.
-fn place_list(out: &mut [f64], at: usize, floats: &[f64], i: usize, count: usize, s: f64)
-    requires { (coords_from ≤ length floats.now) × (i < place_limit) × (count ≤ piece_limit)
-        × (at + 6 * count ≤ length out.old) }
-    ensures { out.new ≡ write out.old at
-        (rescaled_sixes s (held_at floats.now i count)) }
-{
-    let mut j: usize = 0;
-    while j < count {
-        let k = rescaled_at(floats, i, j, s);
-        write_six(out, at + 6 * j, k);
-        j += 1;
+impl<'a> Places<'a> {
+    // Writes the pieces of place i, by a scale.
+    #[tactic(auto, using(crate::specs::Lists::none_listed, crate::specs::Lists::piece_listed))]
+    fn write_place(self, i: usize, s: f64, out: &mut [f64], at: usize)
+        requires { (i < place_limit) × (at + 6 * (status_of width self.words.now i - 1) ≤ length out.old) }
+        ensures { out.new ≡ write out.old at (rescaled_sixes s
+            (held_at self.entry.floats.now i (status_of width self.entry.words.now i - 1))) }
+    {
+        for j in 0..self.pieces_at(i) {
+            write_six(out, at + 6 * j, self.rescaled_at(i, j, s));
+        }
     }
-}
 
-// The pieces of all places, by a scale.
-pub fn write_list(out: &mut [f64], floats: &[f64], words: &[u32], faces: usize, s: f64)
-    requires fact_1 { coords_from ≤ length floats.now }
-    requires fact_2 { Worded width words.now faces }
-    requires fact_3 { 6 * held_pieces width words.now place_limit ≤ length out.old }
-    ensures { out.new ≡ write out.old 0
-        (rescaled_sixes s (held_all_lem width floats.now words.now place_limit)) }
-{
-    let mut at: usize = 0;
-    let mut i: usize = 0;
-    while i < PLACES {
-        let count = pieces(words[STATE + WIDTH * i]);
-        place_list(out, at, floats, i, count, s);
-        at += 6 * count;
-        i += 1;
+    // Writes the pieces of all places, by a scale.
+    #[tactic(auto, using(crate::specs::Lists::lists))]
+    pub fn write_list(self, s: f64, out: &mut [f64])
+        requires { 6 * held_pieces width self.words.now place_limit ≤ length out.old }
+        ensures { out.new ≡ write out.old 0 (rescaled_sixes s
+            (held_all_lem width self.entry.floats.now self.entry.words.now place_limit)) }
+    {
+        let mut at: usize = 0;
+        for i in 0..PLACES {
+            self.write_place(i, s, out, at);
+            at += 6 * self.pieces_at(i);
+        }
     }
 }

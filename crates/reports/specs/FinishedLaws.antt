@@ -1,13 +1,13 @@
 -- The report of what is finished, as its code works it. Assumes nothing.
-use Rattle.std.specs.Prelude.{◌≡◌, Bool, ◌&&◌, ℕ, zero, suc, ◌+◌, ◌-◌, ◌≤◌, ◌<◌, eqb, length, drop, Float}
+use Rattle.std.specs.Result.{result_and}
+use Rattle.std.specs.Prelude.{◌≡◌, Bool, ◌&&◌, ℕ, zero, suc, ◌+◌, ◌-◌, ◌≤◌, ◌<◌, eqb, length, drop, Float, Err}
 use Rattle.std.proofs.Math.Path.{refl, sym, ap}
 use Rattle.std.proofs.Common.{◌∙◌, arith}
 use Rattle.std.proofs.Math.Bool.{true, false, cond}
 use mathlib.Core.List.{List, []}
 use Rattle.std.proofs.Math.ListN.{take}
-use Rattle.base.specs.Answers.{Answer, refused, and_then, Outcome, outcome}
+use Rattle.base.specs.Answers.{Answer, refused, Outcome, outcome, passed}
 use Rattle.base.specs.declared.refusal.Refusal.{Refusal}
-use Rattle.base.specs.declared.refusal.Checked.TheVariants.{Passed, Failed}
 use Rattle.volume.specs.Volume.{body_volume}
 use Rattle.density.specs.declared.convention.Convention.{Convention}
 use Rattle.layout.specs.Layout.{width, place_limit, corners_from, verts_of, faces_of, status_of, finished_of, layer_of}
@@ -137,12 +137,12 @@ module _ (fs : List Float) (ws : List ℕ) (layers : ℕ) where
       rw (d, e, filled_at_once width (omega arith) layers ws long, filled_seen width (omega arith) layers ws long) refl
 
   pub finished_refused : (v : Convention) (r : Refusal)
-      → and_then (store_check width fs ws) (layers_check layers) ≡ Failed r
+      → result_and (store_check width fs ws) (layers_check layers) ≡ Err r
       → refused r ≡ finished_step width fs ws layers v
   unfolding finished_step
   finished_refused v r h = rw h refl
 
-  pub finished_told : (v : Convention) → and_then (store_check width fs ws) (layers_check layers) ≡ Passed
+  pub finished_told : (v : Convention) → result_and (store_check width fs ws) (layers_check layers) ≡ passed
       → corners_from width ≤ length ws
       → (t : List ℕ) → t ≡ take (corners_from width) (showing width layers true ws)
       → (n : ℕ) → n ≡ passed_over_lem width layers ws

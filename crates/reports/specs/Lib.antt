@@ -1,5 +1,4 @@
 pub mod ReportAnswer
-pub mod ListAnswer
 pub mod FinishedAnswer
 pub mod FinishedLaws
 pub mod Partial

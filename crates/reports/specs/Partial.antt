@@ -1,6 +1,7 @@
 -- 02, L7: the report of what is finished "equals the ordinary report of a store holding just those places", "is never
 -- refused as unfinished", and is the ordinary report of its layers where nothing is left in them. Assumes nothing.
-use Rattle.std.specs.Prelude.{◌≡◌, Bool, List, ℕ, zero, suc, ◌*◌, ◌-◌, ◌≤◌, ◌<◌, ltb, length, Float}
+use Rattle.std.specs.Result.{result_and}
+use Rattle.std.specs.Prelude.{◌≡◌, Bool, List, ℕ, zero, suc, ◌*◌, ◌-◌, ◌≤◌, ◌<◌, ltb, length, Float, Err}
 use Rattle.std.proofs.Math.Path.{refl, sym}
 use Rattle.std.proofs.Common.{◌∙◌, suc-mul}
 use Rattle.std.proofs.Math.Bool.{true, false, cond}
@@ -9,9 +10,8 @@ use native.Mathlib.Omega.{arith}
 use Rattle.std.proofs.Math.Dec.{eqb}
 use borrow.Author.Tests.{eqb-true, eqb-false, lt-ltb}
 use Rattle.base.specs.Refusals.{number}
-use Rattle.base.specs.Answers.{granted, and_then}
+use Rattle.base.specs.Answers.{granted, passed}
 use Rattle.base.specs.declared.refusal.Refusal.TheVariants.{ShortStore, Unsound, NoLayer, Unfinished}
-use Rattle.base.specs.declared.refusal.Checked.TheVariants.{Passed, Failed}
 use Rattle.density.specs.declared.convention.Convention.{Convention}
 use Rattle.layout.specs.Layout.{place_limit, corners_from, faces_of, status_of, finished_of, done_of, layer_of}
 use Rattle.layout.specs.Soundness.{long_enough, sound, store_check}
@@ -64,11 +64,11 @@ module _ (q : ℕ) (three : 3 ≤ q) (fs : List Float) (ws : List ℕ) (layers :
   covered = complete_in q layers ws
 
   -- ---- what it covers is a sound store with nothing left
-  module _ (ok : store_check q fs ws ≡ Passed) where
+  module _ (ok : store_check q fs ws ≡ passed) where
     long : corners_from q ≤ length ws
     long = (fine q fs ws ok).places.long
 
-    covered-sound : store_check q fs covered ≡ Passed
+    covered-sound : store_check q fs covered ≡ passed
     unfolding complete_in in_layers
     covered-sound =
         hid-sound q three (complete_at q ws) fs seen (long-seen q three layers ws long)
@@ -149,8 +149,8 @@ module _ (q : ℕ) (three : 3 ≤ q) (fs : List Float) (ws : List ℕ) (layers :
   never_unfinished = go (long_enough q fs ws) (sound q ws) (ltb layers 65536)
     where
       go : (a b c : Bool)
-          → (granted (and_then (cond a (cond b Passed (Failed Unsound)) (Failed ShortStore))
-          (cond c Passed (Failed NoLayer)))
+          → (granted (result_and (cond a (cond b passed (Err Unsound)) (Err ShortStore))
+          (cond c passed (Err NoLayer)))
           (beside (passed_over_lem q layers ws) (answer_of (report v) (held_seen q fs covered)).reply)).refusal
           ≡ number Unfinished → ⊥
       go true true true e = omega arith

@@ -1,5 +1,5 @@
 -- The last line of `root`, on plain values: the pattern that it makes is that of the square root. Assumes nothing.
-use Rattle.std.proofs.Common.{◌≡◌, ℕ, suc, ◌+◌, ◌-◌, ◌*◌, ◌/◌, ◌%◌, ◌^◌, ◌<◌, ◌≤◌, false, T, sym, ap, ◌∙◌, subst, inl, inr, le_trans, le_of_eq, lt_of_lt_of_le, le_of_suc-le-suc, le_of_lt, lt_irrefl, mod-eq_of_lt, eq-zero-or-pos, mul-le-mul_left, mul-lt-mul_of_pos_right, mul-pos, mul-one, arith, lit<, pow_pos, pow_mono}
+use Rattle.std.proofs.Common.{◌≡◌, ℕ, suc, ◌+◌, ◌*◌, ◌/◌, ◌%◌, ◌^◌, ◌<◌, ◌≤◌, false, T, sym, ap, ◌∙◌, subst, inl, inr, le_trans, le_of_eq, lt_of_lt_of_le, le_of_suc-le-suc, le_of_lt, lt_irrefl, mod-eq_of_lt, eq-zero-or-pos, mul-le-mul_left, mul-lt-mul_of_pos_right, mul-pos, mul-one, arith, lit<, pow_pos, pow_mono}
 use lib.Bits.{bit_and, and_mask}
 use lib.Ieee.{Float, binary64, of_bits, to_bits, fits}
 use lib.Ieee.Bits.{of_bits-to_bits}

@@ -108,60 +108,28 @@ rounded-is d a q r h =
     last : q < 2 * a + 1 → 2 * a ≤ q + 1 → a ≡ q / 2 + q % 2
     last u v = omega arith
 
--- ---- the check. The guess g is cut in two; then d * 2 ^ 52, as the code works it out, less the square of the parts
-abbrev pub high_of : ℕ → ℕ
-high_of g = g / 67108864
+-- ---- the check. The guess g is cut in two; a is what the square of the upper part leaves of d, b what twice the product
+-- of the parts leaves of that, and u what the square of the lower part leaves of b and g - 1, each in its own units
+module _ (d g a b u : ℕ) (some : 0 < g)
+    (upper : (g / 67108864 * (g / 67108864) ≤ d) × (a ≡ d - g / 67108864 * (g / 67108864)))
+    (crossed : (2 * (g / 67108864 * bit_and g 67108863) ≤ a * 67108864) × (b ≡ a * 67108864 - 2 * (g / 67108864 * bit_and g 67108863)))
+    (lower : (bit_and g 67108863 * bit_and g 67108863 ≤ b * 67108864 + (g - 1)) × (u ≡ b * 67108864 + (g - 1) - bit_and g 67108863 * bit_and g 67108863)) where
+  residue : u + g * g + 1 ≡ d * 4503599627370496 + g
+  residue =
+      left_over (g / 67108864 * (g / 67108864)) (g / 67108864 * bit_and g 67108863) (bit_and g 67108863 * bit_and g 67108863)
+      (square_cut g) upper.0 upper.1 crossed.0 crossed.1 lower.0 lower.1
+    where
+      left_over : (hh x ll : ℕ) → g * g ≡ hh * 4503599627370496 + 2 * x * 67108864 + ll → hh ≤ d → a ≡ d - hh
+          → 2 * x ≤ a * 67108864 → b ≡ a * 67108864 - 2 * x → ll ≤ b * 67108864 + (g - 1)
+          → u ≡ b * 67108864 + (g - 1) - ll
+          → u + g * g + 1 ≡ d * 4503599627370496 + g
+      left_over hh x ll sq A A' B B' C C' = omega (arith, some)
 
-abbrev pub low_of : ℕ → ℕ
-low_of g = bit_and g 67108863
+  pub at_g : u < 2 * g → Rounded d g
+  at_g h = let r = residue in record { above = omega arith; below = omega arith }
 
--- what the upper part leaves of d, what the two together leave of that, and then g - 1 more
-abbrev pub raised_left : ℕ → ℕ → ℕ
-raised_left d g = (d - high_of g * high_of g) * 67108864
+  pub at_next : 2 * g ≤ u → u - 2 * g < 2 * g + 2 → Rounded d (g + 1)
+  at_next l h = let r = residue in let e = sq_suc g in record { above = omega arith; below = omega arith }
 
-abbrev pub cross_left : ℕ → ℕ → ℕ
-cross_left d g = raised_left d g - 2 * (high_of g * low_of g)
-
-abbrev pub last_left : ℕ → ℕ → ℕ
-last_left d g = cross_left d g * 67108864 + (g - 1)
-
--- what is left over in the end, u in the code
-abbrev pub over : ℕ → ℕ → ℕ
-over d g = last_left d g - low_of g * low_of g
-
--- a guess that passed the guards: nothing was taken from less
-pub record Guarded (d g : ℕ) : Type 0 where
-  pub some : 0 < g
-  pub upper : high_of g * high_of g ≤ d
-  pub crossed : 2 * (high_of g * low_of g) ≤ raised_left d g
-  pub lower : low_of g * low_of g ≤ last_left d g
-
-residue : {d g : ℕ} → Guarded d g → over d g + g * g + 1 ≡ d * 4503599627370496 + g
-residue {d} {g} k =
-    left_over d g (high_of g * high_of g) (high_of g * low_of g) (low_of g * low_of g) (square_cut g) k.some k.upper
-    k.crossed k.lower
-  where
-    left_over : (d g hh x ll : ℕ) → g * g ≡ hh * 4503599627370496 + 2 * x * 67108864 + ll → 0 < g → hh ≤ d
-        → 2 * x ≤ (d - hh) * 67108864 → ll ≤ ((d - hh) * 67108864 - 2 * x) * 67108864 + (g - 1)
-        → ((d - hh) * 67108864 - 2 * x) * 67108864 + (g - 1) - ll + g * g + 1 ≡ d * 4503599627370496 + g
-    left_over d g hh x ll sq G A B C = omega arith
-
-pub at_g : {d g : ℕ} → Guarded d g → over d g < 2 * g → Rounded d g
-at_g {d} {g} k h = here (over d g) h (residue k)
-  where
-    here : (u : ℕ) → u < 2 * g → u + g * g + 1 ≡ d * 4503599627370496 + g → Rounded d g
-    here u h r = record { above = omega arith; below = omega arith }
-
-pub at_next : {d g : ℕ} → Guarded d g → 2 * g ≤ over d g → over d g - 2 * g < 2 * g + 2 → Rounded d (g + 1)
-at_next {d} {g} k l h = here (over d g) l h (residue k)
-  where
-    here : (u : ℕ) → 2 * g ≤ u → u - 2 * g < 2 * g + 2 → u + g * g + 1 ≡ d * 4503599627370496 + g → Rounded d (g + 1)
-    here u l h r = let e = sq_suc g in record { above = omega arith; below = omega arith }
-
-pub at_third : {d g : ℕ} → Guarded d g → 2 * g ≤ over d g → 2 * g + 2 ≤ over d g - 2 * g
-    → over d g - 2 * g < 2 * (2 * g) + 6 → Rounded d (g + 2)
-at_third {d} {g} k l m h = here (over d g) l m h (residue k)
-  where
-    here : (u : ℕ) → 2 * g ≤ u → 2 * g + 2 ≤ u - 2 * g → u - 2 * g < 2 * (2 * g) + 6
-        → u + g * g + 1 ≡ d * 4503599627370496 + g → Rounded d (g + 2)
-    here u l m h r = let e = sq_two g in record { above = omega arith; below = omega arith }
+  pub at_third : 2 * g ≤ u → 2 * g + 2 ≤ u - 2 * g → u - 2 * g < 2 * (2 * g) + 6 → Rounded d (g + 2)
+  at_third l m h = let r = residue in let e = sq_two g in record { above = omega arith; below = omega arith }

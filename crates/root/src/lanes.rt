@@ -4,9 +4,10 @@
 // Each of three loops does one step of all lanes, which is faster than one loop with the three steps:
 //   p = near(x[i]); f[i] = p.part; y[i] = p.near;      or y[i] = near_unit(f[i]), near_one
 //   y[i] = sharpen(f[i], y[i], ..);
-//   p = any_lane(x[i], y[i]);           or unit_lane of f[i]; p.root is used, p.coarse and p.far are each or-ed into a
-// word If these words are small enough every p.root is the root, whatever the guesses were; else the lanes are
-// to be done anew by `root::root`. Nothing is promised of a guess, so nothing is owed of one.
+//   p = any_lane(x[i], y[i]);           or unit_lane of f[i]
+// p.root is used, and p.coarse and p.far are each or-ed into a word. If these words are small enough every p.root is
+// the root, whatever the guesses were; else the lanes are to be done anew by `root::root`. Nothing is promised of a
+// guess, so nothing is owed of one.
 ghost use Rattle.std.specs.Prelude.{◌≡◌, ◌+◌, ◌-◌, ◌*◌, ◌%◌, ◌^◌, ◌<◌, ◌≤◌, true, not, T, ◌⊎◌, is_nan, to_bits};
 ghost use Rattle.std.specs.Float.{binary64};
 ghost use Rattle.std.specs.Float.Ieee.{lt};
@@ -39,7 +40,8 @@ struct Checked {
     short: u64,
 }
 
-// The greater of x and the least; the least for a NaN.
+// The greater of x and the least; the least for a NaN. The library's `max` makes a second test, of the argument, in
+// each lane.
 fn at_least(least: f64, x: f64) -> f64
     requires { T (not (is_nan least)) }
     ensures { T (not (is_nan result)) × ((result ≡ least) ⊎ ((lt least x ≡ true) × (result ≡ x))) }
@@ -140,7 +142,8 @@ pub fn unit_lane(f: f64, s: f64) -> Lane
     }
 }
 
-// The pattern of b's significand, as a float from 1 up to 4 with the parity of b's exponent.
+// The pattern of b's significand, as a float from 1 up to 4 with the parity of b's exponent. (A bare word: what four
+// functions ask of it is one bound, which a type of its own would repeat.)
 pub fn part(b: u64) -> u64
     ensures { result < 5000000000000000000 }
 {

@@ -2,7 +2,7 @@
 // proved about, and a proved check in whole numbers; where the check fails, digit by digit.
 #![tactic(auto)]
 
-ghost use Rattle.std.specs.Prelude.{◌≡◌, ◌+◌, ◌*◌, ◌^◌, ◌<◌, ◌≤◌, ◌⊎◌};
+ghost use Rattle.std.specs.Prelude.{◌≡◌, ◌+◌, ◌*◌, ◌^◌, ◌<◌, ◌≤◌, IfSome};
 ghost use Rattle.std.specs.Float.{binary64};
 ghost use Rattle.base.specs.Split.{Scaled, units_at};
 ghost use Rattle.root.specs.Root.{square_root, Floor, Rounded};
@@ -19,7 +19,7 @@ struct Whole {
     rest: u64,
 }
 
-// The whole root of d * 2^54, a binary digit at a time, and the rest.
+// The whole root of d * 2^54, a binary digit at a time, and the rest. (The turn's number is what its invariant counts by.)
 fn whole_root(d: u64) -> Whole
     requires { d < 2 ^ 54 }
     ensures { Floor (d * 2 ^ 54) result.root result.rest }
@@ -27,8 +27,7 @@ fn whole_root(d: u64) -> Whole
     let mut left = d << 10;
     let mut root = 0u64;
     let mut rest = 0u64;
-    let mut i = 0u64;
-    while i < 54 {
+    for i in 0..54u64 {
         let brought = rest * 4 + (left >> 62);
         left = left << 2;
         let trial = root * 4 + 1;
@@ -39,7 +38,6 @@ fn whole_root(d: u64) -> Whole
             rest = brought;
             root = root * 2;
         }
-        i += 1;
     }
     Whole { root, rest }
 }
@@ -92,45 +90,31 @@ fn guess(bits: u64) -> u64
     ((f64::to_bits(s) & 0xF_FFFF_FFFF_FFFF) | 0x10_0000_0000_0000) - 1
 }
 
-// Which of g, g + 1 and g + 2 is the root of d * 2^52, rounded; 0 if none.
-fn confirm(d: u64, g: u64) -> u64
+// Which of g, g + 1 and g + 2 is the root of d * 2^52, rounded; none where a difference is below 0 or too large.
+fn confirm(d: u64, g: u64) -> Option<u64>
     requires { (d < 2 ^ 54) × (0 < g) × (g < 2 ^ 53) }
-    ensures { (result ≡ 0) ⊎ Rounded d result }
+    ensures { IfSome result (Rounded d) }
 {
     let h = g >> 26;
     let l = g & 0x3FF_FFFF;
-    let hh = h * h;
-    if d < hh {
-        return 0;
-    }
-    let a = d - hh;
+    let a = d.checked_sub(h * h)?;
     if a >= 0x20_0000_0000 {
-        return 0;
+        return None;
     }
-    let raised = a * 0x400_0000;
-    let cross = 2 * (h * l);
-    if raised < cross {
-        return 0;
-    }
-    let b = raised - cross;
+    let b = (a * 0x400_0000).checked_sub(2 * (h * l))?;
     if b >= 0x20_0000_0000 {
-        return 0;
+        return None;
     }
-    let last = b * 0x400_0000 + (g - 1);
-    let ll = l * l;
-    if last < ll {
-        return 0;
-    }
-    let u = last - ll;
+    let u = (b * 0x400_0000 + (g - 1)).checked_sub(l * l)?;
     let step = 2 * g;
     if u < step {
-        return g;
+        return Some(g);
     }
     let v = u - step;
     if v < step + 2 {
-        return g + 1;
+        return Some(g + 1);
     }
-    if v < 2 * step + 6 { g + 2 } else { 0 }
+    if v < 2 * step + 6 { Some(g + 2) } else { None }
 }
 
 // The root of d * 2^52, rounded, where d is sig * 2^odd and `bits` the pattern to guess from.
@@ -139,11 +123,10 @@ fn nearest(sig: u64, odd: u64, bits: u64) -> u64
     ensures { Rounded (sig * 2 ^ odd) result }
 {
     let d = sig << odd;
-    let a = confirm(d, guess(bits));
-    if a == 0 {
-        return by_digits(d);
+    match confirm(d, guess(bits)) {
+        Some(root) => root,
+        None => by_digits(d),
     }
-    a
 }
 
 // A significand, its exponent, and the pattern that the guess starts from.
@@ -185,7 +168,7 @@ pub fn root(x: f64) -> f64
         return x;
     }
     if x < 0.0 {
-        return 0.0 / 0.0;
+        return f64::NAN;
     }
     let b = f64::to_bits(x);
     if b >= 0x7FF0_0000_0000_0000 {

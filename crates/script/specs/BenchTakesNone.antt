@@ -1,13 +1,12 @@
 -- 02, L10: "Lines carry (layer N) after alpha, and a put line lacking it means layer 0; the bench still takes none":
--- any text of a put with a layer is a bad line of the program. Assumes nothing.
-use Rattle.std.specs.Prelude.{◌≡◌, refl, List, [], ℕ}
+-- any text of a put with a layer is no line of the program. Assumes nothing.
+use Rattle.std.specs.Prelude.{◌≡◌, refl, List, [], ℕ, None}
 use Rattle.std.proofs.Common.{sym, ap, ◌∙◌, inl, inr}
 use Rattle.text.specs.Text.{Text, lost, left, Got, bytes, literal, strip, float, decimal}
 use Rattle.text.specs.Form.{Form, end, word, number, real, either, Vals, map, or_at, or, read, Spells, say, u32, followed}
 use Rattle.text.specs.FormLaws.{reads, read_lost, other_word}
 use Rattle.text.specs.Tokens.{literal-back, not_lost}
 use Rattle.forms.specs.Forms.{open_form, vert_form, face_form, put_start, put_end, put_form, clear_on, put_on, face_on, vert_on, line_form, to_line, if_ended, parse_line}
-use Rattle.forms.specs.declared.line.Line.TheVariants.{Bad}
 use Rattle.script.specs.Lines.{layer_end}
 
 -- a put's line with its layer
@@ -55,6 +54,6 @@ module _ (v : Vals layered) (l : List ℕ) (s : Spells layered v l []) where
       (neither put_form clear_on (left l) no-put (other_word (bytes "(put ") clear_on l m tt tt e))))
 
   -- "the bench still takes none"
-  pub bench_takes_none : parse_line l ≡ Bad
+  pub bench_takes_none : parse_line l ≡ None
   unfolding parse_line
   bench_takes_none = (λ i. if_ended (no_line i) (to_line (read line_form (left l)).val))

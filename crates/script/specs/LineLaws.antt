@@ -63,6 +63,15 @@ module _ (q : ℕ) (ws : List ℕ) (n i : ℕ) where
   unfolding face_rows
   faces_none h = printed-none face_line (face_at q ws) n i h
 
+  -- the bytes of the faces that are left
+  pub faces_left : i < n → length (face_rows q ws (n - i) i)
+      ≡ length (print face_line (face_at q ws i)) + length (face_rows q ws (n - (i + 1)) (i + 1))
+  faces_left h =
+      ap length (faces_more h) ∙ length-append (print face_line (face_at q ws i)) (face_rows q ws (n - (i + 1)) (i + 1))
+
+  pub no_faces_left : n ≤ i → length (face_rows q ws (n - i) i) ≡ 0
+  no_faces_left h = ap length (faces_none h)
+
 module _ (q : ℕ) (fs : List Float) (ws : List ℕ) (n i : ℕ) where
   pub puts_more : i < n → put_rows q fs ws (n - i) i ≡ put_row q fs ws i ++ put_rows q fs ws (n - (i + 1)) (i + 1)
   unfolding put_rows
@@ -71,6 +80,15 @@ module _ (q : ℕ) (fs : List Float) (ws : List ℕ) (n i : ℕ) where
   pub puts_none : n ≤ i → put_rows q fs ws (n - i) i ≡ []
   unfolding put_rows
   puts_none h = let e : n - i ≡ 0 = omega arith in rw e refl
+
+  -- the bytes of the places that are left
+  pub puts_left : i < n → length (put_rows q fs ws (n - i) i)
+      ≡ length (put_row q fs ws i) + length (put_rows q fs ws (n - (i + 1)) (i + 1))
+  puts_left h =
+      ap length (puts_more h) ∙ length-append (put_row q fs ws i) (put_rows q fs ws (n - (i + 1)) (i + 1))
+
+  pub no_puts_left : n ≤ i → length (put_rows q fs ws (n - i) i) ≡ 0
+  no_puts_left h = ap length (puts_none h)
 
 module _ (q : ℕ) (fs : List Float) (ws : List ℕ) (i : ℕ) where
   pub row_empty : status_of q ws i ≡ 0 → put_row q fs ws i ≡ []
@@ -90,9 +108,9 @@ verts_bytes fs (suc n) i =
     ∙ (let e = verts_bytes fs n (suc i) in let h = vert_bytes (vert_at fs i).0 (vert_at fs i).1.0
     (vert_at fs i).1.1.0 in omega arith)
 
-pub row-bytes : (q : ℕ) (fs : List Float) (ws : List ℕ) (i : ℕ) → (status_of q ws i ≡ 0 → ⊥)
+pub row_bytes : (q : ℕ) (fs : List Float) (ws : List ℕ) (i : ℕ) → (status_of q ws i ≡ 0 → ⊥)
     → length (put_row q fs ws i) ≡ 142 + decimal_length i + decimal_length (layer_of q ws i)
-row-bytes q fs ws i h = ap length (row_filled q fs ws i h) ∙ put_bytes fs i (layer_of q ws i)
+row_bytes q fs ws i h = ap length (row_filled q fs ws i h) ∙ put_bytes fs i (layer_of q ws i)
 
 -- all lines
 pub lines_bytes : (q : ℕ) (fs : List Float) (ws : List ℕ) (v f : ℕ)

@@ -1,12 +1,11 @@
 -- 02, L10: "a writer from a store to bracket lines [..]: opening, vertices, faces, then puts by rising place, with kept
 -- weights". Definitions only.
-use Rattle.std.specs.Prelude.{ℕ, zero, suc, ◌+◌, ◌*◌, cond, List, [], ◌∷◌, ◌++◌, eqb, leb, length, get_or, Float}
+use Rattle.std.specs.Prelude.{ℕ, zero, suc, ◌+◌, ◌*◌, cond, List, [], ◌∷◌, ◌++◌, eqb, leb, length, get_or, Float, Err}
 use Rattle.std.proofs.Common.{inr}
 use Rattle.std.specs.Float.{nan}
-use Rattle.base.specs.Answers.{counted, Printout, printout, guarded_bytes}
+use Rattle.base.specs.Answers.{counted, Printout, printout, guarded_bytes, Checked, passed}
 use Rattle.base.specs.declared.refusal.Refusal.TheVariants.{ShortText}
-use Rattle.base.specs.declared.refusal.Checked.{Checked}
-use Rattle.base.specs.declared.refusal.Checked.TheVariants.{Passed, Failed}
+use Rattle.kernel.specs.declared.kernel.Kernel.{Kernel}
 use Rattle.layout.specs.Runs.{write}
 use Rattle.layout.specs.Layout.{place_limit, radius_of, kernel_from, coords_from, corners_from, verts_of, faces_of, status_of, layer_of}
 use Rattle.layout.specs.Soundness.{store_check}
@@ -39,15 +38,18 @@ put_in fs i layer =
     & inr (layer & tt) & tt
 
 -- the same of a kernel that is at hand
-abbrev pub put_of : ℕ → Float → Float → Float → Float → Float → Float → ℕ → Vals put_line
-put_of i x y z sigma w alpha layer = i & x & y & z & sigma & w & alpha & inr (layer & tt) & tt
+abbrev pub put_of : ℕ → Kernel → ℕ → Vals put_line
+put_of i k layer =
+    i & get_or k.c 0 nan & get_or k.c 1 nan & get_or k.c 2 nan & k.sigma & k.w & k.alpha & inr (layer & tt) & tt
 
 -- such a line's start: the place and the centre
-abbrev pub centre_text : ℕ → Float → Float → Float → List ℕ
-centre_text place x y z =
+abbrev pub centre_text : ℕ → List Float → List ℕ
+centre_text place c =
     bytes "(put "
     ++ (decimal_text place
-    ++ (bytes " (c " ++ (float_text x ++ (bytes " " ++ (float_text y ++ (bytes " " ++ float_text z))))))
+    ++ (bytes " (c "
+    ++ (float_text (get_or c 0 nan)
+    ++ (bytes " " ++ (float_text (get_or c 1 nan) ++ (bytes " " ++ float_text (get_or c 2 nan)))))))
 
 abbrev pub put_at : ℕ → List Float → List ℕ → ℕ → Vals put_line
 put_at q fs ws i = put_in fs i (layer_of q ws i)
@@ -80,7 +82,7 @@ written q fs ws = lines_of q fs ws (verts_of ws) (faces_of ws)
 
 -- "19 when the writer's lent bytes are too few"; both are counts of bytes
 abbrev pub text_check : ℕ → ℕ → Checked
-text_check need room = cond (leb need room) Passed (Failed ShortText)
+text_check need room = cond (leb need room) passed (Err ShortText)
 
 -- "It answers its byte count"; bytes past the text stay
 unfoldable pub text_answer : List ℕ → List ℕ → Printout

@@ -19,6 +19,7 @@ use text::write::decimal_length;
 const MOST_OF_PUTS: usize = 142 * 32 + 54 + 2 * 32;
 
 // The bytes of a face's line.
+#[tactic(auto, using(crate::specs::LineLaws::face_bytes))]
 fn face_length(a: u32, b: u32, c: u32) -> usize
     ensures { (result ≡ length (print face_line (a & b & c & tt))) × (result ≤ 70) }
 {
@@ -26,21 +27,21 @@ fn face_length(a: u32, b: u32, c: u32) -> usize
 }
 
 // The bytes of n faces' lines.
+#[tactic(auto, using(crate::specs::LineLaws::faces_left, crate::specs::LineLaws::no_faces_left))]
 fn faces_length(words: &[u32], n: usize) -> usize
     requires { (n ≤ 4294967295) × (corners_from width + 3 * n ≤ length words.now) }
     ensures { (result ≡ length (face_rows width words.now n 0)) × (result ≤ 70 * n) }
 {
     let mut sum: usize = 0;
-    let mut i: usize = 0;
-    while i < n {
+    for i in 0..n {
         let j = CORNERS + 3 * i;
         sum += face_length(words[j], words[j + 1], words[j + 2]);
-        i += 1;
     }
     sum
 }
 
 // The bytes of a place's line.
+#[tactic(auto, using(crate::specs::LineLaws::row_empty, crate::specs::LineLaws::row_bytes))]
 fn row_length(words: &[u32], i: usize) -> usize
     requires { (i < place_limit) × (corners_from width ≤ length words.now) }
     ensures upper_bound { result ≤ 182 }
@@ -53,16 +54,15 @@ fn row_length(words: &[u32], i: usize) -> usize
 }
 
 // The bytes of all places' lines.
+#[tactic(auto, using(crate::specs::LineLaws::puts_left, crate::specs::LineLaws::no_puts_left))]
 fn puts_length(words: &[u32]) -> usize
     requires { corners_from width ≤ length words.now }
     ensures upper_bound { result ≤ 5824 }
     ensures value { (fs : List Float) → result ≡ length (put_rows width fs words.now place_limit 0) }
 {
     let mut sum: usize = 0;
-    let mut i: usize = 0;
-    while i < PLACES {
+    for i in 0..PLACES {
         sum += row_length(words, i);
-        i += 1;
     }
     sum
 }
@@ -76,6 +76,7 @@ fn head_length(verts: u32, faces: u32) -> usize
 }
 
 // The bytes of all lines.
+#[tactic(auto, using(crate::specs::LineLaws::lines_bytes))]
 fn lines_length(words: &[u32], verts: u32, faces: u32) -> usize
     requires { (verts ≤ vertex_limit) × (faces ≤ face_limit) × (corners_from width + 3 * faces ≤ length words.now) }
     ensures { (fs : List Float) → result ≡ length (lines_of width fs words.now verts faces) }
@@ -87,10 +88,7 @@ fn lines_length(words: &[u32], verts: u32, faces: u32) -> usize
 fn corner_length(verts: u32) -> usize
     ensures { (result ≡ decimal_length (verts - 1)) × (result ≤ 20) }
 {
-    if verts == 0 {
-        return 1;
-    }
-    decimal_length((verts - 1) as u64)
+    decimal_length(verts.saturating_sub(1) as u64)
 }
 
 // The most bytes that the lines of a sound store of so many vertices and faces take.
@@ -104,13 +102,11 @@ fn most_bytes(verts: u32, faces: u32) -> usize
 
 // Whether so many bytes are enough for the lines of the sound store that has these words. Where they are enough for any
 // store of as many vertices and faces, the length of its lines is not worked out.
+#[tactic(auto, using(crate::specs::MostBytes::lines_most))]
 pub fn has_room(words: &[u32], room: usize) -> bool
     requires { (fs : List Float) × Fine width fs words.now }
     ensures { (fs : List Float) → Fine width fs words.now
         → result ≡ leb (length (written width fs words.now)) room }
 {
-    if most_bytes(words[0], words[1]) <= room {
-        return true;
-    }
-    lines_length(words, words[0], words[1]) <= room
+    most_bytes(words[0], words[1]) <= room || lines_length(words, words[0], words[1]) <= room
 }

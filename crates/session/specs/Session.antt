@@ -1,5 +1,5 @@
 -- 01, "Remainder", program `bench`: what it prints for a line, and what it holds afterwards. Definitions only.
-use Rattle.std.specs.Prelude.{ℕ, ◌+◌, ◌*◌, ◌≤◌, ◌≡◌, Bool, cond, ◌&&◌, ◌||◌, List, [], ◌∷◌, leb, ltb, take, Float}
+use Rattle.std.specs.Prelude.{ℕ, ◌+◌, ◌*◌, ◌≤◌, ◌≡◌, Bool, cond, ◌&&◌, ◌||◌, List, [], ◌∷◌, leb, ltb, take, Float, Option, Some, None}
 use Rattle.std.proofs.lemmas.List.Edits.{sets}
 use Rattle.base.specs.Floats.{+0}
 use Rattle.layout.specs.Layout.{width}
@@ -7,8 +7,9 @@ use Rattle.layout.specs.After.{After}
 use Rattle.store.specs.Calls.{open_step}
 use Rattle.text.specs.Print.{Wrote}
 use Rattle.forms.specs.declared.line.Call.{Call}
+use Rattle.forms.specs.declared.line.Head.{Head}
 use Rattle.forms.specs.declared.line.Line.{Line}
-use Rattle.forms.specs.declared.line.Line.TheVariants.{Bad, Open, Vert, Face, OnStore}
+use Rattle.forms.specs.declared.line.Line.TheVariants.{Open, Vert, Face, OnStore}
 use Rattle.calls.specs.Texts.{open_text}
 use Rattle.calls.specs.Calls.{bad_text, call_of}
 use Rattle.session.specs.declared.opening.Opening.{Opening}
@@ -20,35 +21,31 @@ vert_bound = 500
 abbrev pub face_bound : ℕ
 face_bound = 1000
 
--- ---- an opening under way: its radius and counts, and how many of its vert and face lines were read
+-- ---- an opening under way: its first line, and how many of its vert and face lines were read
 
 -- "The vert lines, then the face lines"
 abbrev pub verts_due : Opening → Bool
-verts_due o = ltb o.verts_read o.verts
+verts_due o = ltb o.verts_read o.head.verts
 
 abbrev pub due : Opening → Bool
-due o = verts_due o || ltb o.faces_read o.faces
+due o = verts_due o || ltb o.faces_read o.head.faces
 
-abbrev pub begun : Float → ℕ → ℕ → Opening
-begun radius verts faces = record { radius = radius; verts = verts; faces = faces; verts_read = 0; faces_read = 0 }
+abbrev pub begun : Head → Opening
+begun head = record { head = head; verts_read = 0; faces_read = 0 }
 
 -- no line of it is due: none is under way
 abbrev pub idle : Opening
-idle = begun +0 0 0
+idle = begun (record { radius = +0; verts = 0; faces = 0 })
 
 abbrev pub vert_read : Opening → Opening
-vert_read o =
-    let n = o.verts_read + 1 in
-    record { radius = o.radius; verts = o.verts; faces = o.faces; verts_read = n; faces_read = o.faces_read }
+vert_read o = record { head = o.head; verts_read = o.verts_read + 1; faces_read = o.faces_read }
 
 abbrev pub face_read : Opening → Opening
-face_read o =
-    let n = o.faces_read + 1 in
-    record { radius = o.radius; verts = o.verts; faces = o.faces; verts_read = o.verts_read; faces_read = n }
+face_read o = record { head = o.head; verts_read = o.verts_read; faces_read = o.faces_read + 1 }
 
 -- its counts are the program's
 abbrev pub Small : Opening → Type 0
-Small o = (o.verts ≤ vert_bound) × (o.faces ≤ face_bound)
+Small o = (o.head.verts ≤ vert_bound) × (o.head.faces ≤ face_bound)
 
 -- ---- what the program holds between two lines: an opening under way, the store's runs, and the mesh that is read
 pub record Session : Type 0 where
@@ -81,8 +78,8 @@ given_up s = said (session idle s.floats s.words s.coords s.corners) bad_text
 -- the opening so far: once no line of it is due, the store is opened with its mesh
 abbrev pub opens : Session → Opening → After
 opens s o =
-    open_step width s.floats s.words o.radius
-    (take (3 * o.verts) s.coords) (take (3 * o.faces) s.corners)
+    open_step width s.floats s.words o.head.radius
+    (take (3 * o.head.verts) s.coords) (take (3 * o.head.faces) s.corners)
 
 unfoldable pub settled : Session → Said
 settled s =
@@ -91,22 +88,21 @@ settled s =
     cond (due o) (said s []) (said (session o a.floats a.words s.coords s.corners) (open_text a.reply))
 
 -- the next vertex and the next face
-abbrev pub with_vert : Session → Float → Float → Float → Session
-with_vert s x y z =
+abbrev pub with_vert : Session → List Float → Session
+with_vert s p =
     let o = s.opening in
-    session (vert_read o) s.floats s.words (sets s.coords (3 * o.verts_read) (x ∷ y ∷ z ∷ [])) s.corners
+    session (vert_read o) s.floats s.words (sets s.coords (3 * o.verts_read) p) s.corners
 
-abbrev pub with_face : Session → ℕ → ℕ → ℕ → Session
-with_face s a b c =
+abbrev pub with_face : Session → List ℕ → Session
+with_face s k =
     let o = s.opening in
-    session (face_read o) s.floats s.words s.coords (sets s.corners (3 * o.faces_read) (a ∷ b ∷ c ∷ []))
+    session (face_read o) s.floats s.words s.coords (sets s.corners (3 * o.faces_read) k)
 
 -- a line where one of an opening is due: "another line among them .. gives up that opening"
 unfoldable pub in_opening : Session → Line → Said
-in_opening s Bad = given_up s
-in_opening s (Open radius verts faces) = given_up s
-in_opening s (Vert x y z) = cond (verts_due s.opening) (settled (with_vert s x y z)) (given_up s)
-in_opening s (Face a b c) = cond (verts_due s.opening) (given_up s) (settled (with_face s a b c))
+in_opening s (Open head) = given_up s
+in_opening s (Vert p) = cond (verts_due s.opening) (settled (with_vert s p)) (given_up s)
+in_opening s (Face k) = cond (verts_due s.opening) (given_up s) (settled (with_face s k))
 in_opening s (OnStore c) = given_up s
 
 -- a call, the rest staying
@@ -117,15 +113,15 @@ on_store s c =
 
 -- any other line; "a count above the program's .. prints (no 13)"
 unfoldable pub outside : Session → Line → Said
-outside s Bad = said s bad_text
-outside s (Open radius verts faces) =
-    cond (leb verts vert_bound && leb faces face_bound)
-    (settled (session (begun radius verts faces) s.floats s.words s.coords s.corners))
+outside s (Open head) =
+    cond (leb head.verts vert_bound && leb head.faces face_bound)
+    (settled (session (begun head) s.floats s.words s.coords s.corners))
     (said s bad_text)
-outside s (Vert x y z) = said s bad_text
-outside s (Face a b c) = said s bad_text
+outside s (Vert p) = said s bad_text
+outside s (Face k) = said s bad_text
 outside s (OnStore c) = on_store s c
 
--- what the program does with a line
-unfoldable pub respond : Session → Line → Said
-respond s l = cond (due s.opening) (in_opening s l) (outside s l)
+-- what the program does with a line, or with one of no form
+unfoldable pub respond : Session → Option Line → Said
+respond s None = cond (due s.opening) (given_up s) (said s bad_text)
+respond s (Some l) = cond (due s.opening) (in_opening s l) (outside s l)

@@ -1,6 +1,6 @@
 // What the program does with a line, which is taken apart once. These functions are internal: they are asked an opening
 // of no more vertices and faces than the program takes, and answer such a one.
-ghost use Rattle.std.specs.Prelude.{◌≡◌, true, ◌≤◌, length};
+ghost use Rattle.std.specs.Prelude.{◌≡◌, true, ◌≤◌};
 ghost use Rattle.text.specs.Print.{Wrote};
 ghost use Rattle.calls.specs.Calls.{bad_text};
 ghost use Rattle.forms.specs.declared.line.Line.TheVariants.{Vert, Face, Open, OnStore};
@@ -11,7 +11,7 @@ use crate::take::{add_face, add_vert};
 use base::refusal::Refusal;
 use calls::answer::{answer_no, answer_open};
 use calls::call::call;
-use forms::line::{Call, Line};
+use forms::line::{Call, Head, Line};
 
 // The opening under way after a line, and the length of what was written.
 #[derive(Clone, Copy)]
@@ -25,13 +25,12 @@ fn settle(
     o: Opening,
     floats: &mut [f64],
     words: &mut [u32],
-    coords: &[f64],
-    corners: &[u32],
+    coords: &[f64; 1500],
+    corners: &[u32; 3000],
     out: &mut [u8; 512],
 ) -> Said
-    requires small { Small o }
-    requires in_bounds { (1500 ≤ length coords.now) × (3000 ≤ length corners.now) }
-    ensures small_2 { Small result.opening × (result.wrote ≤ 256) }
+    requires { Small o }
+    ensures small_after { Small result.opening × (result.wrote ≤ 256) }
     ensures does { Does settled
         (session o floats.old words.old coords.now corners.now)
         (session result.opening floats.new words.new coords.now corners.now)
@@ -43,12 +42,12 @@ fn settle(
             wrote: 0,
         };
     }
-    let verts = 3 * o.verts as usize;
-    let faces = 3 * o.faces as usize;
+    let verts = 3 * o.head.verts as usize;
+    let faces = 3 * o.head.faces as usize;
     let wrote = answer_open(
         floats,
         words,
-        o.radius,
+        o.head.radius,
         &coords[..verts],
         &corners[..faces],
         out,
@@ -70,25 +69,22 @@ fn refuse(o: Opening, out: &mut [u8; 512]) -> Said
 // A vert line where a line of the opening is due.
 fn vert_line(
     o: Opening,
-    x: f64,
-    y: f64,
-    z: f64,
+    point: [f64; 3],
     floats: &mut [f64],
     words: &mut [u32],
     coords: &mut [f64; 1500],
-    corners: &[u32],
+    corners: &[u32; 3000],
     out: &mut [u8; 512],
 ) -> Said
-    requires fact_1 { Small o }
-    requires fact_2 { 3000 ≤ length corners.now }
-    ensures small { Small result.opening × (result.wrote ≤ 256) }
-    ensures does { Does (λ (s : Session). in_opening s (Vert x y z))
+    requires { Small o }
+    ensures small_after { Small result.opening × (result.wrote ≤ 256) }
+    ensures does { Does (λ (s : Session). in_opening s (Vert point))
         (session o floats.old words.old coords.old corners.now)
         (session result.opening floats.new words.new coords.new corners.now)
         out.old result.wrote out.new }
 {
     if verts_due(o) {
-        let p = add_vert(o, x, y, z, coords);
+        let p = add_vert(o, point, coords);
         return settle(p, floats, words, coords, corners, out);
     }
     refuse(idle(), out)
@@ -97,20 +93,17 @@ fn vert_line(
 // A face line where a line of the opening is due.
 fn face_line(
     o: Opening,
-    a: u32,
-    b: u32,
-    c: u32,
+    face: [u32; 3],
     floats: &mut [f64],
     words: &mut [u32],
-    coords: &[f64],
+    coords: &[f64; 1500],
     corners: &mut [u32; 3000],
     out: &mut [u8; 512],
 ) -> Said
-    requires fact_1 { Small o }
-    requires fact_2 { due o ≡ true }
-    requires fact_3 { 1500 ≤ length coords.now }
-    ensures small { Small result.opening × (result.wrote ≤ 256) }
-    ensures does { Does (λ (s : Session). in_opening s (Face a b c))
+    requires small { Small o }
+    requires due { due o ≡ true }
+    ensures small_after { Small result.opening × (result.wrote ≤ 256) }
+    ensures does { Does (λ (s : Session). in_opening s (Face face))
         (session o floats.old words.old coords.now corners.old)
         (session result.opening floats.new words.new coords.now corners.new)
         out.old result.wrote out.new }
@@ -118,7 +111,7 @@ fn face_line(
     if verts_due(o) {
         return refuse(idle(), out);
     }
-    let p = add_face(o, a, b, c, corners);
+    let p = add_face(o, face, corners);
     settle(p, floats, words, coords, corners, out)
 }
 
@@ -132,17 +125,17 @@ fn in_opening(
     corners: &mut [u32; 3000],
     out: &mut [u8; 512],
 ) -> Said
-    requires fact_1 { Small o }
-    requires fact_2 { due o ≡ true }
-    ensures small { Small result.opening × (result.wrote ≤ 256) }
+    requires small { Small o }
+    requires due { due o ≡ true }
+    ensures small_after { Small result.opening × (result.wrote ≤ 256) }
     ensures does { Does (λ (s : Session). in_opening s l)
         (session o floats.old words.old coords.old corners.old)
         (session result.opening floats.new words.new coords.new corners.new)
         out.old result.wrote out.new }
 {
     match l {
-        Line::Vert(x, y, z) => vert_line(o, x, y, z, floats, words, coords, corners, out),
-        Line::Face(a, b, c) => face_line(o, a, b, c, floats, words, coords, corners, out),
+        Line::Vert(point) => vert_line(o, point, floats, words, coords, corners, out),
+        Line::Face(face) => face_line(o, face, floats, words, coords, corners, out),
         _ => refuse(idle(), out),
     }
 }
@@ -150,26 +143,23 @@ fn in_opening(
 // An open line where none is due.
 fn open_line(
     o: Opening,
-    radius: f64,
-    verts: u32,
-    faces: u32,
+    head: Head,
     floats: &mut [f64],
     words: &mut [u32],
-    coords: &[f64],
-    corners: &[u32],
+    coords: &[f64; 1500],
+    corners: &[u32; 3000],
     out: &mut [u8; 512],
 ) -> Said
-    requires small { Small o }
-    requires in_bounds { (1500 ≤ length coords.now) × (3000 ≤ length corners.now) }
-    ensures small_2 { Small result.opening × (result.wrote ≤ 256) }
-    ensures does { Does (λ (s : Session). outside s (Open radius verts faces))
+    requires { Small o }
+    ensures small_after { Small result.opening × (result.wrote ≤ 256) }
+    ensures does { Does (λ (s : Session). outside s (Open head))
         (session o floats.old words.old coords.now corners.now)
         (session result.opening floats.new words.new coords.now corners.now)
         out.old result.wrote out.new }
 {
-    let taken = (verts <= 500) & (faces <= 1000);
+    let taken = (head.verts <= 500) & (head.faces <= 1000);
     if taken {
-        let p = begun(radius, verts, faces);
+        let p = begun(head);
         return settle(p, floats, words, coords, corners, out);
     }
     refuse(o, out)
@@ -181,12 +171,12 @@ fn call_line(
     c: Call,
     floats: &mut [f64],
     words: &mut [u32],
-    coords: &[f64],
-    corners: &[u32],
+    coords: &[f64; 1500],
+    corners: &[u32; 3000],
     out: &mut [u8; 512],
 ) -> Said
     requires { Small o }
-    ensures small { Small result.opening × (result.wrote ≤ 256) }
+    ensures small_after { Small result.opening × (result.wrote ≤ 256) }
     ensures does { Does (λ (s : Session). outside s (OnStore c))
         (session o floats.old words.old coords.now corners.now)
         (session result.opening floats.new words.new coords.now corners.now)
@@ -204,33 +194,28 @@ fn outside(
     l: Line,
     floats: &mut [f64],
     words: &mut [u32],
-    coords: &[f64],
-    corners: &[u32],
+    coords: &[f64; 1500],
+    corners: &[u32; 3000],
     out: &mut [u8; 512],
 ) -> Said
-    requires small { Small o }
-    requires in_bounds { (1500 ≤ length coords.now) × (3000 ≤ length corners.now) }
-    ensures small_2 { Small result.opening × (result.wrote ≤ 256) }
+    requires { Small o }
+    ensures small_after { Small result.opening × (result.wrote ≤ 256) }
     ensures does { Does (λ (s : Session). outside s l)
         (session o floats.old words.old coords.now corners.now)
         (session result.opening floats.new words.new coords.now corners.now)
         out.old result.wrote out.new }
 {
     match l {
-        Line::Open {
-            radius,
-            verts,
-            faces,
-        } => open_line(o, radius, verts, faces, floats, words, coords, corners, out),
+        Line::Open(head) => open_line(o, head, floats, words, coords, corners, out),
         Line::OnStore(c) => call_line(o, c, floats, words, coords, corners, out),
         _ => refuse(o, out),
     }
 }
 
-// Any line.
+// Any line, or one that is none.
 pub fn respond(
     o: Opening,
-    l: Line,
+    l: Option<Line>,
     floats: &mut [f64],
     words: &mut [u32],
     coords: &mut [f64; 1500],
@@ -238,14 +223,17 @@ pub fn respond(
     out: &mut [u8; 512],
 ) -> Said
     requires { Small o }
-    ensures small { Small result.opening × (result.wrote ≤ 256) }
+    ensures small_after { Small result.opening × (result.wrote ≤ 256) }
     ensures does { Does (λ (s : Session). respond s l)
         (session o floats.old words.old coords.old corners.old)
         (session result.opening floats.new words.new coords.new corners.new)
         out.old result.wrote out.new }
 {
-    if due(o) {
-        return in_opening(o, l, floats, words, coords, corners, out);
+    let is_due = due(o);
+    match l {
+        Some(line) if is_due => in_opening(o, line, floats, words, coords, corners, out),
+        Some(line) => outside(o, line, floats, words, coords, corners, out),
+        None if is_due => refuse(idle(), out),
+        None => refuse(o, out),
     }
-    outside(o, l, floats, words, coords, corners, out)
 }

@@ -1,14 +1,12 @@
--- Laws of the elimination: the pivot's row, a flat pivot that ends it, a column that passes. Assumes nothing.
+-- Laws of the elimination: the pivot's row, and a flat pivot that ends it. Assumes nothing.
 use mathlib.Core.Path.{◌≡◌, refl, sym, ◌∙◌}
-use mathlib.Core.Bool.{true, false}
 use Prim.Native.Nat.{ℕ, zero, suc, ◌+◌, ◌-◌, ◌<◌}
-use lib.Ieee.{Float, lt, le}
+use lib.Ieee.{Float, lt}
 use Rattle.base.specs.ChoiceLaws.{cond_of}
-use Rattle.base.specs.Constants.{flat_limit}
 use Rattle.base.specs.Loops.{times}
-use Rattle.base.specs.LoopLaws.{Left, turn}
+use Rattle.base.specs.LoopLaws.{Left, turn, begins, goes, ended}
 use Rattle.solve.specs.declared.eliminate.Pivot.{Pivot}
-use Rattle.solve.specs.Elimination.{Matrix, better, pivot_of, exchanged, scaled, swept, Ended, reduced, flat, smaller, column_at}
+use Rattle.solve.specs.Elimination.{better, Ended, flat, column_at}
 
 -- the better of two candidates has one of the two rows
 pub better-below : (p : Pivot) (row : ℕ) (v : Float) {n : ℕ} → p.row < n → row < n → (better p row v).row < n
@@ -22,17 +20,8 @@ stays n zero i c = refl
 stays n (suc k) i c = stays n k (suc i) c
 
 -- a flat pivot ends the elimination
-pub stops : {n col : ℕ} {s : Float} {m : Matrix} {w : Ended} → Left (column_at n) n col (reduced s m) w → col < n
-    → le (pivot_of n col m).value flat_limit ≡ true → flat col ≡ w
-unfolding column_at
-stops {n} {col} {s} {m} {w} l h e =
-    let f : column_at n col (reduced s m) ≡ flat col = simp e in
-    sym (stays n (n - (col + 1)) (col + 1) col) ∙ (rw f at (turn l h).same)
+pub stops : {n col c : ℕ} {e w : Ended} → Left (column_at n) n col e w → col < n → flat c ≡ column_at n col e → flat c ≡ w
+stops {n} {col} {c} {e} {w} l h f = sym (stays n (n - (col + 1)) (col + 1) c) ∙ (rw (← f) at (turn l h).same)
 
--- a column whose pivot is not flat, step by step
-pub passes : (n col : ℕ) (s s₁ : Float) (m m₁ m₂ m₃ : Matrix) (p : Pivot) → p ≡ pivot_of n col m
-    → le p.value flat_limit ≡ false
-    → m₁ ≡ exchanged col p.row m → m₂ ≡ scaled n col m₁ → m₃ ≡ swept n col m₂ → s₁ ≡ smaller s p.value
-    → reduced s₁ m₃ ≡ column_at n col (reduced s m)
-unfolding column_at
-passes n col s s₁ m m₁ m₂ m₃ p b e h₁ h₂ h₃ h₄ = simp (sym b, e, h₄, h₃, h₂, h₁)
+-- for `search`
+pub ruleset pivots = (begins, goes, ended, better-below)

@@ -1,14 +1,13 @@
 -- 01, "Solve": the choice of pivot and the elimination, on a matrix that is a list of rows; 02, L4: what it tells of
 -- its pivots. Definitions only.
-use Rattle.std.specs.Prelude.{ℕ, ◌+◌, ◌-◌, false, cond, ◌||◌, List, [], eqb, get_or, set, Float}
+use Rattle.std.specs.Prelude.{ℕ, ◌+◌, ◌-◌, false, cond, ◌||◌, List, [], eqb, get_or, set, Float, Result, Ok, Err}
 use Rattle.std.specs.Float.{nan, inf}
 use Rattle.std.specs.Float.Ieee.{lt, le, ne}
 use Rattle.base.specs.Floats.{◌⊖◌, ◌⊗◌, ◌⊘◌, abs}
 use Rattle.base.specs.Constants.{flat_limit, skip_limit}
 use Rattle.base.specs.Loops.{times}
 use Rattle.solve.specs.declared.eliminate.Pivot.{Pivot}
-use Rattle.solve.specs.declared.eliminate.Elimination.{Elimination}
-use Rattle.solve.specs.declared.eliminate.Elimination.TheVariants.{Reduced, Flat}
+use Rattle.solve.specs.declared.eliminate.FlatPivot.{FlatPivot}
 
 abbrev pub Matrix : Type 0
 Matrix = List (List Float)
@@ -96,6 +95,6 @@ unfoldable pub eliminated : ℕ → Matrix → Ended
 eliminated n m = times (column_at n) n 0 (reduced no_pivot m)
 
 -- what the answer of `eliminate` says, with the matrix beside it
-abbrev pub ended_as : Elimination → Matrix → Ended
-ended_as (Reduced s) m = reduced s m
-ended_as (Flat c) m = flat c
+abbrev pub ended_as : Result Float FlatPivot → Matrix → Ended
+ended_as (Ok s) m = reduced s m
+ended_as (Err p) m = flat p.column

@@ -1,6 +1,6 @@
 -- 01, "Solve (`solve_linear_system`)": the runs, the refusals and the answer, with the pivot and the column of 02's L4.
 -- Definitions only.
-use Rattle.std.specs.Prelude.{ℕ, ◌+◌, ◌*◌, Bool, cond, not, ◌||◌, List, [], ◌∷◌, eqb, ltb, get_or, set, length, replicate, Float}
+use Rattle.std.specs.Prelude.{ℕ, ◌+◌, ◌*◌, Bool, cond, not, ◌||◌, List, [], ◌∷◌, eqb, ltb, get_or, set, length, replicate, Float, Result, Ok, Err}
 use Rattle.std.specs.Float.{nan}
 use Rattle.base.specs.Floats.{+0}
 use Rattle.base.specs.Loops.{times, table}
@@ -8,8 +8,8 @@ use Rattle.base.specs.Answers.{Answer, accepted, refused, Outcome, outcome}
 use Rattle.base.specs.Refusals.{number}
 use Rattle.base.specs.declared.refusal.Refusal.TheVariants.{BadMatrix, FlatPivot}
 use Rattle.solve.specs.Elimination.{Matrix, cell, Ended, reduced, flat, eliminated}
-use Rattle.solve.specs.declared.Solve.{Solve}
-use Rattle.solve.specs.declared.Solve.TheVariants.{Solved, Flat, Refused}
+use Rattle.solve.specs.declared.Unsolved.{Unsolved}
+use Rattle.solve.specs.declared.Unsolved.TheVariants.{Flat, Refused}
 
 -- ---- the runs
 
@@ -59,7 +59,7 @@ solution n cells xs =
     cond (bad_matrix n cells xs) (outcome (refused BadMatrix) xs) (concluded n xs (eliminated n (loaded n cells blank)))
 
 -- 01's number for each case of the code's answer
-abbrev pub solved_as : Solve → Answer
-solved_as (Solved s) = accepted (s ∷ [])
-solved_as (Flat c) = flat_at c
-solved_as (Refused r) = refused r
+abbrev pub solved_as : Result Float Unsolved → Answer
+solved_as (Ok s) = accepted (s ∷ [])
+solved_as (Err (Flat p)) = flat_at p.column
+solved_as (Err (Refused r)) = refused r

@@ -1,32 +1,21 @@
 // The row and matrix operations of the elimination, on a 16 by 17 array whose first n rows and
-// n + 1 columns are in use.
+// n + 1 columns are in use. The matrix and n stay apart: a struct of both would owe in each clause that n stays, in
+// place of `n ≤ 16`, and the theorems speak of the whole array, so that the loops here go over the
+// rows and columns in use by their numbers.
 // Internal: a function with a `requires` is called by proved code alone.
 ghost use Rattle.std.specs.Prelude.{◌≡◌, ◌<◌, ◌≤◌};
-ghost use Rattle.solve.specs.Elimination.{exchanged, over, less, clear_at_lem, swept, scaled};
+ghost use Rattle.solve.specs.Elimination.{over, less, cleared, swept, scaled};
 
 use base::floats::abs;
 
-// Exchanges rows a and b.
-pub fn exchange(m: &mut [[f64; 17]; 16], a: usize, b: usize)
-    requires { (a < 16) × (b < 16) }
-    ensures { m.new ≡ exchanged a b m.old }
-{
-    let x = m[a];
-    let y = m[b];
-    m[a] = y;
-    m[b] = x;
-}
-
 // Divides a row from column col on.
+#[tactic(auto, using(crate::proofs::Turns::turns), unfolding(crate::specs::Elimination::over))]
 fn divide(row: &mut [f64; 17], n: usize, col: usize, divisor: f64)
     requires { (n ≤ 16) × (col ≤ n) }
     ensures { row.new ≡ over n col divisor row.old }
 {
-    let width = n + 1;
-    let mut j = col;
-    while j < width {
+    for j in col..n + 1 {
         row[j] /= divisor;
-        j += 1;
     }
 }
 
@@ -40,43 +29,39 @@ pub fn scale(m: &mut [[f64; 17]; 16], n: usize, col: usize)
 }
 
 // Subtracts factor times the pivot's row from a row, from column col on.
+#[tactic(auto, using(crate::proofs::Turns::turns), unfolding(crate::specs::Elimination::less))]
 fn subtract(row: &mut [f64; 17], pivot_row: &[f64; 17], n: usize, col: usize, factor: f64)
     requires { (n ≤ 16) × (col ≤ n) }
     ensures { row.new ≡ less n col pivot_row.now factor row.old }
 {
-    let width = n + 1;
-    let mut j = col;
-    while j < width {
+    for j in col..n + 1 {
         row[j] -= factor * pivot_row[j];
-        j += 1;
     }
 }
 
-// Clears column col of one row by the pivot's row, unless it is the pivot's own; a negligible factor
-// is skipped, its cell left.
-fn clear_row(m: &mut [[f64; 17]; 16], pivot_row: &[f64; 17], n: usize, col: usize, row: usize)
-    requires { (n ≤ 16) × (col < n) × (row < n) }
-    ensures { m.new ≡ clear_at_lem n col pivot_row.now row m.old }
+// Clears column col of a row by the pivot's row; a negligible factor is skipped, its cell left.
+#[tactic(auto, unfolding(crate::specs::Elimination::cleared))]
+fn clear_row(row: &mut [f64; 17], pivot_row: &[f64; 17], n: usize, col: usize)
+    requires { (n ≤ 16) × (col < n) }
+    ensures { row.new ≡ cleared n col pivot_row.now row.old }
 {
-    if row == col {
-        return;
-    }
-    let factor = m[row][col];
+    let factor = row[col];
     if abs(factor) <= 1e-30 {
         return;
     }
-    subtract(&mut m[row], pivot_row, n, col, factor);
+    subtract(row, pivot_row, n, col, factor);
 }
 
 // Clears column col of every row but row col, which is the pivot's.
+#[tactic(auto, using(crate::proofs::Turns::turns), unfolding(crate::specs::Elimination::swept))]
 pub fn sweep(m: &mut [[f64; 17]; 16], n: usize, col: usize)
     requires { (n ≤ 16) × (col < n) }
     ensures { m.new ≡ swept n col m.old }
 {
     let pivot_row = m[col];
-    let mut row = 0;
-    while row < n {
-        clear_row(m, &pivot_row, n, col, row);
-        row += 1;
+    for row in 0..n {
+        if row != col {
+            clear_row(&mut m[row], &pivot_row, n, col);
+        }
     }
 }

@@ -1,13 +1,12 @@
 -- What the call hands on, and that what comes back is `squeeze_step`. Assumes nothing.
 use mathlib.Core.Path.{◌≡◌, refl, ap, ◌∙◌}
 use mathlib.Core.List.{List, [], ◌∷◌, ◌++◌}
-use Prim.Native.Nat.{ℕ, ◌+◌, ◌*◌, ◌-◌, ◌≤◌, ◌<◌}
+use Prim.Native.Nat.{ℕ, ◌+◌, ◌*◌, ◌-◌, ◌≤◌}
 use native.Mathlib.Omega.{arith}
-use lib.ListN.{length, get_or, take, drop, set, length-map, length-append}
-use lib.Seq.{get_or-take, get_or-drop, length-take-le}
+use lib.ListN.{length, get_or, take, drop, set, length-map}
+use lib.Seq.{get_or-take, get_or-drop}
 use lib.Ieee.{Float}
-use Rattle.base.specs.Answers.{counted}
-use Rattle.base.specs.declared.refusal.Checked.TheVariants.{Passed}
+use Rattle.base.specs.Answers.{counted, passed}
 use Rattle.layout.specs.RunLaws.{length_part}
 use Rattle.layout.specs.Layout.{width, coords_from, corners_from, verts_of, faces_of}
 use Rattle.layout.specs.Soundness.{store_check}
@@ -18,10 +17,7 @@ use Rattle.squeeze.specs.Marks.{MeshOf}
 use Rattle.squeeze.specs.MarkLaws.{rank-le}
 use Rattle.squeeze.specs.SqueezeLaws.{squeezed-length, part-write}
 
-pub in_front : (n : ℕ) (l r : List ℕ) → 0 < n → n ≤ length l → 0 < length (take n l ++ r)
-in_front n l r h k = rw (length-append, length-take-le n l k) (omega arith)
-
-module _ (fs : List Float) (ws : List ℕ) (ok : store_check width fs ws ≡ Passed) where
+module _ (fs : List Float) (ws : List ℕ) (ok : store_check width fs ws ≡ passed) where
   abbrev vs : ℕ
   vs = verts_of ws
 
@@ -55,8 +51,8 @@ module _ (fs : List Float) (ws : List ℕ) (ok : store_check width fs ws ≡ Pas
         };
       }
 
-  pub few-kept : (k : ℕ) → k ≡ rank KS vs → (k ≤ vs) × (vs ≤ 1048576)
-  few-kept k e = (omega (arith, rank-le KS vs), (fine width fs ws ok).mesh.verts)
+  pub few_kept : (k : ℕ) → k ≡ rank KS vs → (k ≤ vs) × (vs ≤ 1048576)
+  few_kept k e = (omega (arith, rank-le KS vs), (fine width fs ws ok).mesh.verts)
 
   pub called : (k : ℕ) (ys : List Float) (ls : List ℕ) → k ≡ rank KS vs → ys ≡ squeezed KS XS vs → ls ≡ renumbered KS
       → after (counted (3 * (vs - k) ∷ []))
@@ -82,3 +78,6 @@ module _ (fs : List Float) (ws : List ℕ) (ok : store_check width fs ws ≡ Pas
         a,
         b,
       ) refl
+
+-- what the call needs
+pub ruleset all = (fine, mesh_held, few_kept, called)

@@ -1,5 +1,4 @@
 pub mod Squeeze
-pub mod SqueezeAnswer
 pub mod Marks
 pub mod MarkLaws
 pub mod SqueezeLaws

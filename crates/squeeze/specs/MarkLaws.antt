@@ -153,6 +153,9 @@ pub next_marked : (ks ms : List ℕ) (i k x : ℕ) → Marked (take i ks) ms →
 next_marked ks ms i k x m hi hk e d = rw (add-one, take-suc ks i 0 hi, ← e, d) (one_marked (take i ks) ms k m hk)
 
 -- ---- counts
+pub ones_bound : (x : ℕ) → x < 4294967296 → ones x ≤ 32
+ones_bound x h = ones-le 32 x h
+
 ones-cond : (t : Bool) → ones (cond t 1 0) ≡ cond t 1 0
 unfolding ones ones_in
 ones-cond true = refl
@@ -202,8 +205,8 @@ module _ (ks ms : List ℕ) (m : Marked ks ms) where
         let e : 32 * (k / 32) + k % 32 ≡ k = omega arith in
         rw before (sym (in-word (k / 32) (k % 32) (omega arith) (omega arith)) ∙ ap (rank ks) e)
 
-    pub number_small : (k < 1048576) × (get_or rs (k / 32) 0 ≤ 1048576)
-    number_small = (omega arith, omega (arith, before, rank-le ks (32 * (k / 32))))
+    pub number_small : (k < 1048576) × (k / 32 < n) × (get_or rs (k / 32) 0 ≤ 1048576)
+    number_small = (omega arith, omega arith, omega (arith, before, rank-le ks (32 * (k / 32))))
 
 -- ---- the loop that sums
 pub none_ranked : (ms rs : List ℕ) → Ranked ms rs 0
@@ -220,6 +223,11 @@ one_ranked ms rs j t r h e = record { at = at }
         go (yes q) = rw (q, get_or-set_same rs j t 0 h) e
         go (no q) = get_or-set_other rs j i t 0 q ∙ r.at i (omega arith)
 
-pub ones-next : (ms : List ℕ) (j t x : ℕ) → t ≡ ones_to ms j → x ≡ ones (get_or ms j 0) → t + x ≡ ones_to ms (j + 1)
+pub ones_next : (ms : List ℕ) (j t x : ℕ) → t ≡ ones_to ms j → x ≡ ones (get_or ms j 0) → t + x ≡ ones_to ms (j + 1)
 unfolding ones_to
-ones-next ms j t x e d = rw (add-one, e, d) refl
+ones_next ms j t x e d = rw (add-one, e, d) refl
+
+-- ---- what the functions need
+pub ruleset digits = (one_shifted, below_mask, pow_pos)
+
+pub ruleset ranks = (none_ranked, one_ranked, ones_next, ones_bound)

@@ -22,8 +22,8 @@ module _ {A : Type 0} (g : A → A) (d : A) where
     pub long : length r ≡ length l
     pub same : r ≡ map g (take i l) ++ drop i l
 
-  pub none-mapped : (l : List A) → Mapped l 0 l
-  none-mapped l = record { within = omega arith; long = refl; same = refl }
+  pub none_mapped : (l : List A) → Mapped l 0 l
+  none_mapped l = record { within = omega arith; long = refl; same = refl }
 
   module _ {l r : List A} {i : ℕ} (m : Mapped l i r) (h : i < length l) where
     front : length (map g (take i l)) ≡ i
@@ -66,12 +66,12 @@ module _ {ks ms rs r : List ℕ} {n i : ℕ} (m : Mapped (rank ks) 0 ks i r) (h 
   inside : i < length ks
   inside = omega (arith, m.long)
 
-  pub corner_small : (get_or r i 0 < 1048576) × (get_or rs (get_or r i 0 / 32) 0 ≤ 1048576)
+  pub corner_small : (get_or r i 0 < 1048576) × (get_or r i 0 / 32 < n) × (get_or rs (get_or r i 0 / 32) 0 ≤ 1048576)
   corner_small =
       rw (word_left (rank ks) 0 m inside) (number_small ks ms md rs n rd hn (get_or ks i 0) (b.corner i inside))
 
-  pub one-renumbered : (v : ℕ) → v ≡ number_of ms rs (get_or r i 0) → Mapped (rank ks) 0 ks (i + 1) (set r i v)
-  one-renumbered v e =
+  pub one_renumbered : (v : ℕ) → v ≡ number_of ms rs (get_or r i 0) → Mapped (rank ks) 0 ks (i + 1) (set r i v)
+  one_renumbered v e =
       one-mapped (rank ks) 0 m inside v
       (e ∙ ap (number_of ms rs) (word_left (rank ks) 0 m inside)
       ∙ number_is ks ms md rs n rd hn (get_or ks i 0) (b.corner i inside))

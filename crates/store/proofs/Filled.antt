@@ -1,31 +1,24 @@
 -- A place's floats and words written word by word. Assumes nothing.
+use Rattle.base.specs.Answers.{passed}
+use Rattle.std.specs.Result.{result_and}
 use mathlib.Core.Path.{◌≡◌, refl, sym, ap, ◌∙◌}
 use mathlib.Core.List.{List, [], ◌∷◌, ◌++◌}
 use Prim.Native.Nat.{ℕ, zero, suc, ◌+◌, ◌*◌, ◌≤◌, ◌<◌}
 use native.Mathlib.Nat.{add-zero, mul-le-mul}
-use native.Mathlib.Numerals.{add-one, add-two, add-three}
+use native.Mathlib.Numerals.{add-one}
 use native.Mathlib.Omega.{arith}
-use lib.Ieee.{Float, nan}
-use lib.ListN.{length, get_or, set, length-set}
+use lib.Ieee.{Float}
+use lib.ListN.{length}
 use Rattle.base.specs.Floats.{+0}
-use Rattle.base.specs.Answers.{and_then}
-use Rattle.base.specs.declared.refusal.Checked.TheVariants.{Passed}
 use Rattle.layout.specs.Runs.{write}
-use Rattle.layout.specs.RunLaws.{sets-write, write-more, write-none}
+use Rattle.layout.specs.RunLaws.{length-write, write-more, write-none}
 use Rattle.layout.specs.Layout.{width}
 use Rattle.layout.specs.Soundness.{place_check, layer_check}
 use Rattle.layout.specs.SoundLaws.{Open, place_open, passed-both}
+use Rattle.pieces.specs.Pieces.{part_at}
+use Rattle.pieces.specs.PieceLaws.{at_most_16}
 use Rattle.pieces.specs.declared.pieces.Pieces.{Pieces}
 use Rattle.store.specs.Puts.{fresh}
-
-module _ {A : Type 0} where
-  pub set3_write : (l : List A) (i : ℕ) (a b c : A) → i + 3 ≤ length l
-      → set (set (set l i a) (i + 1) b) (i + 2) c ≡ write l i (a ∷ b ∷ c ∷ [])
-  set3_write l i a b c h = rw (add-one, add-two) (sets-write (a ∷ b ∷ c ∷ []) l i h)
-
-  pub set4_write : (l : List A) (i : ℕ) (a b c d : A) → i + 4 ≤ length l
-      → set (set (set (set l i a) (i + 1) b) (i + 2) c) (i + 3) d ≡ write l i (a ∷ b ∷ c ∷ d ∷ [])
-  set4_write l i a b c d h = rw (add-one, add-two, add-three) (sets-write (a ∷ b ∷ c ∷ d ∷ []) l i h)
 
 fresh-length : (fit : Pieces) (n j : ℕ) → length (fresh fit n j) ≡ 3 * n
 fresh-length fit zero j = refl
@@ -33,12 +26,12 @@ fresh-length fit (suc n) j = omega (arith, fresh-length fit n (suc j))
 
 fresh-more : (fit : Pieces) (n j : ℕ)
     → fresh fit (suc n) j
-    ≡ fresh fit n j ++ (get_or fit.sigma (j + n) nan ∷ get_or fit.coefficient (j + n) nan ∷ +0 ∷ [])
+    ≡ fresh fit n j ++ ((part_at fit (j + n)).sigma ∷ (part_at fit (j + n)).coefficient ∷ +0 ∷ [])
 fresh-more fit zero j = rw add-zero refl
 fresh-more fit (suc n) j =
     let e : j + suc n ≡ suc j + n = omega arith in
     rw e
-    (ap (λ (t : List Float). get_or fit.sigma j nan ∷ get_or fit.coefficient j nan ∷ +0 ∷ t)
+    (ap (λ (t : List Float). (part_at fit j).sigma ∷ (part_at fit j).coefficient ∷ +0 ∷ t)
     (fresh-more fit n (suc j)))
 
 -- j pieces stand from `at` on
@@ -53,30 +46,31 @@ none_filled l at fit = record { within = omega arith; long = refl; same = sym (w
 pub one_filled : (l : List Float) (at : ℕ) (fit : Pieces) (j : ℕ) (f : List Float) → Filled l at fit j f → j < 16
     → at + 48 ≤ length l
     → Filled l at fit (j + 1)
-    (set (set (set f (at + 3 * j) (get_or fit.sigma j nan)) (at + 3 * j + 1) (get_or fit.coefficient j nan))
-    (at + 3 * j + 2) +0)
+    (write f (at + 3 * j) ((part_at fit j).sigma ∷ (part_at fit j).coefficient ∷ +0 ∷ []))
 one_filled l at fit j f g h b =
-    let s = get_or fit.sigma j nan in
-    let k = get_or fit.coefficient j nan in
+    let s = (part_at fit j).sigma in
+    let k = (part_at fit j).coefficient in
     let n = fresh-length fit j 0 in
     let z : 0 + j ≡ j = omega arith in
     let m : fresh fit (j + 1) 0 ≡ fresh fit j 0 ++ (s ∷ k ∷ +0 ∷ [])
     = ap (λ (t : ℕ). fresh fit t 0) (add-one j) ∙ (rw z at (fresh-more fit j 0)) in
     record {
       within = omega arith;
-      long = simp length-set g.long;
+      long = length-write f (at + 3 * j) _ (omega (arith, g.long)) ∙ g.long;
       same =
-          set3_write f (at + 3 * j) s k +0 (omega (arith, g.long))
-          ∙ (ap (λ (t : List Float). write t (at + 3 * j) (s ∷ k ∷ +0 ∷ [])) g.same
+          ap (λ (t : List Float). write t (at + 3 * j) (s ∷ k ∷ +0 ∷ [])) g.same
           ∙ (ap (λ (t : ℕ). write (write l at (fresh fit j 0)) (at + t) (s ∷ k ∷ +0 ∷ [])) (sym n)
-          ∙ (write-more l at (fresh fit j 0) (s ∷ k ∷ +0 ∷ []) (omega arith) ∙ ap (write l at) (sym m))));
+          ∙ (write-more l at (fresh fit j 0) (s ∷ k ∷ +0 ∷ []) (omega arith) ∙ ap (write l at) (sym m)));
     }
 
 -- what a put that is not refused was given
 pub put_open : (fs : List Float) (ws : List ℕ) (i layer : ℕ)
-    → and_then (place_check width fs ws i) (layer_check layer) ≡ Passed
+    → result_and (place_check width fs ws i) (layer_check layer) ≡ passed
     → Open width fs ws i
 put_open fs ws i layer e = place_open width fs ws i (passed-both (place_check width fs ws i) (layer_check layer) e).0
 
 pub need_bound : (count faces : ℕ) → count ≤ 16 → faces ≤ 2097152 → count * faces ≤ 33554432
 need_bound count faces a b = mul-le-mul a b
+
+-- what a put needs
+pub ruleset puts = (put_open, need_bound, at_most_16)

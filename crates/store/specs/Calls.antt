@@ -1,11 +1,10 @@
 -- 01, "The store": what open, clear and reweigh answer, and what they leave in the two runs. Definitions only.
-use Rattle.std.specs.Prelude.{◌&&◌, cond, List, [], ◌∷◌, ◌++◌, ℕ, ◌+◌, ◌-◌, ◌*◌, ◌/◌, leb, length, set, replicate}
+use Rattle.std.specs.Result.{result_and}
+use Rattle.std.specs.Prelude.{◌&&◌, cond, List, [], ◌∷◌, ◌++◌, ℕ, ◌+◌, ◌-◌, ◌*◌, ◌/◌, leb, length, set, replicate, Err}
 use Rattle.std.specs.Prelude.{Float}
 use Rattle.base.specs.Floats.{+0}
-use Rattle.base.specs.Answers.{counted, done, and_then}
+use Rattle.base.specs.Answers.{counted, done, Checked, passed}
 use Rattle.base.specs.declared.refusal.Refusal.TheVariants.{ShortStore}
-use Rattle.base.specs.declared.refusal.Checked.{Checked}
-use Rattle.base.specs.declared.refusal.Checked.TheVariants.{Passed, Failed}
 use Rattle.layout.specs.Runs.{write}
 use Rattle.mesh.specs.Checks.{mesh_check}
 use Rattle.layout.specs.After.{After, after, guarded}
@@ -15,8 +14,8 @@ use Rattle.layout.specs.Soundness.{filled_check}
 -- ---- "Open copies a mesh and radius; all empty", with rows 1 to 4: n coordinates, corners ks, runs of a floats and b
 -- words
 unfoldable pub open_check : ℕ → ℕ → List ℕ → ℕ → ℕ → Checked
-open_check q n ks a b = and_then (mesh_check n ks)
-    (cond (leb (coords_from + n) a && leb (corners_from q + length ks) b) Passed (Failed ShortStore))
+open_check q n ks a b = result_and (mesh_check n ks)
+    (cond (leb (coords_from + n) a && leb (corners_from q + length ks) b) passed (Err ShortStore))
 
 abbrev pub open_floats : Float → List Float → List Float
 open_floats radius xs = radius ∷ (replicate (coords_from - 1) +0 ++ xs)

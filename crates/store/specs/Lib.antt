@@ -1,6 +1,5 @@
 pub mod Calls
 pub mod OpenAnswer
-pub mod EditAnswer
 pub mod OpenLaws
 pub mod Puts
 pub mod PutAnswer

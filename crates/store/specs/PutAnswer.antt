@@ -1,10 +1,9 @@
 -- 01's number and values for each case of a put's answer. Definitions only.
-use Rattle.base.specs.Answers.{Answer, refused}
+use Rattle.std.specs.Prelude.{Result}
+use Rattle.base.specs.Answers.{Answer, answer_by}
+use Rattle.base.specs.declared.refusal.Refusal.{Refusal}
 use Rattle.store.specs.Puts.{placed_with}
 use Rattle.store.specs.declared.put.Placed.{Placed}
-use Rattle.store.specs.declared.put.Placed.TheVariants.{Needs, Refused}
 
--- "pieces and need", and how the fit ended
-abbrev pub placed : Placed → Answer
-placed (Needs pieces need end) = placed_with pieces need end
-placed (Refused r) = refused r
+abbrev pub placed : Result Placed Refusal → Answer
+placed = answer_by (λ p. placed_with p.pieces p.steps p.fit)

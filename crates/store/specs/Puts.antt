@@ -1,14 +1,14 @@
 -- 01, "The store": what put answers, with 02's L4, and what it leaves in the two runs. Definitions only.
-use Rattle.std.specs.Prelude.{cond, List, [], ◌∷◌, ◌++◌, ℕ, zero, suc, ◌+◌, ◌*◌, eqb, get_or, Float}
-use Rattle.std.specs.Float.{nan}
-use Rattle.base.specs.Answers.{Answer, and_then}
+use Rattle.std.specs.Result.{result_and}
+use Rattle.std.specs.Prelude.{cond, List, [], ◌∷◌, ◌++◌, ℕ, zero, suc, ◌+◌, ◌*◌, eqb, Float}
+use Rattle.base.specs.Answers.{Answer}
 use Rattle.base.specs.Floats.{+0}
 use Rattle.layout.specs.Runs.{write}
 use Rattle.kernel.specs.declared.kernel.Kernel.{Kernel}
 use Rattle.kernel.specs.Kernels.{six}
 use Rattle.pieces.specs.declared.fit.Fit.{Fit}
 use Rattle.pieces.specs.declared.pieces.Pieces.{Pieces}
-use Rattle.pieces.specs.Pieces.{decomposed}
+use Rattle.pieces.specs.Pieces.{decomposed, part_at}
 use Rattle.pieces.specs.FitEnd.{fit_of, kind_of, column_of, pivot_told}
 use Rattle.layout.specs.Layout.{piece_limit, radius_of, kernel_from, pieces_from, state_from, layer_words, faces_of}
 use Rattle.layout.specs.Soundness.{place_check, layer_check}
@@ -22,7 +22,7 @@ seven k error = six k ++ (error ∷ [])
 -- arrays are +0
 abbrev pub fresh : Pieces → ℕ → ℕ → List Float
 fresh fit zero j = []
-fresh fit (suc n) j = get_or fit.sigma j nan ∷ get_or fit.coefficient j nan ∷ +0 ∷ fresh fit n (suc j)
+fresh fit (suc n) j = (part_at fit j).sigma ∷ (part_at fit j).coefficient ∷ +0 ∷ fresh fit n (suc j)
 
 -- "with F = 0 all are finished"
 unfoldable pub at_first : ℕ → ℕ → ℕ
@@ -47,6 +47,6 @@ placed_with pieces need end =
 unfoldable pub put_step_lem : ℕ → List Float → List ℕ → ℕ → Kernel → ℕ → After
 put_step_lem q fs ws i k layer =
     let fit = decomposed k (radius_of fs) in
-    guarded (and_then (place_check q fs ws i) (layer_check layer)) fs ws
+    guarded (result_and (place_check q fs ws i) (layer_check layer)) fs ws
     (after (placed_with fit.count (fit.count * faces_of ws) (fit_of k (radius_of fs))) (put_floats fs i k fit)
     (put_words q ws i fit layer))

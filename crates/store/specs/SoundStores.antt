@@ -1,7 +1,8 @@
 -- An opening that is not refused leaves a store with no fault, and so does a put. Assumes nothing.
+use Rattle.std.specs.Result.{result_and}
 use Rattle.std.proofs.Math.Path.{◌≡◌, refl, ap}
 use Rattle.std.proofs.Common.{sym, ◌∙◌, zero-add, arith, length-append}
-use Rattle.std.specs.Prelude.{Bool, ◌&&◌, List, [], ◌∷◌, ◌++◌, ℕ, zero, suc, ◌+◌, ◌*◌, ◌-◌, ◌/◌, ◌≤◌, ◌<◌, ltb, eqb}
+use Rattle.std.specs.Prelude.{Bool, ◌&&◌, List, [], ◌∷◌, ◌++◌, ℕ, zero, suc, ◌+◌, ◌*◌, ◌-◌, ◌/◌, ◌≤◌, ◌<◌, ltb, eqb, Err}
 use Rattle.std.specs.Prelude.{Float, length, get_or, replicate}
 use Rattle.std.proofs.Math.Bool.{true, false, cond}
 use Rattle.std.proofs.Math.Decide.{dec_lt}
@@ -10,10 +11,9 @@ use Rattle.std.proofs.Math.ListN.{take, drop}
 use Rattle.std.proofs.lemmas.List.{length-replicate}
 use Rattle.std.proofs.Math.Seq.{take-append_seam}
 use borrow.Author.Tests.{lt-ltb, le-leb, eq-eqb, ne_eqb, eqb-false}
-use Rattle.base.specs.Answers.{Answer, and_then}
+use Rattle.base.specs.Answers.{Answer, passed}
 use Rattle.base.specs.Floats.{+0}
 use Rattle.base.specs.declared.refusal.Refusal.TheVariants.{ShortStore, Unsound}
-use Rattle.base.specs.declared.refusal.Checked.TheVariants.{Passed, Failed}
 use Rattle.mesh.specs.Checks.{vertex_limit, face_limit, all_below}
 use Rattle.kernel.specs.declared.kernel.Kernel.{Kernel}
 use Rattle.pieces.specs.declared.pieces.Pieces.{Pieces}
@@ -40,7 +40,7 @@ pub passes : (fs : List Float) (ws : List ℕ) → corners_from width + 3 * face
     → coords_from + 3 * verts_of ws ≤ length fs
     → verts_of ws ≤ vertex_limit → faces_of ws ≤ face_limit
     → ((k : ℕ) → k < place_limit → place_sound_at width ws k ≡ true)
-    → all_below (verts_of ws) (corners_of width ws) ≡ true → store_check width fs ws ≡ Passed
+    → all_below (verts_of ws) (corners_of width ws) ≡ true → store_check width fs ws ≡ passed
 unfolding store_check long_enough sound
 passes fs ws a b d e p g =
     rw (
@@ -55,12 +55,12 @@ passes fs ws a b d e p g =
     ) refl
 
 -- and of a store that passes
-module _ (fs : List Float) (ws : List ℕ) (h : store_check width fs ws ≡ Passed) where
+module _ (fs : List Float) (ws : List ℕ) (h : store_check width fs ws ≡ passed) where
   is-sound : sound width ws ≡ true
   unfolding store_check
   is-sound = go (long_enough width fs ws) (sound width ws) refl h
     where
-      go : (a b : Bool) → sound width ws ≡ b → cond a (cond b Passed (Failed Unsound)) (Failed ShortStore) ≡ Passed
+      go : (a b : Bool) → sound width ws ≡ b → cond a (cond b passed (Err Unsound)) (Err ShortStore) ≡ passed
           → sound width ws ≡ true
       go true true e t = e
       go true false e t = absurd (let z : ◌≡◌ {A = ℕ} 0 1 = cc in omega arith)
@@ -102,7 +102,7 @@ fresh-sound count faces layer c l =
         same true = refl
         same false = refl
 
-module _ (fs fs' : List Float) (ws : List ℕ) (i s n layer : ℕ) (h : store_check width fs ws ≡ Passed)
+module _ (fs fs' : List Float) (ws : List ℕ) (i s n layer : ℕ) (h : store_check width fs ws ≡ passed)
     (long : length fs' ≡ length fs) (hi : i < place_limit)
     (good : place_sound s n 0 (faces_of ws) && layer_sound s layer ≡ true) where
   abbrev VS : List ℕ
@@ -162,7 +162,7 @@ module _ (fs fs' : List Float) (ws : List ℕ) (i s n layer : ℕ) (h : store_ch
           (within (4 + 4 * k) 2 (omega arith) (omega arith))
           faces-stay (within (5 + 4 * k) 3 (omega arith) (omega arith)) good
 
-  rewritten : store_check width fs' (write ws (state_from width i) (s ∷ n ∷ 0 ∷ layer ∷ [])) ≡ Passed
+  rewritten : store_check width fs' (write ws (state_from width i) (s ∷ n ∷ 0 ∷ layer ∷ [])) ≡ passed
   rewritten =
       let m = (fine width fs ws h).mesh in
       passes fs' WS (omega (arith, faces-stay, long_words, words-room)) (omega (arith, verts-stay, long, m.floats))
@@ -182,9 +182,9 @@ put_long fs i k fit h l =
     (omega (arith, a, fresh-length fit 16 0)) ∙ a
 
 pub put_stays : (fs : List Float) (ws : List ℕ) (i : ℕ) (k : Kernel) (fit : Pieces) (layer : ℕ)
-    → store_check width fs ws ≡ Passed
+    → store_check width fs ws ≡ passed
     → i < place_limit → layer < layer_limit → fit.count ≤ 16
-    → store_check width (put_floats fs i k fit) (put_words width ws i fit layer) ≡ Passed
+    → store_check width (put_floats fs i k fit) (put_words width ws i fit layer) ≡ passed
 unfolding put_words
 put_stays fs ws i k fit layer h hi hl hc =
     let m = (fine width fs ws h).mesh in
@@ -238,8 +238,8 @@ module _ (ws : List ℕ) (v f : ℕ) (ks : List ℕ) (room : corners_from width 
 
 pub open_stays : (fs : List Float) (ws : List ℕ) (r : Float) (xs : List Float) (ks : List ℕ) (v f : ℕ)
     → length xs ≡ 3 * v → length ks ≡ 3 * f
-    → open_check width (length xs) ks (length fs) (length ws) ≡ Passed
-    → store_check width (write fs 0 (open_floats r xs)) (write ws 0 (open_words width v f ks)) ≡ Passed
+    → open_check width (length xs) ks (length fs) (length ws) ≡ passed
+    → store_check width (write fs 0 (open_floats r xs)) (write ws 0 (open_words width v f ks)) ≡ passed
 open_stays fs ws r xs ks v f ex ek h =
     let o = open_passes width (length xs) ks (length fs) (length ws) h in
     let y : length xs / 3 ≡ v = omega arith in
@@ -257,14 +257,14 @@ open_stays fs ws r xs ks v f ex ek h =
 
 -- ---- what a put is given, and what it leaves
 
-module _ (fs : List Float) (ws : List ℕ) (i layer : ℕ) (h : store_check width fs ws ≡ Passed) (hi : i < place_limit)
+module _ (fs : List Float) (ws : List ℕ) (i layer : ℕ) (h : store_check width fs ws ≡ passed) (hi : i < place_limit)
     (hl : layer < layer_limit) where
-  pub put_passes : and_then (place_check width fs ws i) (layer_check layer) ≡ Passed
+  pub put_passes : result_and (place_check width fs ws i) (layer_check layer) ≡ passed
   unfolding place_check layer_check
   put_passes = rw (h, lt-ltb i place_limit hi, lt-ltb layer layer_limit hl) refl
 
   pub step_stays : (k : Kernel) {r : Answer} {fs' : List Float} {ws' : List ℕ}
-      → after r fs' ws' ≡ put_step_lem width fs ws i k layer → store_check width fs' ws' ≡ Passed
+      → after r fs' ws' ≡ put_step_lem width fs ws i k layer → store_check width fs' ws' ≡ passed
   unfolding put_step_lem
   step_stays k {r} {fs'} {ws'} e =
       let d = decomposed k (radius_of fs) in

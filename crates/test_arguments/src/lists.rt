@@ -5,23 +5,13 @@ ghost use Rattle.std.specs.Prelude.{◌≤◌, ◌<◌};
 use crate::tables::{KERNELS, LENGTHS, POINTS, RADII, VALUES};
 use base::floats::from_pattern;
 use mesh::vectors::V3;
-
-// n, or the most that there can be.
-pub fn at_most(n: usize, most: usize) -> usize
-    ensures { result ≤ most }
-{
-    if n < most { n } else { most }
-}
+use test_words::floats_of;
 
 // The floats of list k.
 pub fn load_list(k: usize) -> [f64; 18]
     requires { k < 12 }
 {
-    let mut list = [0.0; 18];
-    for i in 0..18usize {
-        list[i] = from_pattern(KERNELS[18 * k + i]);
-    }
-    list
+    floats_of(&KERNELS[18 * k..18 * k + 18])
 }
 
 // How many of them there are.
@@ -29,7 +19,7 @@ pub fn list_length(k: usize) -> usize
     requires { k < 12 }
     ensures { result ≤ 18 }
 {
-    at_most(LENGTHS[k], 18)
+    LENGTHS[k].min(18)
 }
 
 // Place p.
@@ -57,9 +47,7 @@ pub fn value(i: usize) -> f64
     from_pattern(VALUES[i])
 }
 
-// Radius i.
-pub fn radius(i: usize) -> f64
-    requires { i < 41 }
-{
-    from_pattern(RADII[i])
+// All radii.
+pub fn radii() -> [f64; 41] {
+    floats_of(&RADII)
 }

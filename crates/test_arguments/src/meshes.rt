@@ -2,29 +2,22 @@
 // Internal: a function with a `requires` is called by proved code alone.
 ghost use Rattle.std.specs.Prelude.{◌≤◌, ◌<◌};
 
-use crate::lists::at_most;
 use crate::tables::{COORDINATES, CORNERS, SIZES};
-use base::floats::from_pattern;
+use test_words::floats_of;
 
 // The coordinates of mesh m.
 pub fn load_coordinates(m: usize) -> [f64; 24]
     requires { m < 18 }
 {
-    let mut xyz = [0.0; 24];
-    for i in 0..24usize {
-        xyz[i] = from_pattern(COORDINATES[24 * m + i]);
-    }
-    xyz
+    floats_of(&COORDINATES[24 * m..24 * m + 24])
 }
 
 // The corners of mesh m.
 pub fn load_corners(m: usize) -> [u32; 36]
     requires { m < 18 }
 {
-    let mut faces = [0u32; 36];
-    for i in 0..36usize {
-        faces[i] = CORNERS[36 * m + i];
-    }
+    let mut faces = [0; 36];
+    faces.copy_from_slice(&CORNERS[36 * m..36 * m + 36]);
     faces
 }
 
@@ -33,7 +26,7 @@ pub fn coordinate_count(m: usize) -> usize
     requires { m < 18 }
     ensures { result ≤ 24 }
 {
-    at_most(SIZES[2 * m], 24)
+    SIZES[2 * m].min(24)
 }
 
 // How many corners it has.
@@ -41,5 +34,5 @@ pub fn corner_count(m: usize) -> usize
     requires { m < 18 }
     ensures { result ≤ 36 }
 {
-    at_most(SIZES[2 * m + 1], 36)
+    SIZES[2 * m + 1].min(36)
 }

@@ -10,7 +10,7 @@ use density::convention::Convention;
 pub const WORD: u64 = 4_294_967_296;
 
 // In place of a number that a line does not have.
-pub const NO_WORD: u64 = 18_446_744_073_709_551_615;
+pub const NO_WORD: u64 = u64::MAX;
 
 // The value of a digit, 10 to 15 for a letter.
 fn digit(b: u8) -> u64 {
@@ -20,7 +20,7 @@ fn digit(b: u8) -> u64 {
 
 // A number with one more decimal digit.
 fn longer(n: u64, b: u8) -> u64 {
-    std::num::wrapping_add_u64(std::num::wrapping_add_u64(n << 3, n << 1), digit(b))
+    n.wrapping_mul(10).wrapping_add(digit(b))
 }
 
 // A call as its line has it: the first and the third letter of its name; its words by their places, n1 the number that
@@ -47,22 +47,20 @@ pub fn next(s: &[u8], at: usize, b: u8) -> usize
     requires { at ≤ length s.now }
     ensures { (at ≤ result) × (result ≤ length s.now) }
 {
-    let mut i = at;
-    while i < s.len() {
+    for i in at..s.len() {
         if s[i] == b {
             return i;
         }
-        i += 1;
     }
-    i
+    s.len()
 }
 
 // Word k of a text, whose first is word 0, as a decimal number.
 fn number(s: &[u8], k: u64) -> u64 {
     let mut n = NO_WORD;
     let mut before = k;
-    for i in 0..s.len() {
-        let b = s[i];
+    for b in s {
+        let b = *b;
         if b == b' ' {
             if before == 0 {
                 return n;
@@ -80,8 +78,8 @@ fn number(s: &[u8], k: u64) -> u64 {
 fn value(s: &[u8], k: u64) -> f64 {
     let mut bits: u64 = 0;
     let mut before = k;
-    for i in 0..s.len() {
-        let b = s[i];
+    for b in s {
+        let b = *b;
         if b == b' ' {
             if before == 0 {
                 return from_pattern(bits);
@@ -92,48 +90,6 @@ fn value(s: &[u8], k: u64) -> f64 {
         }
     }
     from_pattern(bits)
-}
-
-// The words of a text as decimal numbers.
-pub fn numbers(s: &[u8]) -> [u64; 8] {
-    let mut n = [NO_WORD; 8];
-    let mut k: usize = 0;
-    for i in 0..s.len() {
-        let b = s[i];
-        if k >= 8 {
-            return n;
-        }
-        if b == b' ' {
-            k += 1;
-            if k < 8 {
-                n[k] = 0;
-            }
-        } else {
-            n[k] = longer(n[k], b);
-        }
-    }
-    n
-}
-
-// The words of a text as floats by their bits; a colon is no part of a word.
-pub fn values(s: &[u8]) -> [f64; 8] {
-    let mut x = [0.0; 8];
-    let mut k: usize = 0;
-    let mut bits: u64 = 0;
-    for i in 0..s.len() {
-        let b = s[i];
-        if k >= 8 {
-            return x;
-        }
-        if b == b' ' {
-            k += 1;
-            bits = 0;
-        } else if b != b':' {
-            bits = bits << 4 | digit(b);
-            x[k] = from_pattern(bits);
-        }
-    }
-    x
 }
 
 // The call of a line, with a layer and a set of layers.

@@ -3,9 +3,9 @@ ghost use Rattle.std.specs.Prelude.{◌<◌};
 
 use crate::tables::{FILES, GIVEN};
 use base::floats::from_pattern;
-use kernel::file::{Exponent, Kilometres, kernel_from_file};
+use kernel::file::{Kilometres, kernel_from_file};
 use std::io;
-use test_words::{put_call, put_end, put_float};
+use test_words::{put_call, put_end, put_floats};
 
 // Float j of file kernel i.
 fn file_float(i: usize, j: usize) -> f64
@@ -14,13 +14,14 @@ fn file_float(i: usize, j: usize) -> f64
     from_pattern(FILES[7 * i + j])
 }
 
-fn file_exponent(i: usize) -> Exponent
+fn file_exponent(i: usize) -> Option<f64>
     requires { i < 15 }
 {
     if GIVEN[i] {
-        return Exponent::Given(file_float(i, 5));
+        Some(file_float(i, 5))
+    } else {
+        None
     }
-    Exponent::Missing
 }
 
 fn put_file(rt: &impl Print, i: usize) -> io::Result<()>
@@ -36,19 +37,15 @@ fn put_file(rt: &impl Print, i: usize) -> io::Result<()>
         file_exponent(i),
         file_float(i, 6),
     );
-    put_call(rt, b"file", i)?;
-    put_float(rt, k.c[0])?;
-    put_float(rt, k.c[1])?;
-    put_float(rt, k.c[2])?;
-    put_float(rt, k.sigma)?;
-    put_float(rt, k.w)?;
-    put_float(rt, k.alpha)?;
+    put_call(rt, "file", i)?;
+    put_floats(rt, &k.c)?;
+    put_floats(rt, &[k.sigma, k.w, k.alpha])?;
     put_end(rt)
 }
 
 // All file kernels.
 pub fn put_files(rt: &impl Print) -> io::Result<()> {
-    for i in 0..15usize {
+    for i in 0..15 {
         put_file(rt, i)?;
     }
     Ok(())

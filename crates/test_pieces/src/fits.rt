@@ -6,25 +6,19 @@ use base::floats::from_pattern;
 use kernel::kernel::Kernel;
 use pieces::pieces::{Pieces, decompose};
 use std::io;
-use test_words::{put_bits, put_end, put_float, put_number};
+use test_words::{put_bits, put_end, put_float, put_floats, put_number};
 
 // Writes the line of one piece.
 fn put_piece(rt: &impl Print, sigma: f64, coefficient: f64) -> io::Result<()> {
     print!(rt; "piece")?;
-    put_float(rt, sigma)?;
-    put_float(rt, coefficient)?;
+    put_floats(rt, &[sigma, coefficient])?;
     put_end(rt)
 }
 
 // Writes the lines of the pieces.
 fn put_pieces(rt: &impl Print, p: Pieces) -> io::Result<()> {
-    let count = p.count;
-    let sigma = p.sigma;
-    let coefficient = p.coefficient;
-    for i in 0..16 {
-        if i < count {
-            put_piece(rt, sigma[i], coefficient[i])?;
-        }
+    for piece in p.list.iter().take(p.count) {
+        put_piece(rt, piece.sigma, piece.coefficient)?;
     }
     Ok(())
 }
@@ -53,8 +47,8 @@ fn put_fit(rt: &impl Print, sigma: u64, alpha: u64, radius: u64) -> io::Result<(
 
 // All the fits.
 pub fn put_fits(rt: &impl Print) -> io::Result<()> {
-    for i in 0..FITS.len() / 3 {
-        put_fit(rt, FITS[3 * i], FITS[3 * i + 1], FITS[3 * i + 2])?;
+    for fit in FITS.chunks_exact(3) {
+        put_fit(rt, fit[0], fit[1], fit[2])?;
     }
     Ok(())
 }

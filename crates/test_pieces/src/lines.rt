@@ -1,14 +1,12 @@
 // The parts of a line.
-ghost use Rattle.std.specs.Prelude.{◌≤◌};
-
 use pieces::fit::Fit;
 use std::io;
-use test_words::{put_call, put_end, put_float, put_number};
+use test_words::{put_call, put_end, put_float, put_floats, put_number};
 
 // Writes a call's name, its row in the tables, how many floats it is given, and how many are lent to it.
 pub fn put_sizes(
     rt: &impl Print,
-    name: &[u8],
+    name: &str,
     row: usize,
     count: usize,
     room: usize,
@@ -36,15 +34,6 @@ pub fn put_end_of_fit(rt: &impl Print, fit: Fit) -> io::Result<()> {
 
 // Writes the words of a run, and ends the line.
 pub fn put_run(rt: &impl Print, words: &[f64]) -> io::Result<()> {
-    for i in 0..words.len() {
-        put_float(rt, words[i])?;
-    }
+    put_floats(rt, words)?;
     put_end(rt)
-}
-
-// n, or the most that there can be.
-pub fn at_most(n: usize, most: usize) -> usize
-    ensures { result ≤ most }
-{
-    if n < most { n } else { most }
 }

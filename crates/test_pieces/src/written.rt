@@ -3,26 +3,25 @@
 // Internal: a function with a `requires` is called by proved code alone.
 ghost use Rattle.std.specs.Prelude.{◌≤◌, ◌<◌};
 
-use crate::lines::{at_most, put_end_of_fit, put_run, put_sizes};
+use crate::lines::{put_end_of_fit, put_run, put_sizes};
 use crate::tables::{INTO, INTO_ROOM, LIST_SIZES, LISTS};
 use base::floats::from_pattern;
 use kernel::kernel::Kernel;
-use pieces::kernels::{Decomposed, decompose_into};
-use pieces::lists::{DecomposedList, decompose_list};
+use pieces::kernels::decompose_into;
+use pieces::lists::decompose_list;
 use std::io;
-use test_words::{put_float, put_number, put_refusal};
+use test_words::{floats_of, put_float, put_number, put_refusal};
 
 // Ends the line of one kernel's pieces.
 fn put_decomposed(rt: &impl Print, k: Kernel, radius: f64, out: &mut [f64]) -> io::Result<()> {
-    let told = decompose_into(k, radius, out);
-    match told {
-        Decomposed::Written(pieces, error, fit) => {
+    match decompose_into(k, radius, out) {
+        Ok(written) => {
             put_number(rt, 0)?;
-            put_number(rt, pieces as u64)?;
-            put_float(rt, error)?;
-            put_end_of_fit(rt, fit)?;
+            put_number(rt, written.pieces as u64)?;
+            put_float(rt, written.error)?;
+            put_end_of_fit(rt, written.fit)?;
         }
-        Decomposed::Refused(refusal) => put_refusal(rt, refusal)?,
+        Err(refusal) => put_refusal(rt, refusal)?,
     }
     put_run(rt, out)
 }
@@ -43,15 +42,15 @@ fn put_into(rt: &impl Print, i: usize) -> io::Result<()>
     requires { i < 12 }
 {
     let k = load_kernel(i);
-    let room = at_most(INTO_ROOM[i], 98);
-    put_sizes(rt, b"into", i, 6, room)?;
+    let room = INTO_ROOM[i].min(98);
+    put_sizes(rt, "into", i, 6, room)?;
     let mut out = [7.0; 98];
     put_decomposed(rt, k, from_pattern(INTO[4 * i + 3]), &mut out[..room])
 }
 
 // The pieces of each kernel of the table.
 pub fn put_all_into(rt: &impl Print) -> io::Result<()> {
-    for i in 0..12usize {
+    for i in 0..12 {
         put_into(rt, i)?;
     }
     Ok(())
@@ -59,19 +58,14 @@ pub fn put_all_into(rt: &impl Print) -> io::Result<()> {
 
 // Ends the line of a list's pieces.
 fn put_listed(rt: &impl Print, kernels: &[f64], radius: f64, out: &mut [f64]) -> io::Result<()> {
-    let told = decompose_list(kernels, radius, out);
-    match told {
-        DecomposedList::Written {
-            kernels,
-            pieces,
-            error,
-        } => {
+    match decompose_list(kernels, radius, out) {
+        Ok(written) => {
             put_number(rt, 0)?;
-            put_number(rt, kernels as u64)?;
-            put_number(rt, pieces as u64)?;
-            put_float(rt, error)?;
+            put_number(rt, written.kernels as u64)?;
+            put_number(rt, written.pieces as u64)?;
+            put_float(rt, written.error)?;
         }
-        DecomposedList::Refused(refusal) => put_refusal(rt, refusal)?,
+        Err(refusal) => put_refusal(rt, refusal)?,
     }
     put_run(rt, out)
 }
@@ -80,11 +74,7 @@ fn put_listed(rt: &impl Print, kernels: &[f64], radius: f64, out: &mut [f64]) ->
 fn load_list(i: usize) -> [f64; 18]
     requires { i < 13 }
 {
-    let mut list = [0.0; 18];
-    for j in 0..18usize {
-        list[j] = from_pattern(LISTS[19 * i + j]);
-    }
-    list
+    floats_of(&LISTS[19 * i..19 * i + 18])
 }
 
 // How many floats it has, and the room for its pieces.
@@ -92,14 +82,14 @@ fn list_count(i: usize) -> usize
     requires { i < 13 }
     ensures { result ≤ 18 }
 {
-    at_most(LIST_SIZES[2 * i], 18)
+    LIST_SIZES[2 * i].min(18)
 }
 
 fn list_room(i: usize) -> usize
     requires { i < 13 }
     ensures { result ≤ 192 }
 {
-    at_most(LIST_SIZES[2 * i + 1], 192)
+    LIST_SIZES[2 * i + 1].min(192)
 }
 
 fn put_list(rt: &impl Print, i: usize) -> io::Result<()>
@@ -108,7 +98,7 @@ fn put_list(rt: &impl Print, i: usize) -> io::Result<()>
     let list = load_list(i);
     let count = list_count(i);
     let room = list_room(i);
-    put_sizes(rt, b"list", i, count, room)?;
+    put_sizes(rt, "list", i, count, room)?;
     let mut out = [7.0; 192];
     put_listed(
         rt,
@@ -120,7 +110,7 @@ fn put_list(rt: &impl Print, i: usize) -> io::Result<()>
 
 // The pieces of each list of the table.
 pub fn put_lists(rt: &impl Print) -> io::Result<()> {
-    for i in 0..13usize {
+    for i in 0..13 {
         put_list(rt, i)?;
     }
     Ok(())

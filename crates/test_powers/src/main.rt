@@ -369,56 +369,35 @@ const PAIRS: [u64; 190] = [
     0xbffb_3333_3333_3333, // 100000001.0, -1.7
 ];
 
-// Writes a space and the 16 digits of bits.
-fn put(rt: &impl Print, bits: u64) -> io::Result<()> {
-    print!(rt; " {bits:016x}")
-}
-
 // Writes the line of a function of one argument.
-fn put_line(rt: &impl Print, name: &[u8], argument: u64, answer: f64) -> io::Result<()> {
-    rt.write_all(name)?;
-    put(rt, argument)?;
-    put(rt, to_pattern(answer))?;
-    print!(rt; "\n")
+fn put_line(rt: &impl Print, name: &str, argument: u64, answer: f64) -> io::Result<()> {
+    let answer = to_pattern(answer);
+    print!(rt; "{name} {argument:016x} {answer:016x}\n")
 }
 
 // Writes the lines of the six functions of one argument.
 fn put_six(rt: &impl Print, argument: u64) -> io::Result<()> {
     let x = from_pattern(argument);
-    put_line(rt, b"root", argument, root(x))?;
-    put_line(rt, b"arc", argument, arc(x))?;
-    put_line(rt, b"log", argument, log(x))?;
-    put_line(rt, b"exp", argument, exp(x))?;
-    put_line(rt, b"ten", argument, ten(x))?;
-    put_line(rt, b"log10", argument, log10(x))
+    put_line(rt, "root", argument, root(x))?;
+    put_line(rt, "arc", argument, arc(x))?;
+    put_line(rt, "log", argument, log(x))?;
+    put_line(rt, "exp", argument, exp(x))?;
+    put_line(rt, "ten", argument, ten(x))?;
+    put_line(rt, "log10", argument, log10(x))
 }
 
 // Writes the line of the power b to the y.
 fn put_power(rt: &impl Print, b: u64, y: u64) -> io::Result<()> {
-    print!(rt; "power")?;
-    put(rt, b)?;
-    put(rt, y)?;
-    put(rt, to_pattern(power(from_pattern(b), from_pattern(y))))?;
-    print!(rt; "\n")
-}
-
-// The six functions over all the arguments.
-fn put_arguments(rt: &impl Print) -> io::Result<()> {
-    for i in 0..ARGUMENTS.len() {
-        put_six(rt, ARGUMENTS[i])?;
-    }
-    Ok(())
-}
-
-// The power over all the pairs.
-fn put_pairs(rt: &impl Print) -> io::Result<()> {
-    for i in 0..PAIRS.len() / 2 {
-        put_power(rt, PAIRS[2 * i], PAIRS[2 * i + 1])?;
-    }
-    Ok(())
+    let answer = to_pattern(power(from_pattern(b), from_pattern(y)));
+    print!(rt; "power {b:016x} {y:016x} {answer:016x}\n")
 }
 
 fn main(rt: HostRuntime) -> io::Result<()> {
-    put_arguments(&rt)?;
-    put_pairs(&rt)
+    for argument in &ARGUMENTS {
+        put_six(&rt, *argument)?;
+    }
+    for pair in PAIRS.chunks_exact(2) {
+        put_power(&rt, pair[0], pair[1])?;
+    }
+    Ok(())
 }

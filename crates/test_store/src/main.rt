@@ -106,7 +106,7 @@ fn run_line(rt: &impl Print, floats: &mut Floats, words: &mut Words, s: &[u8]) -
     say_runs(rt, floats, words)
 }
 
-// The lines of the script, in order.
+// The lines of the script, in order. (A `while`, since a line begins where the one before ends.)
 fn play(rt: &impl Print, floats: &mut Floats, words: &mut Words, script: &[u8]) -> io::Result<()> {
     let mut at = 0;
     while at < script.len() {
@@ -117,7 +117,8 @@ fn play(rt: &impl Print, floats: &mut Floats, words: &mut Words, script: &[u8]) 
     Ok(())
 }
 
-// Reads until `script` is full or the input ends, and answers how many bytes it put at its start.
+// Reads until `script` is full or the input ends, and answers how many bytes it put at its start. (A `while`, since a
+// read answers how much it read.)
 fn read_script(input: &mut impl Read, script: &mut [u8]) -> io::Result<usize>
     ensures { IfOk result (λ n. n ≤ length script.new) }
 {

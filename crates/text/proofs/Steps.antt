@@ -1,47 +1,51 @@
 -- One step of a token at a position: what `rest` is there, and what the token's definition makes of it.
 -- Assumes nothing.
-use mathlib.Core.Path.{◌≡◌, refl, sym, ap, ◌∙◌}
-use mathlib.Core.List.{List, [], ◌∷◌}
-use mathlib.Core.Bool.{Bool, true, false, ◌&&◌, and-false, and-eq-true_iff}
+use mathlib.Core.Path.{◌≡◌, refl, sym, ap}
+use mathlib.Core.List.{List, ◌∷◌}
+use mathlib.Core.Bool.{true, false, ◌&&◌, and-false, and-eq-true_iff}
 use Prim.Native.Nat.{ℕ, zero, suc, ◌+◌, ◌-◌, ◌*◌, ◌^◌, ◌<◌, ◌≤◌}
 use native.Mathlib.Nat.{add-zero, pow-suc, pow-le-pow_right, lt_of_lt_of_le}
 use native.Mathlib.Numerals.{add-one}
 use native.Mathlib.Decide.{dec_lt}
 use native.Mathlib.Omega.{arith}
-use lib.ListN.{length, drop, get_or}
+use lib.ListN.{length, drop, take, get_or}
 use lib.Seq.{drop-cons, drop-length}
+use Rattle.std.proofs.Common.{length-take, length-drop, take_all, drop-drop, false, nat_eq, ◌∙◌}
+use Rattle.std.specs.List.{starts_with}
+use Rattle.std.proofs.lemmas.Bool.Decides.{Decides-eqb}
+use Rattle.std.proofs.lemmas.Bool.{false≢true}
+use Rattle.std.proofs.lemmas.Slice.Eq.{starts_is}
+use Rattle.text.specs.Text.{strip}
+use Rattle.text.specs.Tokens.{literal-back, literal_inv}
+use Rattle.std.proofs.lemmas.List.{get_or-take, get_or-drop}
 use lib.Dec.{lit<, ltb, eqb}
-use borrow.Author.Tests.{le-leb, lt-leb, eq-eqb, ne_eqb, lt-ltb, le-ltb, ltb-true}
-use Rattle.text.specs.Text.{Text, lost, left, rest, literal, keep_if, digit, pattern, pattern_from, decimal_from, decimal, missing, Got}
-use Rattle.text.specs.TextLaws.{rest_out, rest-past, rest_end, rest_cons, rest-next, rest-none, hexes, no_pattern}
+use borrow.Author.Tests.{le-leb, lt-leb, ne_eqb, lt-ltb, le-ltb, ltb-true}
+use Rattle.text.specs.Text.{Text, lost, left, rest, literal, digit, pattern_from, decimal_from, decimal, missing, Got}
+use Rattle.text.specs.TextLaws.{rest_in, rest-past, rest_end, rest_cons, rest-next, rest-none, hexes}
 
--- a byte of the literal more
-pub literal-turn : (p s : List ℕ) (i k : ℕ) → i < length p → k < length s
-    → literal (drop i p) (rest s k) ≡ keep_if (eqb (get_or s k 0) (get_or p i 0)) (literal (drop (i + 1) p) (rest s (k + 1)))
-literal-turn p s i k hi hk = rw (drop-cons p i 0 hi, rest_cons s k hk, rest-next s k hk, add-one i) refl
+-- the literal stands at the head of a text where the text begins with its bytes
+pub begun : (p l : List ℕ) → true ≡ starts_with nat_eq l p → strip p l ≡ left (drop (length p) l)
+begun p l e =
+    ap (strip p) ((starts_is Decides-eqb l p true e).0 refl) ∙ literal-back p (drop (length p) l)
 
-pub keep-both : (a b : Bool) (t : Text) → keep_if (a && b) t ≡ keep_if a (keep_if b t)
-keep-both true b t = refl
-keep-both false b t = refl
-
-keep_lost : (a : Bool) → keep_if a lost ≡ lost
-keep_lost true = refl
-keep_lost false = refl
-
--- fewer bytes than the literal has
-pub literal-few : (p s : List ℕ) (at : ℕ) → length s < at + length p → literal p (rest s at) ≡ lost
-literal-few [] s at h = rw (rest_out s at (omega arith)) refl
-literal-few (a ∷ p) s at h = go (dec_lt at (length s)) (literal-few p s (at + 1) (omega arith))
+pub not_begun : (p l : List ℕ) → false ≡ starts_with nat_eq l p → strip p l ≡ lost
+not_begun p l e = go (strip p l) refl
   where
-    go : Dec (at < length s) → literal p (rest s (at + 1)) ≡ lost → literal (a ∷ p) (rest s at) ≡ lost
-    go (no n) ih = rest-none (λ t. literal (a ∷ p) t ≡ lost) s at (omega arith) refl refl
-    go (yes l) ih =
-        let e : literal p (left (drop (suc at) s)) ≡ lost = ap (literal p) (sym (rest-next s at l)) ∙ ih in
-        rw (rest_cons s at l, e) (keep_lost (eqb (get_or s at 0) a))
+    go : (t : Text) → strip p l ≡ t → t ≡ lost
+    go lost h = refl
+    go (left r) h = absurd (false≢true ((starts_is Decides-eqb l p false e).1 r (literal_inv p l r h)))
 
-pub literal_all : (t : Text) → literal [] t ≡ t
-literal_all lost = refl
-literal_all (left l) = refl
+pub part_is : (s : List ℕ) (at : ℕ) → take (length s - at) (drop at s) ≡ drop at s
+part_is s at = take_all (length s - at) (drop at s) (omega (arith, length-drop at s))
+
+-- where it stands, the text after it is left
+pub literal-there : (p s : List ℕ) (at : ℕ) → at ≤ length s → length p ≤ length (take (length s - at) (drop at s))
+    → true ≡ starts_with nat_eq (take (length s - at) (drop at s)) p
+    → rest s (at + length p) ≡ literal p (rest s at)
+literal-there p s at h b e =
+    let k : at + length p ≤ length s = omega (arith, ap length (part_is s at), length-drop at s) in
+    rw (rest_in s at h, rest_in s (at + length p) k, begun p (drop at s) (rw part_is at e))
+    (ap left (sym (drop-drop (length p) at s)))
 
 -- where a token is not there, what comes back is one past the end, with 0
 pub missed : (s : List ℕ) {g : Got ℕ} → missing ≡ g → record { val = 0; text = rest s (length s + 1) } ≡ g
@@ -93,8 +97,13 @@ hexes-few s (suc j) at h = go (dec_lt at (length s)) (hexes-few s j (at + 1) (om
         let e : hexes (suc j) (left (drop (suc at) s)) ≡ false = ap (hexes (suc j)) (sym (rest-next s at l)) ∙ ih in
         rw (rest_cons s at l, e) (and-false (ltb (digit (get_or s at 0)) 16))
 
-pub few : (s : List ℕ) (at : ℕ) → length s < at + 16 → missing ≡ pattern (rest s at)
-few s at h = sym (no_pattern 16 0 (rest s at) (hexes-few s 15 at h))
+-- where sixteen digits stand there are as many bytes
+pub sixteen : (s : List ℕ) (at : ℕ) → hexes 16 (rest s at) ≡ true → at + 16 ≤ length s
+sixteen s at h = go (dec_lt (length s) (at + 16))
+  where
+    go : Dec (length s < at + 16) → at + 16 ≤ length s
+    go (yes l) = absurd (false≢true (sym (hexes-few s 15 at l) ∙ h))
+    go (no n) = omega arith
 
 pub pattern-done : (v : ℕ) (t : Text) → pattern_from 0 v t ≡ record { val = v; text = t }
 unfolding pattern_from
@@ -157,3 +166,12 @@ module _ (s : List ℕ) (most k : ℕ) where
       → decimal most (rest s k) ≡ decimal_from most (digit (get_or s k 0)) (drop (k + 1) s)
   unfolding decimal
   decimal_first hk h z = rw (rest_cons s k hk, lt-ltb _ _ h, ne_eqb _ _ z, add-one k)
+
+-- the sixteen bytes from `at` on
+module _ (s : List ℕ) (at : ℕ) (room : at + 16 ≤ length s) where
+  pub length-sixteen : length (take (at + 16 - at) (drop at s)) ≡ 16
+  length-sixteen = grind (arith, length-take, length-drop)
+
+  pub byte-of_sixteen : (i : ℕ) → i < 16 → get_or (take (at + 16 - at) (drop at s)) i 0 ≡ get_or s (at + i) 0
+  byte-of_sixteen i h =
+      let k : i < at + 16 - at = omega arith in get_or-take (at + 16 - at) (drop at s) i 0 k ∙ get_or-drop at s i 0

@@ -33,6 +33,10 @@ abbrev pub choose : {A B C : Type 0} → (A → C) → (B → C) → (A ⊎ B) �
 choose f g (inl a, u) = f a
 choose f g (inr b, u) = g b
 
+-- and the bytes p after it
+abbrev pub followed_by : {A : Type 0} → List ℕ → Got A → Got A
+followed_by p g = record { val = g.val; text = literal p g.text }
+
 abbrev pub or_at : {A : Type 0} → Text → Got A → Got A → Got A
 or_at lost g h = h
 or_at (left l) g h = g

@@ -5,7 +5,7 @@ use Rattle.std.specs.Float.{binary64}
 use Rattle.std.specs.Float.Ieee.{to_bits, is_nan}
 use Rattle.std.specs.Float.Ieee.Bits.{of_bits-to_bits, to_bits-lt, to_bits-of_bits}
 use Rattle.base.specs.Floats.{bits}
-use Rattle.text.specs.Text.{Text, lost, left, Got, rest, got, strip, keep_if, digit, pattern, pattern_from, float, decimal}
+use Rattle.text.specs.Text.{Text, lost, left, Got, got, strip, keep_if, digit, pattern, pattern_from, float, decimal}
 use Rattle.text.specs.Print.{decimal_text, pattern_text, float_text}
 use Rattle.text.specs.Form.{Form, end, word, number, real, either, Vals, map, choose, or_at, or, pair, read, print, Spells, Fit, NoNan, differ, other, no_hex, apart, stops, clear}
 use Rattle.text.specs.TextLaws.{rest_in, rest_out}

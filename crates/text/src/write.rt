@@ -1,5 +1,6 @@
 // Tokens written at a position of a run; each answers the position after it, and leaves all other words as they were.
 // Internal: a function with a `requires` is called by proved code alone.
+// The run and the position are two arguments and no struct: what is proved speaks of both, as `Wrote` does.
 ghost use Rattle.std.specs.Prelude.{◌≡◌, ◌++◌, ◌+◌, ◌^◌, ◌<◌, ◌≤◌, length};
 ghost use Rattle.text.specs.Print.{Wrote, digits, decimal_length, decimal_text, pattern_text, float_text};
 ghost use Rattle.text.specs.Print.{glyph as Print·glyph};
@@ -9,11 +10,7 @@ pub fn write_bytes(out: &mut [u8], at: usize, p: &[u8]) -> usize
     requires { at + length p.now ≤ length out.old }
     ensures { Wrote out.old at p.now result out.new }
 {
-    let mut i = 0;
-    while i < p.len() {
-        out[at + i] = p[i];
-        i += 1;
-    }
+    out[at..at + p.len()].copy_from_slice(p);
     at + p.len()
 }
 
@@ -23,22 +20,22 @@ fn glyph(d: u64) -> u8
     ensures { result ≡ Print·glyph d }
 {
     if d < 10 {
-        return 48 + d as u8;
+        b'0' + d as u8
+    } else {
+        b'A' - 10 + d as u8
     }
-    55 + d as u8
 }
 
-// Writes 16 hexadecimal digits, from the last.
+// Writes 16 hexadecimal digits, from the last. (Not one with `write_digits` by a const base: a decimal digit needs no
+// test for a letter.)
 fn write_pattern(out: &mut [u8], at: usize, n: u64)
     requires { at + 16 ≤ length out.old }
     ensures { Wrote out.old at (pattern_text n) (at + 16) out.new }
 {
-    let mut i: usize = 16;
     let mut m = n;
-    while i > 0 {
-        i -= 1;
+    for i in (0..16).rev() {
         out[at + i] = glyph(m % 16);
-        m = m / 16;
+        m /= 16;
     }
 }
 
@@ -49,12 +46,10 @@ pub fn write_digits(out: &mut [u8], at: usize, k: usize, n: u64) -> usize
     ensures value { result ≡ at + k }
     ensures wrote { Wrote out.old at (digits 10 k n) result out.new }
 {
-    let mut i = k;
     let mut m = n;
-    while i > 0 {
-        i -= 1;
-        out[at + i] = 48 + (m % 10) as u8;
-        m = m / 10;
+    for i in (0..k).rev() {
+        out[at + i] = b'0' + (m % 10) as u8;
+        m /= 10;
     }
     at + k
 }
@@ -92,9 +87,10 @@ pub fn decimal_length(n: u64) -> usize
     ensures { (result ≡ decimal_length n) × (result ≤ 20) }
 {
     if n < 10_000_000_000 {
-        return short_length(n);
+        short_length(n)
+    } else {
+        10 + short_length(n / 10_000_000_000)
     }
-    10 + short_length(n / 10_000_000_000)
 }
 
 // Writes a decimal number, in no more room than it takes.
@@ -126,7 +122,8 @@ pub fn write_number(out: &mut [u8], at: usize, p: &[u8], n: u64) -> usize
     write_decimal(out, a, n)
 }
 
-// The bytes `p`, and a float.
+// The bytes `p`, and a float. (Not one with `write_number`: a trait of the two types would have to say the text of a
+// value and its length, and be no shorter.)
 pub fn write_real(out: &mut [u8], at: usize, p: &[u8], x: f64) -> usize
     requires { at + length p.now + 16 ≤ length out.old }
     ensures value { result ≡ at + length p.now + 16 }

@@ -1,3 +1,2 @@
-pub mod TrackAnswer
 pub mod TrackLaws
 pub mod Tracks

@@ -1,12 +1,11 @@
 -- The pieces of a store laid down six floats each, read again; and what a track's check tells. Assumes nothing.
-use Rattle.std.specs.Prelude.{◌≡◌, refl, Bool, true, false, ◌&&◌, cond, List, [], ◌∷◌, map, ℕ, ◌/◌, ◌%◌, ◌≤◌, leb, eqb}
+use Rattle.std.specs.Prelude.{◌≡◌, refl, Bool, true, false, ◌&&◌, cond, List, [], ◌∷◌, map, ℕ, ◌/◌, ◌%◌, ◌≤◌, leb, eqb, Err}
 use Rattle.std.specs.Prelude.{length, drop, Float}
 use Rattle.std.proofs.Common.{sym, ap, ◌∙◌, arith, leb-true, eqb-true}
 use Rattle.std.proofs.lemmas.List.{length-map}
-use Rattle.base.specs.Answers.{refused, counted, outcome}
+use Rattle.base.specs.Answers.{refused, counted, outcome, passed}
 use Rattle.base.specs.declared.refusal.Refusal.{Refusal}
 use Rattle.base.specs.declared.refusal.Refusal.TheVariants.{BadTrack}
-use Rattle.base.specs.declared.refusal.Checked.TheVariants.{Passed, Failed}
 use Rattle.kernel.specs.declared.kernel.Kernel.{Kernel}
 use Rattle.kernel.specs.Kernels.{kernel_at}
 use Rattle.density.specs.Densitize.{densitize_of}
@@ -32,14 +31,14 @@ pub record Trackable (coords room : ℕ) : Type 0 where
   pub few : coords / 3 ≤ track_limit
   pub fits : coords / 3 ≤ room
 
-pub trackable : (coords room : ℕ) → track_check coords room ≡ Passed → Trackable coords room
+pub trackable : (coords room : ℕ) → track_check coords room ≡ passed → Trackable coords room
 unfolding track_check
 trackable coords room h =
     go (eqb (coords % 3) 0) refl (leb (coords / 3) track_limit) refl (leb (coords / 3) room) refl h
   where
     go : (a : Bool) → eqb (coords % 3) 0 ≡ a → (b : Bool) → leb (coords / 3) track_limit ≡ b → (c : Bool)
         → leb (coords / 3) room ≡ c
-        → cond (a && b && c) Passed (Failed BadTrack) ≡ Passed → Trackable coords room
+        → cond (a && b && c) passed (Err BadTrack) ≡ passed → Trackable coords room
     go true p true q true r h =
         record {
           threes = eqb-true (coords % 3) 0 p;
@@ -52,11 +51,11 @@ trackable coords room h =
 
 -- ---- a track's two answers
 module _ (s : Float) (ks : List Kernel) (points out : List Float) where
-  pub track_in : (out' : List Float) → track_check (length points) (length out) ≡ Passed
+  pub track_in : (out' : List Float) → track_check (length points) (length out) ≡ passed
       → out' ≡ write out 0 (along (density_at (map (rescaled s) ks)) points (length points / 3))
       → outcome (counted (length points / 3 ∷ [])) out' ≡ tracking s ks points out
   track_in out' h e = rw (h, e) refl
 
-  pub track_out : (r : Refusal) → track_check (length points) (length out) ≡ Failed r
+  pub track_out : (r : Refusal) → track_check (length points) (length out) ≡ Err r
       → outcome (refused r) out ≡ tracking s ks points out
   track_out r h = rw h refl

@@ -1,5 +1,6 @@
 -- 02, L1: "Every density equals the single reading at that point"; what a track leaves. Assumes nothing.
-use Rattle.std.specs.Prelude.{◌≡◌, Bool, ◌&&◌, cond, List, [], ◌∷◌, ◌++◌, map, ℕ, ◌/◌, ◌<◌, length, Float}
+use Rattle.std.specs.Result.{result_and}
+use Rattle.std.specs.Prelude.{◌≡◌, Bool, ◌&&◌, cond, List, [], ◌∷◌, ◌++◌, map, ℕ, ◌/◌, ◌<◌, length, Float, Ok, Err}
 use Rattle.std.proofs.Math.Path.{refl, ap}
 use Rattle.std.proofs.Common.{sym, ◌∙◌, zero-add, arith, get_or-take, le-leb}
 use Rattle.std.proofs.Math.Bool.{true, false}
@@ -7,11 +8,9 @@ use Rattle.std.proofs.Math.Dec.{ltb}
 use Rattle.std.proofs.Math.ListN.{get_or, drop}
 use Rattle.std.proofs.Math.Seq.{take-append_seam, drop-append_seam}
 use Rattle.std.specs.Float.Ieee.{nan}
-use Rattle.base.specs.Answers.{and_then, accepted, counted, Outcome, outcome, guarded_run}
+use Rattle.base.specs.Answers.{accepted, counted, Outcome, outcome, guarded_run, Checked, passed}
 use Rattle.base.specs.RefusalLaws.{not-zero}
 use Rattle.base.specs.declared.refusal.Refusal.TheVariants.{Unfinished}
-use Rattle.base.specs.declared.refusal.Checked.{Checked}
-use Rattle.base.specs.declared.refusal.Checked.TheVariants.{Passed, Failed}
 use Rattle.density.specs.declared.convention.Convention.{Convention}
 use Rattle.layout.specs.Layout.{place_limit, faces_of}
 use Rattle.layout.specs.Soundness.{store_check}
@@ -34,7 +33,7 @@ unfolding write
 past vs l = drop-append_seam vs (drop (length vs) l)
 
 -- "A track of no points .. succeeds where no refusal before 14 applies"
-pub no_points : (room : ℕ) → track_check 0 room ≡ Passed
+pub no_points : (room : ℕ) → track_check 0 room ≡ passed
 unfolding track_check
 no_points room = rw (le-leb 0 room (omega arith)) refl
 
@@ -44,7 +43,7 @@ module _ (q : ℕ) (fs : List Float) (ws : List ℕ) (layers : ℕ) (v : Convent
 
   -- 4, 5 or 16
   abbrev C : Checked
-  C = and_then (store_check q fs ws) (layers_check layers)
+  C = result_and (store_check q fs ws) (layers_check layers)
 
   abbrev F : List Float → Float
   F = density_at (map (rescaled (applied v (held_seen q fs S).parts)) (map bare (held_seen q fs S).parts))
@@ -79,10 +78,10 @@ module _ (q : ℕ) (fs : List Float) (ws : List ℕ) (layers : ℕ) (v : Convent
 
       go : (a : Checked) (b : Bool) (c : Checked) → (all a b c).reply.refusal ≡ 0
           → one a b (point_at points i) ≡ outcome (accepted (get_or (all a b c).out i nan ∷ [])) []
-      go (Failed e) b c h = not-zero e h
-      go Passed true c h = absurd (omega arith)
-      go Passed false (Failed e) h = not-zero e h
-      go Passed false Passed h = rw word refl
+      go (Err e) b c h = not-zero e h
+      go (Ok _) true c h = absurd (omega arith)
+      go (Ok _) false (Err e) h = not-zero e h
+      go (Ok _) false (Ok _) h = rw word refl
 
   -- "a run's words past what a call writes stay untouched"
   pub rest-stays : drop (length points / 3) got.out ≡ drop (length points / 3) out
@@ -92,10 +91,10 @@ module _ (q : ℕ) (fs : List Float) (ws : List ℕ) (layers : ℕ) (v : Convent
     where
       go : (a : Checked) (b : Bool) (c : Checked)
           → drop (length points / 3) (all a b c).out ≡ drop (length points / 3) out
-      go (Failed e) b c = refl
-      go Passed true c = refl
-      go Passed false (Failed e) = refl
-      go Passed false Passed =
+      go (Err e) b c = refl
+      go (Ok _) true c = refl
+      go (Ok _) false (Err e) = refl
+      go (Ok _) false (Ok _) =
           let n = stretch-length F points 0 (length points / 3) in
           ap (λ (k : ℕ). drop k W) (sym n)
           ∙ (past (along F points (length points / 3)) out ∙ ap (λ (k : ℕ). drop k out) n)
@@ -109,6 +108,6 @@ module _ (q : ℕ) (fs : List Float) (ws : List ℕ) (layers : ℕ) (v : Convent
     where
       go : (a : Checked) (b : Bool) (c : Checked) → ((one a b x).reply.refusal ≡ 0 → ⊥)
           → (all a b c).reply ≡ (one a b x).reply
-      go (Failed e) b c h = refl
-      go Passed true c h = refl
-      go Passed false c h = absurd (h refl)
+      go (Err e) b c h = refl
+      go (Ok _) true c h = refl
+      go (Ok _) false c h = absurd (h refl)

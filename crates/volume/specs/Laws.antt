@@ -1,10 +1,11 @@
 -- Laws of the volume: a fold over the faces, which sees a mesh by its triangles alone. Assumes nothing.
 use Rattle.std.specs.Prelude.{◌≡◌, ℕ, suc, ◌+◌, ◌-◌, ◌≤◌, ◌<◌, Float}
 use Rattle.std.proofs.Common.{sym}
-use Rattle.std.proofs.Math.Path.{ap}
-use Rattle.std.proofs.Math.Nat.{zero-add}
+use Rattle.std.proofs.Math.Path.{ap, refl}
+use Rattle.std.proofs.Math.Nat.{zero-add, sub-zero}
 use native.Mathlib.Omega.{arith}
 use Rattle.base.specs.Floats.{+0}
+use Rattle.base.specs.Loops.{times}
 use Rattle.base.specs.LoopLaws.{times-same, times-suc, times_more}
 use Rattle.mesh.specs.declared.vectors.V3.{V3}
 use Rattle.mesh.specs.declared.triangles.Triangle.{Triangle}
@@ -25,6 +26,26 @@ module _ (t : ℕ → Triangle) (c : V3) (sigma : Float) where
       let e : to - from ≡ (mid - from) + (to - mid) = omega arith in
       let m : from + (mid - from) ≡ mid = omega arith in
       rw e (sym (rw m at (times_more (face_step t c sigma) (mid - from) (to - mid) from sum)))
+
+  -- no face, and one face more
+  pub from_none : (from : ℕ) (sum : Float) → volume_from t c sigma from from sum ≡ sum
+  unfolding volume_from times
+  from_none from sum =
+      let e : from - from ≡ 0 = omega arith in
+      rw e refl
+
+  pub from_next : (from to : ℕ) (sum : Float) → from ≤ to
+      → volume_from t c sigma from (to + 1) sum ≡ face_sum (t to) c sigma (volume_from t c sigma from to sum)
+  unfolding volume_from
+  from_next from to sum h =
+      let e : to + 1 - from ≡ suc (to - from) = omega arith in
+      let m : from + (to - from) ≡ to = omega arith in
+      rw e (rw m at (times-suc (face_step t c sigma) (to - from) from sum))
+
+  -- all faces, from the first on
+  pub from_start : (n : ℕ) → volume_from t c sigma 0 n +0 ≡ kernel_volume t n c sigma
+  unfolding volume_from volume_to
+  from_start n = rw sub-zero refl
 
 -- ---- the same triangles
 

@@ -2,65 +2,59 @@
 // side. Every function here has a `requires`, but `all_shares`; a `length` of 28 stands where a proof must carry an
 // array's length. Internal: a function with a `requires` is called by proved code alone.
 ghost use Rattle.std.specs.Prelude.{◌≡◌, ◌+◌, ◌*◌, ◌≤◌, ◌<◌, length, set};
-ghost use Rattle.mesh.specs.Triangles.{triangle_at, normal_of, Sound};
+ghost use Rattle.mesh.specs.Triangles.{normal_of};
+ghost use Rattle.mesh.specs.Meshes.{face_count_of, triangles_of};
 ghost use Rattle.volume.specs.Volume.{volume_from};
 ghost use Rattle.volume.specs.Block.{square_of, height_of, seven_set, squares_of, heights_of, Points, share_of, seven_shares, all_shares};
 
-use lanes::factors;
+use lanes::{Scratch, factors};
 use mesh::dunavant::{Node, node_at, point_of};
-use mesh::triangles::{Triangle, normal_of, triangle_at};
-use mesh::vectors::{V3, dot, sub};
+use mesh::triangles::{Mesh, Triangle};
+use mesh::vectors::V3;
 
-// Writes, at `at`, of the point at a node: the square of its distance from c, and its height over c along n.
-fn point(
-    t: Triangle,
-    n: V3,
-    c: V3,
-    k: Node,
-    squares: &mut [f64; 28],
-    heights: &mut [f64; 28],
-    at: usize,
-)
-    requires { at < 28 }
-    ensures { (squares.new ≡ set squares.old at (square_of t c k))
-        × (heights.new ≡ set heights.old at (height_of t n c k)) }
-{
-    let d = sub(point_of(t, k), c);
-    let square = dot(d, d);
-    let height = dot(d, n);
-    squares[at] = square;
-    heights[at] = height;
+// The points of four faces, face after face: of each the square of its distance from a kernel's centre c, and its
+// height over c along its face's normal.
+#[derive(Drop)]
+struct FacePoints {
+    squares: [f64; 28],
+    heights: [f64; 28],
 }
 
-// Writes a face's seven points.
-fn face_points(t: Triangle, c: V3, squares: &mut [f64; 28], heights: &mut [f64; 28], at: usize)
-    requires { at + 7 ≤ 28 }
-    ensures { (squares.new ≡ seven_set (square_of t c) at squares.old)
-        × (heights.new ≡ seven_set (height_of t (normal_of t) c) at heights.old) }
-{
-    let n = normal_of(t);
-    for k in 0..7usize {
-        point(t, n, c, node_at(k), squares, heights, at + k);
+impl FacePoints {
+    // Writes the point at a node to place `at`.
+    #[tactic(auto, unfolding(crate::specs::Block::square_of, crate::specs::Block::height_of))]
+    fn set_point(&mut self, t: Triangle, n: V3, c: V3, k: Node, at: usize)
+        requires { at < 28 }
+        ensures { (self.new.squares ≡ set self.old.squares at (square_of t c k))
+            × (self.new.heights ≡ set self.old.heights at (height_of t n c k)) }
+    {
+        let d = point_of(t, k) - c;
+        self.squares[at] = d.dot(d);
+        self.heights[at] = d.dot(n);
     }
-}
 
-// Writes the points of the four faces from f on.
-fn points(
-    xyz: &[f64],
-    faces: &[u32],
-    f: usize,
-    c: V3,
-    squares: &mut [f64; 28],
-    heights: &mut [f64; 28],
-)
-    requires fact_1 { Sound (length xyz.now) faces.now }
-    requires fact_2 { (3 * (f + 4) ≤ length faces.now) × (length squares.old ≡ 28) × (length heights.old ≡ 28) }
-    ensures { Points (squares_of (triangle_at xyz.now faces.now) c f) 4
-        squares.new × Points (heights_of (triangle_at xyz.now faces.now) c f) 4
-        heights.new }
-{
-    for j in 0..4usize {
-        face_points(triangle_at(xyz, faces, f + j), c, squares, heights, 7 * j);
+    // Writes a face's seven points, from place `at` on.
+    #[tactic(auto, unfolding(crate::specs::Block::seven_set), using(base::specs::TimesLaws::turns))]
+    fn set_face(&mut self, t: Triangle, c: V3, at: usize)
+        requires { at + 7 ≤ 28 }
+        ensures { (self.new.squares ≡ seven_set (square_of t c) at self.old.squares)
+            × (self.new.heights ≡ seven_set (height_of t (normal_of t) c) at self.old.heights) }
+    {
+        let n = t.normal();
+        for k in 0..7usize {
+            self.set_point(t, n, c, node_at(k), at + k);
+        }
+    }
+
+    // Writes the points of the four faces from f on.
+    fn set_faces(&mut self, mesh: Mesh, f: usize, c: V3)
+        requires { (f + 4 ≤ face_count_of mesh) × (length self.old.squares ≡ 28) × (length self.old.heights ≡ 28) }
+        ensures { Points (squares_of (triangles_of mesh.entry) c f) 4 self.new.squares
+            × Points (heights_of (triangles_of mesh.entry) c f) 4 self.new.heights }
+    {
+        for j in 0..4usize {
+            self.set_face(mesh.triangle_at(f + j), c, 7 * j);
+        }
     }
 }
 
@@ -73,6 +67,7 @@ fn share(w: f64, g: &[f64; 28], heights: &[f64; 28], at: usize) -> f64
 }
 
 // The sum after a face's seven points.
+#[tactic(auto, unfolding(crate::specs::Block::seven_shares), using(base::specs::TimesLaws::turns))]
 fn seven_shares(sum: f64, g: &[f64; 28], heights: &[f64; 28], at: usize) -> f64
     requires { at + 7 ≤ 28 }
     ensures { result ≡ seven_shares g.now heights.now at sum }
@@ -85,6 +80,7 @@ fn seven_shares(sum: f64, g: &[f64; 28], heights: &[f64; 28], at: usize) -> f64
 }
 
 // The sum after all points.
+#[tactic(auto, unfolding(crate::specs::Block::all_shares), using(base::specs::TimesLaws::turns))]
 fn all_shares(sum: f64, g: &[f64; 28], heights: &[f64; 28]) -> f64
     ensures { result ≡ all_shares g.now heights.now sum }
 {
@@ -96,42 +92,21 @@ fn all_shares(sum: f64, g: &[f64; 28], heights: &[f64; 28]) -> f64
 }
 
 // The sum after n blocks from the face `from` on. Each block writes the arrays anew: they are made once for all.
-pub fn volume_blocks(
-    sum: f64,
-    xyz: &[f64],
-    faces: &[u32],
-    c: V3,
-    sigma: f64,
-    from: usize,
-    n: usize,
-) -> f64
-    requires fact_1 { Sound (length xyz.now) faces.now }
-    requires fact_2 { 3 * (from + 4 * n) ≤ length faces.now }
-    ensures { result ≡ volume_from (triangle_at xyz.now faces.now) c sigma from
-        (from + 4 * n) sum }
+pub fn volume_blocks(sum: f64, mesh: Mesh, c: V3, sigma: f64, from: usize, n: usize) -> f64
+    requires { from + 4 * n ≤ face_count_of mesh }
+    ensures { result ≡ volume_from (triangles_of mesh.entry) c sigma from (from + 4 * n) sum }
 {
-    let mut squares = [0.0; 28];
-    let mut heights = [0.0; 28];
-    let mut t = [0.0; 28];
-    let mut u = [0.0; 28];
-    let mut v = [0.0; 28];
-    let mut radicands = [0.0; 28];
-    let mut s = [0.0; 28];
+    let mut points = FacePoints {
+        squares: [0.0; 28],
+        heights: [0.0; 28],
+    };
+    let mut scratch = Scratch::new();
     let mut g = [0.0; 28];
     let mut sum = sum;
     for i in 0..n {
-        points(xyz, faces, from + 4 * i, c, &mut squares, &mut heights);
-        factors(
-            &squares,
-            sigma,
-            &mut t,
-            &mut u,
-            &mut v,
-            &mut radicands,
-            &mut s,
-            &mut g,
-        );
-        sum = all_shares(sum, &g, &heights);
+        points.set_faces(mesh, from + 4 * i, c);
+        factors(&points.squares, sigma, &mut scratch, &mut g);
+        sum = all_shares(sum, &g, &points.heights);
     }
     sum
 }

@@ -1,5 +1,5 @@
 -- The weights depend on a mesh only through its triangles: equal triangles, equal results. Assumes nothing.
-use Rattle.std.specs.Prelude.{◌≡◌, List, ℕ, ◌<◌, Float}
+use Rattle.std.specs.Prelude.{◌≡◌, List, ℕ, ◌<◌, Float, Option}
 use Rattle.std.proofs.Math.Path.{ap}
 use Rattle.base.specs.Floats.{◌⊕◌, +0}
 use Rattle.base.specs.LoopLaws.{times-same}
@@ -7,7 +7,6 @@ use Rattle.kernel.specs.declared.kernel.Kernel.{Kernel}
 use Rattle.mesh.specs.declared.triangles.Triangle.{Triangle}
 use Rattle.kernel.specs.Field.{centre_of}
 use Rattle.source.specs.Laws.{same_volume, same_enclosed}
-use Rattle.weights.specs.declared.calibrate.Mean.{Mean}
 use Rattle.weights.specs.Weights.{kernel_mass, raw_mass_lem, normalized_run}
 use Rattle.weights.specs.Calibration.{farther_face, reach_of, calibrated_run}
 
@@ -29,7 +28,7 @@ module _ {t u : ℕ → Triangle} {n : ℕ} (same : (f : ℕ) → f < n → t f 
   unfolding normalized_run
   same-normalized k m target run = rw (same_mass k m)
 
-  pub same-calibrated : (ks : List Float) (mean : Mean) (total : Float) (run : List Float)
+  pub same-calibrated : (ks : List Float) (mean : Option Float) (total : Float) (run : List Float)
       → calibrated_run t n ks mean total run ≡ calibrated_run u n ks mean total run
   unfolding calibrated_run
   same-calibrated ks mean total run = rw (same-reach, same_enclosed same, same-normalized _ _ _ _)

@@ -1,4 +1,5 @@
 pub mod Weights
+pub mod Lists
 pub mod Calibration
 pub mod Laws
 pub mod Rows

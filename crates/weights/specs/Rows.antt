@@ -1,5 +1,5 @@
 -- Theorems of the definitions: what an infinite mass does here, and calls with no kernels. Assumes nothing.
-use Rattle.std.specs.Prelude.{◌≡◌, refl, Bool, true, false, cond, List, [], ℕ, ℤ, pos, Float}
+use Rattle.std.specs.Prelude.{◌≡◌, refl, Bool, true, false, cond, List, [], ℕ, ℤ, pos, Float, Option}
 use Rattle.std.proofs.Math.Bool.{and-false}
 use Rattle.std.specs.Float.{nan, inf, fin}
 use Rattle.std.specs.Float.Ieee.{lt, le, div, of_bits}
@@ -9,7 +9,6 @@ use Rattle.base.specs.Loops.{times}
 use Rattle.base.specs.Answers.{done, Outcome, outcome}
 use Rattle.kernel.specs.declared.kernel.Kernel.{Kernel}
 use Rattle.mesh.specs.declared.triangles.Triangle.{Triangle}
-use Rattle.weights.specs.declared.calibrate.Mean.{Mean}
 use Rattle.source.specs.Volumes.{enclosed_volume}
 use Rattle.weights.specs.Weights.{some_off, scale_of, written_of, normalized_run}
 use Rattle.weights.specs.Calibration.{target_mass_lem, calibrated_run}
@@ -36,7 +35,7 @@ either : (b : Bool) (x : Outcome) → cond b x x ≡ x
 either true x = refl
 either false x = refl
 
-pub nothing-calibrated : (t : ℕ → Triangle) (f : ℕ) (mean : Mean) (total : Float) (run : List Float)
+pub nothing-calibrated : (t : ℕ → Triangle) (f : ℕ) (mean : Option Float) (total : Float) (run : List Float)
     → calibrated_run t f [] mean total run ≡ outcome done run
 unfolding calibrated_run normalized_run some_off written_of times
 nothing-calibrated t f mean total run =

@@ -1,24 +1,20 @@
 -- 01, "Remainder": source `normalize_kernels`. Definitions only.
 -- A mesh is taken as its triangles t and their count f, a list of kernels as its kernels k and their count n.
-use Rattle.std.specs.Prelude.{ℕ, ◌/◌, Bool, false, cond, ◌&&◌, ◌||◌, List, [], ◌∷◌, get_or, length, Float}
+use Rattle.std.specs.Result.{result_and}
+use Rattle.std.specs.Prelude.{ℕ, ◌/◌, Bool, false, cond, ◌&&◌, ◌||◌, List, [], ◌∷◌, get_or, length, Float, Option, None, Some}
 use Rattle.std.specs.Float.{nan}
 use Rattle.std.specs.Float.Ieee.{lt}
 use Rattle.base.specs.Floats.{◌⊕◌, ◌⊖◌, ◌⊗◌, ◌⊘◌, +0, abs}
 use Rattle.base.specs.Constants.{one, stay_limit, scale_limit}
 use Rattle.base.specs.Loops.{times}
-use Rattle.base.specs.Answers.{Answer, done, refused, and_then, Outcome, outcome, guarded_run, room_check}
+use Rattle.base.specs.Answers.{done, refused, Outcome, outcome, guarded_run, room_check, Checked}
 use Rattle.base.specs.declared.refusal.Refusal.TheVariants.{Exponent}
-use Rattle.base.specs.declared.refusal.Checked.{Checked}
 use Rattle.kernel.specs.declared.kernel.Kernel.{Kernel}
 use Rattle.kernel.specs.Kernels.{kernel_at, kernel_set}
 use Rattle.mesh.specs.declared.triangles.Triangle.{Triangle}
 use Rattle.mesh.specs.Triangles.{triangle_at, face_count}
 use Rattle.kernel.specs.Field.{centre_of}
 use Rattle.kernel.specs.Field.{field_check}
-use Rattle.weights.specs.declared.normalize.Stretch.{Stretch}
-use Rattle.weights.specs.declared.normalize.Stretch.TheVariants.{Not, By}
-use Rattle.weights.specs.declared.normalize.Weighed.{Weighed}
-use Rattle.weights.specs.declared.normalize.Weighed.TheVariants.{Written, Refused}
 use Rattle.source.specs.Volumes.{kernel_volume}
 
 -- ---- the test of the exponents
@@ -58,6 +54,14 @@ weighed scale k = record { c = k.c; sigma = k.sigma; w = k.w ⊗ scale; alpha = 
 abbrev pub rescaled : Float → (ℕ → Kernel) → ℕ → Kernel
 rescaled scale k i = weighed scale (k i)
 
+-- a kernel, and kernels, as they are or with their weights scaled
+abbrev pub scaled : Option Float → Kernel → Kernel
+scaled None k = k
+scaled (Some scale) k = weighed scale k
+
+abbrev pub scaled_by : Option Float → (ℕ → Kernel) → ℕ → Kernel
+scaled_by scale k i = scaled scale (k i)
+
 -- ---- the run
 
 abbrev pub write_step : (ℕ → Kernel) → ℕ → List Float → List Float
@@ -69,7 +73,7 @@ written_of k n run = times (write_step k) n 0 run
 
 -- rows 1 to 3 of the mesh, then 9
 unfoldable pub call_check : ℕ → List ℕ → List Float → ℕ → Checked
-call_check coordinates faces ks room = and_then (field_check coordinates faces ks) (room_check (length ks) room)
+call_check coordinates faces ks room = result_and (field_check coordinates faces ks) (room_check (length ks) room)
 
 -- `normalize_kernels`, of a mesh and kernels
 unfoldable pub normalized_run : (ℕ → Triangle) → ℕ → (ℕ → Kernel) → ℕ → Float → List Float → Outcome
@@ -83,11 +87,6 @@ normalized xyz faces ks target run =
     guarded_run (call_check (length xyz) faces ks (length run)) run
     (normalized_run (triangle_at xyz faces) (face_count faces) (kernel_at ks) (length ks / 6) target run)
 
--- 01's number for each case of the code's answer
-abbrev pub weighed_as : Weighed → Answer
-weighed_as Written = done
-weighed_as (Refused r) = refused r
-
 -- ---- for `calibrate_kernels`, which stretches its kernels first
 
 -- c times the factor, sigma over it
@@ -100,7 +99,7 @@ stretched s k =
       alpha = k.alpha;
     }
 
--- the kernels of a list, as they are or stretched
-abbrev pub kernels_of : Stretch → List Float → ℕ → Kernel
-kernels_of Not ks i = kernel_at ks i
-kernels_of (By s) ks i = stretched s (kernel_at ks i)
+-- the kernels of a list, as they are or stretched by a factor
+abbrev pub kernels_of : Option Float → List Float → ℕ → Kernel
+kernels_of None ks i = kernel_at ks i
+kernels_of (Some s) ks i = stretched s (kernel_at ks i)

@@ -36,11 +36,9 @@ module _ (sig k : ℕ) (small : sig < 2 ^ 53) (few : k ≤ 53) where
       let g : 2 ^ k < 2 * (sig % 2 ^ k) = rw (rest, unit) at h in
       rw (le-ltb (2 * (sig % 2 ^ k)) (2 ^ k) (omega arith), lt-ltb _ _ g)
 
-  pub tie : 1 * 2 ^ k % 2 ^ 64 ≤ 2 * bit_and sig (1 * 2 ^ k % 2 ^ 64 - 1)
-      → 2 * bit_and sig (1 * 2 ^ k % 2 ^ 64 - 1) ≤ 1 * 2 ^ k % 2 ^ 64
+  pub tie : 2 * bit_and sig (1 * 2 ^ k % 2 ^ 64 - 1) ≡ 1 * 2 ^ k % 2 ^ 64
       → sig / 2 ^ k + sig / 2 ^ k % 2 ≡ nearest sig (2 ^ k)
   unfolding nearest
-  tie h f =
-      let g : 2 ^ k ≤ 2 * (sig % 2 ^ k) = rw (rest, unit) at h in
-      let l : 2 * (sig % 2 ^ k) ≤ 2 ^ k = rw (rest, unit) at f in
-      rw (le-ltb (2 * (sig % 2 ^ k)) (2 ^ k) g, le-ltb (2 ^ k) (2 * (sig % 2 ^ k)) l)
+  tie h =
+      let g : 2 * (sig % 2 ^ k) ≡ 2 ^ k = rw (rest, unit) at h in
+      rw (le-ltb (2 * (sig % 2 ^ k)) (2 ^ k) (omega arith), le-ltb (2 ^ k) (2 * (sig % 2 ^ k)) (omega arith))

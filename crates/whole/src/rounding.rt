@@ -6,8 +6,10 @@ ghost use Rattle.whole.specs.Whole.{nearest as nearestTo, magnitude as magnitude
 
 use base::floats::{abs, is_negative};
 use base::split::split;
+use std::cmp::Ordering;
 
-// A whole number by its sign and magnitude.
+// A whole number by its sign and magnitude, as a figure is written, one that is rounded to 0 with its minus. (No ghost
+// field bounds the size: a page's total is up to 32 * 10^15, one figure up to 10^15.)
 #[derive(Clone, Copy)]
 pub struct Whole {
     pub minus: bool,
@@ -22,13 +24,11 @@ fn nearest(sig: u64, k: u64) -> u64
     let unit = 1u64 << k;
     let q = sig >> k;
     let twice = 2 * (sig & (unit - 1));
-    if twice < unit {
-        return q;
+    match twice.cmp(&unit) {
+        Ordering::Less => q,
+        Ordering::Greater => q + 1,
+        Ordering::Equal => q + q % 2,
     }
-    if twice > unit {
-        return q + 1;
-    }
-    q + q % 2
 }
 
 // The magnitude of a value up to 10^15, rounded.
@@ -49,6 +49,7 @@ fn magnitude(x: f64) -> u64
 }
 
 // A value up to 10^15, rounded.
+#[tactic(auto, unfolding(crate::specs::Whole::rounded))]
 pub fn rounded(x: f64) -> Whole
     requires { T (printable x) }
     ensures { (signed_whole result.minus result.size ≡ roundedTo x) × (result.size ≤ 1000000000000000) }

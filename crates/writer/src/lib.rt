@@ -1,23 +1,28 @@
 // The writer: opening, vertices, faces, puts by rising place. Too few bytes are refused before the first is written.
+// The run and the position in it stay two parameters, as in text: `Wrote` says of both, in one term, what a struct's
+// clauses would say of its fields.
 #![tactic(auto)]
 
 ghost use Rattle.std.specs.Prelude.{◌≡◌, ℕ, ◌+◌, ◌*◌, ◌<◌, ◌≤◌, length};
-ghost use Rattle.base.specs.Answers.{printed_as, printout};
+ghost use Rattle.base.specs.Answers.{counted_as, printout};
 ghost use Rattle.layout.specs.Runs.{write};
 ghost use Rattle.layout.specs.Layout.{width, place_limit, coords_from, corners_from};
 ghost use Rattle.layout.specs.SoundLaws.{Fine};
 ghost use Rattle.text.specs.Print.{Wrote, decimal_length};
 ghost use Rattle.text.specs.Form.{print, ◌&◌};
 ghost use Rattle.script.specs.Lines.{open_line, vert_line, face_line, put_line};
-ghost use Rattle.script.specs.Written.{put_of, put_in, centre_text, put_row, put_rows, vert_rows, face_rows, lines_of, written, text_answer, write_step};
+ghost use Rattle.script.specs.Written.{put_of, put_in, centre_text, put_row, put_rows, vert_rows, face_rows};
+ghost use Rattle.script.specs.Written.{lines_of, written, text_answer, write_step};
 
-use base::refusal::{Checked, Printed, Refusal};
+use base::refusal::Refusal;
+use kernel::kernel::Kernel;
 use layout::check::check_store;
 use layout::offsets::{COORDS, CORNERS, KERNEL, KERNEL_SIZE, LAYER, PLACES, STATE, WIDTH};
 use script::room::has_room;
 use text::write::{write_bytes, write_number, write_real};
 
 // (open (radius h) (verts V) (faces F))
+#[tactic(auto, using(text::specs::WriteLaws::then))]
 fn write_open(out: &mut [u8], at: usize, radius: f64, verts: u32, faces: u32) -> usize
     requires { at + 51 + decimal_length verts + decimal_length faces ≤ length out.old }
     ensures value { result ≡ at + 51 + decimal_length verts + decimal_length faces }
@@ -30,6 +35,7 @@ fn write_open(out: &mut [u8], at: usize, radius: f64, verts: u32, faces: u32) ->
 }
 
 // (vert h h h)
+#[tactic(auto, using(text::specs::WriteLaws::then))]
 fn write_vert(out: &mut [u8], at: usize, x: f64, y: f64, z: f64) -> usize
     requires { at + 58 ≤ length out.old }
     ensures value { result ≡ at + 58 }
@@ -42,6 +48,7 @@ fn write_vert(out: &mut [u8], at: usize, x: f64, y: f64, z: f64) -> usize
 }
 
 // (face N N N)
+#[tactic(auto, using(text::specs::WriteLaws::then))]
 fn write_face(out: &mut [u8], at: usize, a: u32, b: u32, c: u32) -> usize
     requires { at + 10 + decimal_length a + decimal_length b + decimal_length c ≤ length out.old }
     ensures value { result ≡ at + 10 + decimal_length a + decimal_length b + decimal_length c }
@@ -53,28 +60,14 @@ fn write_face(out: &mut [u8], at: usize, a: u32, b: u32, c: u32) -> usize
     write_bytes(out, m, b")\n")
 }
 
-// A kernel as the store keeps it.
-#[derive(Clone, Copy)]
-struct Kept {
-    x: f64,
-    y: f64,
-    z: f64,
-    sigma: f64,
-    w: f64,
-    alpha: f64,
-}
-
-// The kernel of a place.
-fn kept_at(floats: &[f64], i: usize) -> Kept
+// The kernel of a place, as the store keeps it.
+fn kept_at(floats: &[f64], i: usize) -> Kernel
     requires { (i < place_limit) × (coords_from ≤ length floats.now) }
-    ensures { (layer : ℕ) → put_of i result.x result.y result.z result.sigma result.w result.alpha layer
-        ≡ put_in floats.now i layer }
+    ensures { (layer : ℕ) → put_of i result layer ≡ put_in floats.now i layer }
 {
     let k = KERNEL + KERNEL_SIZE * i;
-    Kept {
-        x: floats[k],
-        y: floats[k + 1],
-        z: floats[k + 2],
+    Kernel {
+        c: [floats[k], floats[k + 1], floats[k + 2]],
         sigma: floats[k + 3],
         w: floats[k + 4],
         alpha: floats[k + 5],
@@ -82,25 +75,25 @@ fn kept_at(floats: &[f64], i: usize) -> Kept
 }
 
 // (put P (c h h h
-fn write_place(out: &mut [u8], at: usize, place: u32, x: f64, y: f64, z: f64) -> usize
+#[tactic(auto, using(text::specs::WriteLaws::then))]
+fn write_place(out: &mut [u8], at: usize, place: u32, centre: [f64; 3]) -> usize
     requires { at + 59 + decimal_length place ≤ length out.old }
     ensures value { result ≡ at + 59 + decimal_length place }
-    ensures wrote { Wrote out.old at (centre_text place x y z) result out.new }
+    ensures wrote { Wrote out.old at (centre_text place centre) result out.new }
 {
     let a = write_number(out, at, b"(put ", place as u64);
-    let b = write_real(out, a, b" (c ", x);
-    let c = write_real(out, b, b" ", y);
-    write_real(out, c, b" ", z)
+    let b = write_real(out, a, b" (c ", centre[0]);
+    let c = write_real(out, b, b" ", centre[1]);
+    write_real(out, c, b" ", centre[2])
 }
 
 // (put P (c h h h) (sigma h) (w h) (alpha h) (layer N))
-fn write_put(out: &mut [u8], at: usize, place: u32, k: Kept, layer: u32) -> usize
+fn write_put(out: &mut [u8], at: usize, place: u32, k: Kernel, layer: u32) -> usize
     requires { at + 142 + decimal_length place + decimal_length layer ≤ length out.old }
     ensures value { result ≡ at + 142 + decimal_length place + decimal_length layer }
-    ensures wrote { Wrote out.old at
-        (print put_line (put_of place k.x k.y k.z k.sigma k.w k.alpha layer)) result out.new }
+    ensures wrote { Wrote out.old at (print put_line (put_of place k layer)) result out.new }
 {
-    let a = write_place(out, at, place, k.x, k.y, k.z);
+    let a = write_place(out, at, place, k.c);
     let b = write_real(out, a, b") (sigma ", k.sigma);
     let c = write_real(out, b, b") (w ", k.w);
     let d = write_real(out, c, b") (alpha ", k.alpha);
@@ -109,33 +102,31 @@ fn write_put(out: &mut [u8], at: usize, place: u32, k: Kept, layer: u32) -> usiz
 }
 
 // The lines of n vertices.
+#[tactic(auto, using(crate::proofs::Writing::verts))]
 fn write_verts(out: &mut [u8], at: usize, floats: &[f64], n: usize) -> usize
     requires { (at + 58 * n ≤ length out.old) × (coords_from + 3 * n ≤ length floats.now) }
     ensures value { result ≡ at + 58 * n }
     ensures wrote { Wrote out.old at (vert_rows floats.now n 0) result out.new }
 {
     let mut k = at;
-    let mut i: usize = 0;
-    while i < n {
+    for i in 0..n {
         let j = COORDS + 3 * i;
         k = write_vert(out, k, floats[j], floats[j + 1], floats[j + 2]);
-        i += 1;
     }
     k
 }
 
 // The lines of n faces.
+#[tactic(auto, using(crate::proofs::Writing::faces))]
 fn write_faces(out: &mut [u8], at: usize, words: &[u32], n: usize) -> usize
     requires { (at + length (face_rows width words.now n 0) ≤ length out.old)
         × (corners_from width + 3 * n ≤ length words.now) }
     ensures { Wrote out.old at (face_rows width words.now n 0) result out.new }
 {
     let mut k = at;
-    let mut i: usize = 0;
-    while i < n {
+    for i in 0..n {
         let j = CORNERS + 3 * i;
         k = write_face(out, k, words[j], words[j + 1], words[j + 2]);
-        i += 1;
     }
     k
 }
@@ -160,6 +151,7 @@ fn write_row(out: &mut [u8], at: usize, floats: &[f64], words: &[u32], i: usize)
 }
 
 // The lines of all places.
+#[tactic(auto, using(crate::proofs::Writing::puts))]
 fn write_puts(out: &mut [u8], at: usize, floats: &[f64], words: &[u32]) -> usize
     requires { (at + length (put_rows width floats.now words.now place_limit 0) ≤ length out.old)
         × (coords_from ≤ length floats.now) × (corners_from width ≤ length words.now) }
@@ -167,10 +159,8 @@ fn write_puts(out: &mut [u8], at: usize, floats: &[f64], words: &[u32]) -> usize
         (put_rows width floats.now words.now place_limit 0) result out.new }
 {
     let mut k = at;
-    let mut i: usize = 0;
-    while i < PLACES {
+    for i in 0..PLACES {
         k = write_row(out, k, floats, words, i);
-        i += 1;
     }
     k
 }
@@ -190,25 +180,24 @@ fn write_lines(floats: &[f64], words: &[u32], verts: u32, faces: u32, out: &mut 
 }
 
 // The lines of a sound store, if the bytes have room for them.
-fn write_sound(floats: &[f64], words: &[u32], out: &mut [u8]) -> Printed
+fn write_sound(floats: &[f64], words: &[u32], out: &mut [u8]) -> Result<u64, Refusal>
     requires { Fine width floats.now words.now }
-    ensures { printout (printed_as result) out.new
+    ensures { printout (counted_as result) out.new
         ≡ text_answer (written width floats.now words.now) out.old }
 {
     if !has_room(words, out.len()) {
-        return Printed::Refused(Refusal::ShortText);
+        return Err(Refusal::ShortText);
     }
     let n = write_lines(floats, words, words[0], words[1], out);
-    Printed::Bytes(n as u64)
+    Ok(n as u64)
 }
 
 // Writes a store as lines into lent bytes; answers how many bytes they are.
-pub fn write_store(floats: &[f64], words: &[u32], out: &mut [u8]) -> Printed
-    ensures { printout (printed_as result) out.new
+#[tactic(auto, unfolding(script::specs::Written::write_step), using(layout::specs::SoundLaws::fine))]
+pub fn write_store(floats: &[f64], words: &[u32], out: &mut [u8]) -> Result<u64, Refusal>
+    ensures { printout (counted_as result) out.new
         ≡ write_step width floats.now words.now out.old }
 {
-    match check_store(floats, words) {
-        Checked::Failed(r) => Printed::Refused(r),
-        Checked::Passed => write_sound(floats, words, out),
-    }
+    check_store(floats, words)?;
+    write_sound(floats, words, out)
 }

@@ -3,11 +3,12 @@ use mathlib.Core.Path.{subst⁻¹}
 use native.Mathlib.Nat.{le_refl}
 use lib.ListN.{get_or}
 use lib.Ieee.{nan}
-use Rattle.base.specs.FillLaws.{none_filled, fills}
+use Rattle.base.specs.FillLaws.{fills}
 use Rattle.base.specs.Ranges.{Within}
 use Rattle.arcs.proofs.Points.{halved_of}
 use Rattle.arcs.specs.ListLaws.{fills_if, clear_or, clear_zero, all_filled, all_if}
 use borrow.Author.Rules.{rules}
+use borrow.Author.Tests.{eqb-true}
 use Rattle.arcs.proofs.halve.Goals as goal
 
 pub loop-i-preserved : goal.loop-i-preserved
@@ -28,13 +29,5 @@ pub returns : goal.returns
 returns c =
     let l = c.loop-i in (
       all_filled l.invariant.0 (search rules),
-      λ e. all_if l.invariant.1 (search rules) (clear_zero 54 l.coarse l.far e),
+      λ e. all_if l.invariant.1 (search rules) (clear_zero 54 l.coarse l.far (eqb-true _ _ e)),
     )
-
-pub loop-i-init : goal.loop-i-init
-loop-i-init c = search (none_filled, rules)
-
-pub unit_lane-p-requires : goal.unit_lane-p-requires
-unit_lane-p-requires c =
-    c.requires.3.at c.loop-i.i
-    (search rules)

@@ -1,4 +1,4 @@
-use Prim.Native.Nat.{ℕ, ◌-◌}
+use Prim.Native.Nat.{ℕ}
 use mathlib.Core.Path.{◌≡◌}
 use lib.ListN.{get_or, length}
 use lib.Ieee.{Float, nan, binary64}
@@ -16,6 +16,3 @@ invariant-loop-i l = Filled (length l.initial.v) (λ (j : ℕ) (z : Float). With
     (If (Clear 54 l.coarse l.far)
     (λ (j : ℕ) (z : Float). z ≡ get_or l.initial.v j nan ⊘ (one ⊕ square_root binary64 (get_or l.radicands j nan))))
     l.initial.v l.i l.v
-
-abbrev pub decreases-loop-i : goal.decreases-loop-i
-decreases-loop-i l = l.n - l.i

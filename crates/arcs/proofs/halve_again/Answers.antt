@@ -9,10 +9,6 @@ returns c =
     (c.halve_by.ensures.1 e)
 
 pub halve_by-requires : goal.halve_by-requires
-halve_by-requires c = (
-  search rules,
-  search rules,
-  search rules,
-  radicands_of c.args.v.now c.requires.3 c.guess_second.ensures,
-  c.requires.3,
-)
+halve_by-requires c =
+    let t = c.requires.3 in
+    (search rules, search rules, search rules, radicands_of c.args.v.now t c.guess_second.ensures, t)

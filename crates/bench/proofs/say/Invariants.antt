@@ -1,9 +1,6 @@
--- `bench::say` is safe and ends: each turn writes some of what is left. Assumes nothing.
-use Prim.Native.Nat.{◌≤◌, ◌-◌}
+-- `bench::say` ends: each turn writes some of what is left. Assumes nothing.
+use Rattle.std.proofs.Common.{length}
 use Rattle.bench.proofs.say.Given as goal
 
-abbrev pub invariant-loop-done : goal.invariant-loop-done
-invariant-loop-done g l = l.done ≤ l.n
-
-abbrev pub decreases-loop-done : goal.decreases-loop-done
-decreases-loop-done g l = l.n - l.done
+abbrev pub decreases-loop-left : goal.decreases-loop-left
+decreases-loop-left g l = length l.left

@@ -1,4 +1,3 @@
-use Prim.Native.Nat.{◌-◌}
 use Rattle.base.specs.FillLaws.{Filled}
 use Rattle.arcs.specs.Lists.{Of}
 use Rattle.lanes.specs.Factors.{factor}
@@ -6,6 +5,3 @@ use Rattle.lanes.proofs.one_by_one.Given as goal
 
 abbrev pub invariant-loop-i : goal.invariant-loop-i
 invariant-loop-i l = Filled 28 (Of (factor l.sigma) l.x) l.initial.g l.i l.g
-
-abbrev pub decreases-loop-i : goal.decreases-loop-i
-decreases-loop-i l = 28 - l.i

@@ -10,7 +10,7 @@ unfolding feed_end
 returns-then-st-eq0 c =
     let z = c.if-st-eq0.true in
     let p = c.requires in
-    rw (eq-eqb _ _ z, z) (record {
+    rw (eq-eqb _ _ z) (record {
       small = (p, omega arith);
       feeds = (refl, record { next = refl; run = refl });
     })

@@ -10,6 +10,6 @@ returns c =
     let e = c.respond-s.ensures in
     let a = c.args in
     rw (← c.line_in-l.ensures) (record {
-      small = e.small;
+      small = e.small_after;
       feeds = (ap (λ (s : Session). held_with s a.line.now 0) e.does.0, e.does.1);
     })

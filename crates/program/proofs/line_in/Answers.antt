@@ -13,7 +13,7 @@ returns-then-count-gt256 c = rw (lt-leb _ _ c.if-count-gt256.true)
 pub slice_bounds-parse_line-end : goal.slice_bounds-parse_line-end
 slice_bounds-parse_line-end c =
     let a = c.args in
-    sym (length-take-le a.count a.line.now (omega (arith, c.requires, c.if-count-gt256.false)))
+    sym (length-take-le a.count a.line.now (omega (arith, c.if-count-gt256.false)))
 
 pub returns : goal.returns
 unfolding line_in

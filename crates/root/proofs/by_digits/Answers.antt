@@ -1,21 +1,11 @@
 -- `root::by_digits` meets its contract: half of the whole root of d * 2 ^ 54, rounded up at an odd one, is the root of
 -- d * 2 ^ 52, rounded. Assumes nothing.
-use Rattle.std.proofs.Common.{ℕ, ◌+◌, ◌/◌, sym, subst, arith}
+use Rattle.std.proofs.Common.{ℕ, ◌+◌, ◌/◌, sym, subst}
 use Rattle.root.specs.Root.{Rounded}
 use Rattle.root.specs.Floors.{of_floor}
-use Rattle.root.specs.Rounds.{digits-most}
 use Rattle.root.proofs.Confirms.{rounded_of}
 use Rattle.root.proofs.Assemble.{low_bit}
 use Rattle.root.proofs.by_digits.Goals as goal
-
-pub overflow_add-result : goal.overflow_add-result
-overflow_add-result c =
-    omega (
-      arith,
-      low_bit c.whole_root-w.result.root,
-      digits-most c.args.d c.whole_root-w.result.root c.requires.1
-          (of_floor c.whole_root-w.ensures),
-    )
 
 pub returns : goal.returns
 returns c =

@@ -1,6 +1,5 @@
 -- `root::nearest` meets its contract: a confirmed guess, or the digits. Assumes nothing.
-use Rattle.std.proofs.Common.{◌≡◌, ℕ, ◌*◌, ◌%◌, ◌^◌, ◌<◌, ◌≤◌, sym, subst, ⊎_elim, rules}
-use Rattle.root.specs.Root.{Rounded}
+use Rattle.std.proofs.Common.{◌≡◌, ℕ, ◌*◌, ◌%◌, ◌^◌, ◌<◌, ◌≤◌, sym, subst}
 use Rattle.root.proofs.Assemble.{shifted}
 use Rattle.root.proofs.nearest.Goals as goal
 
@@ -8,8 +7,8 @@ at : (sig odd : ℕ) → (2 ^ 52 ≤ sig) × (sig < 2 ^ 53) × (odd < 2)
     → (2 ^ 52 ≤ sig * 2 ^ odd) × (sig * 2 ^ odd < 2 ^ 54) × (sig * 2 ^ odd % 2 ^ 64 ≡ sig * 2 ^ odd)
 at sig odd r = shifted sig odd r.0 r.1 r.2
 
-pub confirm-a-requires : goal.confirm-a-requires
-confirm-a-requires c =
+pub confirm-requires : goal.confirm-requires
+confirm-requires c =
     let s = at c.args.sig c.args.odd (c.requires.0, c.requires.1, c.requires.2) in
     (subst (λ (d : ℕ). d < 2 ^ 54) (sym s.2) s.1, c.guess.ensures.0, c.guess.ensures.1)
 
@@ -17,14 +16,3 @@ pub by_digits-requires : goal.by_digits-requires
 by_digits-requires c =
     let s = at c.args.sig c.args.odd (c.requires.0, c.requires.1, c.requires.2) in
     (subst (λ (d : ℕ). 2 ^ 52 ≤ d) (sym s.2) s.0, subst (λ (d : ℕ). d < 2 ^ 54) (sym s.2) s.1)
-
-pub returns-then-a-eq0 : goal.returns-then-a-eq0
-returns-then-a-eq0 c =
-    subst (λ (d : ℕ). Rounded d c.by_digits.result) (at c.args.sig c.args.odd (c.requires.0, c.requires.1, c.requires.2)).2
-    c.by_digits.ensures
-
-pub returns : goal.returns
-returns c =
-    ⊎_elim (λ z. absurd (c.if-a-eq0.false z))
-    (λ r. subst (λ (d : ℕ). Rounded d c.confirm-a.result) (at c.args.sig c.args.odd (c.requires.0, c.requires.1, c.requires.2)).2 r)
-    c.confirm-a.ensures

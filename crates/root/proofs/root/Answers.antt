@@ -1,10 +1,10 @@
 -- `root::root` meets its contract. Assumes nothing.
 use Rattle.std.proofs.Common.{true, ◌≡◌, ℕ, ◌+◌, ◌*◌, ◌/◌, ◌%◌, ◌^◌, ◌<◌, ◌≤◌, false, T, ◌⊎◌, sym, refl, ap, ◌∙◌, subst, inl, inr, not-le_of_lt, arith}
 use lib.Bits.{bit_and}
-use lib.Ieee.{Float, inf, binary64, to_bits, fits}
+use lib.Ieee.{Float, nan, of_bits, inf, binary64, to_bits, fits}
 use lib.Ieee.Positive.{positive}
 use Rattle.base.specs.Split.{units_at, Scaled}
-use Rattle.base.specs.FloatLaws.{no_nan, the_rest, no_nan-below, zero-over-zero}
+use Rattle.base.specs.FloatLaws.{no_nan, the_rest, no_nan-below}
 use Rattle.base.specs.UnitLaws.{bits-under, bits_above}
 use Rattle.root.specs.Root.{square_root, Rounded}
 use Rattle.root.specs.Cases.{of_nan, of_zero, of_negative, of_infinity}
@@ -14,6 +14,11 @@ use Rattle.root.proofs.root.Goals as goal
 -- what owning an `f64` tells: the format holds it
 held : (x : Float) → true ≡ fits binary64 x → T (fits binary64 x)
 held x e = subst T e tt
+
+-- the float that the library names so
+not_a_number : of_bits binary64 9221120237041090560 ≡ nan
+unfolding of_bits
+not_a_number = refl
 
 infinite : (x : Float) → T (fits binary64 x) → (x ≡ inf false) ⊎ T (positive x)
     → 9218868437227405312 ≤ to_bits binary64 x → x ≡ square_root binary64 x
@@ -48,7 +53,7 @@ pub returns-then-x-2 : goal.returns-then-x-2
 returns-then-x-2 c = of_zero c.args.x c.if-x-2.true
 
 pub returns-then-x-3 : goal.returns-then-x-3
-returns-then-x-3 c = zero-over-zero ∙ sym (of_negative c.args.x c.if-x-3.true)
+returns-then-x-3 c = not_a_number ∙ sym (of_negative c.args.x c.if-x-3.true)
 
 pub float_to_bits-b : goal.float_to_bits-b
 float_to_bits-b c = no_nan c.args.x c.if-x.false
@@ -63,17 +68,6 @@ take-p-requires c = (
   bits_above c.args.x (held c.args.x (sym c.well_formed.0.1)) (above_zero c.args.x (the_rest c.args.x c.if-x.false c.if-x-2.false c.if-x-3.false) c.if-b-ge9218868437227405312.false),
   c.if-b-ge9218868437227405312.false,
 )
-
-pub nearest-a-requires : goal.nearest-a-requires
-nearest-a-requires c = (
-  c.take-p.ensures.0.least,
-  c.take-p.ensures.0.most,
-  omega (arith, low_bit c.take-p.result.ex),
-  c.take-p.ensures.1,
-)
-
-pub overflow_add-result-2 : goal.overflow_add-result-2
-overflow_add-result-2 c = omega (arith, small (units_at (to_bits binary64 c.args.x)) c.take-p.result.sig c.take-p.result.ex c.nearest-a.result c.take-p.ensures.0 c.nearest-a.ensures)
 
 pub float_from_bits-result : goal.float_from_bits-result
 float_from_bits-result c =

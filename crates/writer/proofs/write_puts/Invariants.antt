@@ -1,13 +1,9 @@
-use Prim.Native.Nat.{◌-◌, ◌≤◌}
+use Prim.Native.Nat.{◌-◌}
 use Rattle.script.specs.Written.{put_rows}
 use Rattle.layout.specs.Layout.{width}
 use Rattle.script.specs.LineLaws.{Todo}
 use Rattle.writer.proofs.write_puts.Given as goal
 
 abbrev pub invariant-loop-i : goal.invariant-loop-i
-invariant-loop-i l = (l.i ≤ 32)
-    × Todo l.initial.out l.at (put_rows width l.floats l.words 32 0) l.out l.k
+invariant-loop-i l = Todo l.initial.out l.at (put_rows width l.floats l.words 32 0) l.out l.k
     (put_rows width l.floats l.words (32 - l.i) l.i)
-
-abbrev pub decreases-loop-i : goal.decreases-loop-i
-decreases-loop-i l = 32 - l.i

@@ -7,7 +7,7 @@ use Rattle.text.specs.Print.{Wrote}
 use Rattle.text.specs.Form.{print}
 use Rattle.layout.specs.Layout.{width, layer_of}
 use Rattle.script.specs.Lines.{put_line}
-use Rattle.script.specs.LineLaws.{row_empty, row_filled, row-bytes}
+use Rattle.script.specs.LineLaws.{row_empty, row_filled, row_bytes}
 use Rattle.script.specs.LineLaws.{wrote_none}
 use Rattle.writer.proofs.write_row.Goals as goal
 
@@ -20,7 +20,7 @@ pub write_put-requires : goal.write_put-requires
 write_put-requires c =
     let a = c.args in
     let filled = c.if-words-i-eq0.false in
-    omega (arith, c.requires.0, row-bytes width a.floats.now a.words.now a.i filled)
+    omega (arith, c.requires.0, row_bytes width a.floats.now a.words.now a.i filled)
 
 pub returns : goal.returns
 returns c =

@@ -8,9 +8,6 @@ use Rattle.script.specs.Written.{written}
 use Rattle.script.specs.LineLaws.{too_few, enough}
 use Rattle.writer.proofs.write_sound.Goals as goal
 
-pub has_room-requires : goal.has_room-requires
-has_room-requires c = let b = c in (b.args.floats.now, b.requires)
-
 pub returns-then-not-has_room : goal.returns-then-not-has_room
 returns-then-not-has_room c =
     let a = c.args in

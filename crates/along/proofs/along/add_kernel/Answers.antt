@@ -1,8 +1,16 @@
--- `along::add_kernel` meets its contract, either way. Assumes nothing.
-use mathlib.Core.Path.{sym, ◌∙◌}
+-- `add_kernel` meets its contract, either way. Assumes nothing.
+use Rattle.std.proofs.Common.{sym, ◌∙◌, rules}
+use Rattle.along.specs.AlongLaws.{lanes_unit_at}
 use Rattle.along.proofs.along.add_kernel.Goals as goal
 
-pub add_unit-requires : goal.add_unit-requires
-add_unit-requires c =
-    let z = c.requires in
-    (sym c.is_unit.ensures ∙ c.if-is_unit.true, z.0, z.1)
+pub returns-then-is_unit : goal.returns-then-is_unit
+returns-then-is_unit c =
+    let a = c.args in
+    lanes_unit_at a.points.now.count a.points.now.x a.points.now.y a.points.now.z a.rho.now a.k c.unit_of-u.result _
+    (sym c.is_unit.ensures ∙ c.if-is_unit.true, c.unit_of-u.ensures)
+    (record { long = c.at_each.ensures.long; at = λ i l. let h = c.at_each.ensures.at i l in search rules })
+
+pub returns-else-is_unit : goal.returns-else-is_unit
+returns-else-is_unit c =
+    let e = c.at_each-else-is_unit.ensures in
+    record { long = e.long; at = λ i l. let h = e.at i l in search rules }

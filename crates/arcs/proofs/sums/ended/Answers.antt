@@ -5,7 +5,6 @@ use Rattle.base.specs.Floats.{◌⊗◌}
 use Rattle.base.specs.Constants.{four}
 use Rattle.powers.specs.Arc.{arc_core}
 use Rattle.arcs.proofs.Parts.{none_left}
-use borrow.Author.Rules.{rules}
 use Rattle.arcs.proofs.sums.ended.Goals as goal
 
 pub returns : goal.returns
@@ -13,6 +12,3 @@ unfolding arc_core
 returns c =
     let v = c.args.v in
     ap (λ (a : Float). four ⊗ (v ⊗ a)) (none_left (v ⊗ v) c.steps.result c.steps.ensures)
-
-pub steps-requires : goal.steps-requires
-steps-requires c = (search rules, search rules, c.requires)

@@ -1,4 +1,4 @@
-use Prim.Native.Nat.{ℕ, ◌-◌}
+use Prim.Native.Nat.{ℕ}
 use lib.ListN.{get_or, length}
 use lib.Ieee.{Float, nan}
 use Rattle.base.specs.FillLaws.{Filled}
@@ -10,6 +10,3 @@ abbrev pub invariant-loop-i : goal.invariant-loop-i
 invariant-loop-i l =
     Filled (length l.initial.g) (λ (j : ℕ) (a : Float). StepsLeft 7 (get_or l.v j nan ⊗ get_or l.v j nan) a) l.initial.g
     l.i l.g
-
-abbrev pub decreases-loop-i : goal.decreases-loop-i
-decreases-loop-i l = l.n - l.i

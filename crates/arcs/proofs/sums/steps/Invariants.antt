@@ -5,6 +5,3 @@ use Rattle.arcs.proofs.sums.steps.Given as goal
 
 abbrev pub invariant-loop-k : goal.invariant-loop-k
 invariant-loop-k l = (l.to ≤ l.k) × (l.k ≤ 11) × Lower (arc_term l.q) l.k l.a (arc_sum l.q)
-
-abbrev pub decreases-loop-k : goal.decreases-loop-k
-decreases-loop-k l = l.k

@@ -4,10 +4,10 @@ use Rattle.calls.specs.Texts.{clear_text}
 use Rattle.calls.proofs.Answers.{answering, clear-done, clear-refused}
 use Rattle.calls.proofs.answer.answer_clear.Goals as goal
 
-pub returns-in-Done : goal.returns-in-Done
-returns-in-Done c =
+pub returns-in-Ok : goal.returns-in-Ok
+returns-in-Ok c =
     let place = c.args.place in
-    let w = answering (clear_text place) (clear-done place c.in-Done.is) c.clear.ensures
+    let w = answering (clear_text place) (clear-done place c.in-Ok.is) c.clear.ensures
     (then c.write_clear-at.ensures.wrote c.newline.ensures.wrote) in
     record {
       upper_bound = c.newline.ensures.upper_bound;
@@ -16,10 +16,10 @@ returns-in-Done c =
       wrote = w.1.1;
     }
 
-pub returns-in-Refused : goal.returns-in-Refused
-returns-in-Refused c =
+pub returns-in-Err : goal.returns-in-Err
+returns-in-Err c =
     let place = c.args.place in
-    let w = answering (clear_text place) (clear-refused place c.in-Refused.is) c.clear.ensures
+    let w = answering (clear_text place) (clear-refused place c.in-Err.is) c.clear.ensures
     c.answer_no.ensures.wrote in
     record {
       upper_bound = c.answer_no.ensures.upper_bound;

@@ -6,5 +6,5 @@ pub returns : goal.returns
 returns c =
     record {
       upper_bound = c.newline.ensures.upper_bound;
-      wrote = rw (← c.refusal_number.ensures) (then c.write_no-at.ensures.wrote c.newline.ensures.wrote);
+      wrote = rw (← c.from.ensures) (then c.write_no-at.ensures.wrote c.newline.ensures.wrote);
     }

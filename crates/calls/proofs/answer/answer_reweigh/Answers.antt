@@ -4,10 +4,10 @@ use Rattle.calls.specs.Texts.{reweigh_text}
 use Rattle.calls.proofs.Answers.{answering, reweigh_done, reweigh_refused}
 use Rattle.calls.proofs.answer.answer_reweigh.Goals as goal
 
-pub returns-in-Done : goal.returns-in-Done
-returns-in-Done c =
+pub returns-in-Ok : goal.returns-in-Ok
+returns-in-Ok c =
     let place = c.args.place in
-    let w = answering (reweigh_text place) (reweigh_done place c.in-Done.is) c.reweigh.ensures
+    let w = answering (reweigh_text place) (reweigh_done place c.in-Ok.is) c.reweigh.ensures
     (then c.write_reweigh-at.ensures.wrote c.newline.ensures.wrote) in
     record {
       upper_bound = c.newline.ensures.upper_bound;
@@ -16,10 +16,10 @@ returns-in-Done c =
       wrote = w.1.1;
     }
 
-pub returns-in-Refused : goal.returns-in-Refused
-returns-in-Refused c =
+pub returns-in-Err : goal.returns-in-Err
+returns-in-Err c =
     let place = c.args.place in
-    let w = answering (reweigh_text place) (reweigh_refused place c.in-Refused.is) c.reweigh.ensures
+    let w = answering (reweigh_text place) (reweigh_refused place c.in-Err.is) c.reweigh.ensures
     c.answer_no.ensures.wrote in
     record {
       upper_bound = c.answer_no.ensures.upper_bound;

@@ -3,7 +3,7 @@ use mathlib.Core.Path.{◌≡◌, refl}
 use mathlib.Core.List.{[], ◌∷◌}
 use Prim.Native.Nat.{◌+◌, ◌-◌, ◌*◌}
 use native.Mathlib.Omega.{arith}
-use lib.ListN.{length, drop, length-drop, length-set}
+use lib.ListN.{length, drop, length-drop}
 use lib.Seq.{length-take-le}
 use Rattle.layout.specs.Layout.{place_limit, corners_from, verts_of, faces_of, corners_of}
 use Rattle.layout.specs.Runs.{write}
@@ -19,26 +19,10 @@ returns c =
     let u = c.args.words.now in
     let w = c.args.old_words.now in
     let n : corners_from old_width + 3 * faces_of w - corners_from old_width ≡ 3 * faces_of w = omega arith in
-    let e : c.copy_words.new.words ≡ write r.new.words 130 (corners_of old_width w)
-    = rw n at c.copy_words.ensures in
+    let e : c.copy.new.run ≡ write r.new.words 130 (corners_of old_width w)
+    = rw n at c.copy.ensures in
     let l : length (corners_of old_width w) ≡ 3 * faces_of w
     = length-take-le (3 * faces_of w) (drop 98 w) (rw length-drop (omega arith)) in
     rw (e, r.ensures, sets-write (verts_of w ∷ faces_of w ∷ []) u 0 (omega arith))
     (laid u (verts_of w ∷ faces_of w ∷ []) (carried_rows w place_limit) (corners_of old_width w) 130
     (rw (rows-length w place_limit) refl) (omega arith))
-
-pub bounds-words-1 : goal.bounds-words-1
-bounds-words-1 c = simp length-set (omega arith)
-
-pub write_rows-requires : goal.write_rows-requires
-write_rows-requires c = (simp length-set (omega arith), omega arith)
-
-pub copy_words-requires : goal.copy_words-requires
-copy_words-requires c = omega (arith, simp length-set at c.write_rows.auto.words)
-
-pub shape_of-words : goal.shape_of-words
-shape_of-words c =
-    omega (
-      arith,
-      simp length-set at c.write_rows.auto.words,
-    )

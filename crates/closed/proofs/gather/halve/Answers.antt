@@ -7,4 +7,4 @@ use Rattle.closed.proofs.gather.halve.Goals as goal
 pub returns : goal.returns
 returns c =
     halved c.requires.fact_2 (search rules) c.order.ensures
-    c.below-count.ensures c.push-depth.ensures
+    c.below-count.ensures

@@ -5,9 +5,6 @@ use Rattle.closed.specs.HeldLaws.{counted}
 use Rattle.closed.proofs.gather.take_faces.Given as goal
 
 abbrev pub invariant-loop-k : goal.invariant-loop-k
-invariant-loop-k l = (l.k ≤ l.near) × (l.n + 3 * (l.near - l.k) ≤ 61440)
-    × Listed l.corners (l.low / 1048576) (l.room.end / 1048576) 1 l.from (l.from + l.faces) l.list l.near
-    × Gathered l.corners l.low (counted l.room l.n) l.words (3 * behind 1 l.from l.list l.k)
-
-abbrev pub decreases-loop-k : goal.decreases-loop-k
-decreases-loop-k l = l.near - l.k
+invariant-loop-k l = (l.n + 3 * (l.near - l.k) ≤ 61440)
+    × Listed l.faces.corners.list.now (l.low / 1048576) (l.room.end / 1048576) 1 l.from (l.from + l.count) l.list l.near
+    × Gathered l.faces.corners.list.now l.low (counted l.room l.n) l.words (3 * behind 1 l.from l.list l.k)

@@ -1,5 +1,4 @@
-use Prim.Native.Nat.{◌-◌}
-use lib.ListN.{length}
+use Rattle.std.proofs.Common.{◌-◌, length}
 use Rattle.convert.proofs.Scans.{Scanned}
 use Rattle.convert.proofs.lines.scan_lines.Given as goal
 

@@ -1,4 +1,4 @@
-use Prim.Native.Nat.{◌-◌}
+use Rattle.std.specs.Prelude.{◌/◌, length}
 use Rattle.base.specs.LoopLaws.{Left}
 use Rattle.kernel.specs.Kernels.{kernel_at}
 use Rattle.density.specs.Densitize.{density_to, densitize_of}
@@ -6,7 +6,5 @@ use Rattle.density.proofs.densitize.density_sum.Given as goal
 
 abbrev pub invariant-loop-i : goal.invariant-loop-i
 invariant-loop-i l =
-    Left (density_to (kernel_at l.kernels) l.x) l.n l.i l.rho (densitize_of (kernel_at l.kernels) l.n l.x)
-
-abbrev pub decreases-loop-i : goal.decreases-loop-i
-decreases-loop-i l = l.n - l.i
+    Left (density_to (kernel_at l.kernels) l.x) (length l.kernels / 6) l.i l.rho
+    (densitize_of (kernel_at l.kernels) (length l.kernels / 6) l.x)

@@ -1,8 +1,6 @@
 -- The tokens of the form, one after the other. Assumes nothing.
-use mathlib.Core.Path.{◌∙◌}
-use Prim.Native.Nat.{◌-◌, ◌^◌}
+use Rattle.std.proofs.Common.{◌-◌, ◌^◌, ◌∙◌, [], ◌∷◌}
 use Rattle.text.specs.Text.{bytes, literal, decimal}
-use Rattle.text.specs.Form.{◌&◌}
 use Rattle.forms.proofs.parts.face.Goals as goal
 
 pub returns : goal.returns
@@ -14,4 +12,4 @@ returns c =
     let z· = c.read_bytes-3.ensures ∙ (λ i. literal (bytes " ") (y i).text) in
     let z = c.read_u32-c.ensures ∙ (λ i. decimal (2 ^ 32 - 1) (z· i)) in
     let e = c.read_bytes-4.ensures ∙ (λ i. literal (bytes ")") (z i).text) in
-    (λ i. record { val = (x i).val & (y i).val & (z i).val & tt; text = e i })
+    (λ i. record { val = (x i).val ∷ (y i).val ∷ (z i).val ∷ []; text = e i })

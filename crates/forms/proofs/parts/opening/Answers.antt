@@ -2,7 +2,6 @@
 use mathlib.Core.Path.{◌∙◌}
 use Prim.Native.Nat.{◌-◌, ◌^◌}
 use Rattle.text.specs.Text.{bytes, literal, float, decimal}
-use Rattle.text.specs.Form.{◌&◌}
 use Rattle.forms.proofs.parts.opening.Goals as goal
 
 pub returns : goal.returns
@@ -14,4 +13,4 @@ returns c =
     let f· = c.read_bytes-3.ensures ∙ (λ i. literal (bytes ") (faces ") (v i).text) in
     let f = c.read_u32-f.ensures ∙ (λ i. decimal (2 ^ 32 - 1) (f· i)) in
     let e = c.read_bytes-4.ensures ∙ (λ i. literal (bytes "))") (f i).text) in
-    (λ i. record { val = (r i).val & (v i).val & (f i).val & tt; text = e i })
+    (λ i. record { val = record { radius = (r i).val; verts = (v i).val; faces = (f i).val }; text = e i })

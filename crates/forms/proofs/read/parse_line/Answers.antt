@@ -9,11 +9,11 @@ returns-then-r-s c =
     let s = c.args.s.now in
     let r = c.read_line-r in
     let e = r.ensures ∙ sym (by_word_lem s) in
-    ended_is s r.result.at r.result.line c.if-r-s.true ∙ e
+    ended_is s r.result.at r.result.value c.if-r-s.true ∙ e
 
 pub returns-else-r-s : goal.returns-else-r-s
 returns-else-r-s c =
     let s = c.args.s.now in
     let r = c.read_line-r in
     let e = r.ensures ∙ sym (by_word_lem s) in
-    other-is s r.result.at r.result.line c.if-r-s.false ∙ e
+    other-is s r.result.at r.result.value c.if-r-s.false ∙ e

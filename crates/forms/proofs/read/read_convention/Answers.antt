@@ -9,7 +9,7 @@ use Rattle.forms.proofs.read.read_convention.Goals as goal
 pub returns : goal.returns
 returns c =
     let t = rest c.args.s.now c.args.at in
-    let r = c.first_rule.ensures ∙ (λ i. or (c.read_rho0.ensures i) (c.read_mass.ensures i))
+    let r = c.or-scaled.ensures ∙ (λ i. or (c.read_rho0.ensures i) (c.read_mass.ensures i))
     ∙ sym (choose-is rho0_form mass_form to_rho0 to_mass t) in
-    c.first_rule-2.ensures ∙ (λ i. or (c.read_raw.ensures i) (r i))
+    c.or.ensures ∙ (λ i. or (c.read_raw.ensures i) (r i))
     ∙ sym (choose-is raw_form (either rho0_form mass_form end) to_raw (choose to_rho0 to_mass) t)

@@ -1,7 +1,6 @@
 -- The part, as a line. Assumes nothing.
-use Rattle.text.specs.Form.{map}
-use Rattle.forms.specs.Forms.{to_face}
+use Rattle.forms.specs.declared.line.Line.TheVariants.{Face}
 use Rattle.forms.proofs.read.read_face.Goals as goal
 
 pub returns : goal.returns
-returns c = (λ i. map to_face (c.face-p.ensures i))
+returns c = (λ i. record { val = Face (c.face-p.ensures i).val; text = (c.face-p.ensures i).text })

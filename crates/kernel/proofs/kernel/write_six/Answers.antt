@@ -1,27 +1,15 @@
--- `kernel::kernel::write_six` meets its contract: six stores, one after the other. Assumes nothing.
-use mathlib.Core.Path.{refl}
-use native.Mathlib.Numerals.{add-one, add-two, add-three, add-four, add_five}
-use native.Mathlib.Omega.{arith}
-use lib.ListN.{length-set}
+-- `kernel::kernel::write_six` meets its contract: the six floats in the part that is written. Assumes nothing.
+use Rattle.std.proofs.Common.{◌≡◌, ◌+◌, ◌-◌, take, drop, sym, arith}
+use Rattle.std.proofs.Math.Path.{◌∙◌}
+use Rattle.std.proofs.Math.Seq.{sets-eq, drop-drop}
+use mathlib.Core.List.{append_assoc}
+use Rattle.kernel.specs.Kernels.{six}
 use Rattle.kernel.proofs.kernel.write_six.Goals as goal
 
-pub bounds-floats-at-2 : goal.bounds-floats-at-2
-bounds-floats-at-2 c = simp length-set (omega arith)
-
-pub bounds-floats-at-3 : goal.bounds-floats-at-3
-bounds-floats-at-3 c = simp length-set (omega arith)
-
-pub bounds-floats-at-4 : goal.bounds-floats-at-4
-bounds-floats-at-4 c = simp length-set (omega arith)
-
-pub bounds-floats-at-5 : goal.bounds-floats-at-5
-bounds-floats-at-5 c = simp length-set (omega arith)
-
-pub bounds-floats-at-6 : goal.bounds-floats-at-6
-bounds-floats-at-6 c = simp length-set (omega arith)
-
-pub shape_of-floats : goal.shape_of-floats
-shape_of-floats c = simp length-set
-
 pub returns : goal.returns
-returns c = rw (add-one, add-two, add-three, add-four, add_five) refl
+returns c =
+    let a = c.args in
+    let l = a.floats.now in
+    let e : a.at + 6 - a.at ≡ 6 = omega arith in
+    rw (c.copy_from_slice.ensures.after, e, drop-drop)
+    (sym (sets-eq (six a.k) l a.at (omega arith) ∙ append_assoc (take a.at l) (six a.k) (drop (a.at + 6) l)))

@@ -1,13 +1,10 @@
-use Prim.Native.Nat.{◌-◌}
-use Rattle.mesh.specs.Triangles.{triangle_at, face_count}
-use Rattle.base.specs.LoopLaws.{Left}
-use Rattle.mass.specs.Centroid.{face_moment_step, moment_to}
+use Rattle.std.proofs.Common.{◌≡◌}
+use Rattle.base.specs.Loops.{times}
+use Rattle.mesh.specs.Meshes.{triangles_of}
+use Rattle.volume.specs.Volume.{origin_point}
+use Rattle.mass.specs.Centroid.{face_moment_step}
 use Rattle.mass.proofs.centroid.moment_of.Given as goal
 
 abbrev pub invariant-loop-f : goal.invariant-loop-f
 invariant-loop-f l =
-    Left (face_moment_step (triangle_at l.xyz l.faces)) l.count l.f l.acc
-    (moment_to (triangle_at l.xyz l.faces) (face_count l.faces))
-
-abbrev pub decreases-loop-f : goal.decreases-loop-f
-decreases-loop-f l = l.count - l.f
+    l.acc ≡ times (face_moment_step (triangles_of l.mesh)) l.f 0 origin_point

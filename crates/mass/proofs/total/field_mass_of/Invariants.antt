@@ -1,12 +1,10 @@
-use Prim.Native.Nat.{◌-◌}
-use Rattle.mesh.specs.Triangles.{triangle_at, face_count}
-use Rattle.base.specs.LoopLaws.{Left}
-use Rattle.mass.specs.Total.{mass_step, field_mass}
+use Rattle.std.proofs.Common.{◌≡◌}
+use Rattle.base.specs.Floats.{+0}
+use Rattle.base.specs.Loops.{times}
+use Rattle.mesh.specs.Meshes.{face_count_of, triangles_of}
+use Rattle.mass.specs.Total.{mass_step}
 use Rattle.mass.proofs.total.field_mass_of.Given as goal
 
 abbrev pub invariant-loop-i : goal.invariant-loop-i
-invariant-loop-i l = Left (mass_step (triangle_at l.xyz l.faces) (face_count l.faces) l.kernels) l.count l.i l.total
-    (field_mass (triangle_at l.xyz l.faces) (face_count l.faces) l.kernels)
-
-abbrev pub decreases-loop-i : goal.decreases-loop-i
-decreases-loop-i l = l.count - l.i
+invariant-loop-i l =
+    l.total ≡ times (mass_step (triangles_of l.mesh) (face_count_of l.mesh) l.kernels) l.i 0 +0

@@ -1,19 +1,13 @@
--- `page::masses::place_printable` meets its contract. Assumes nothing.
-use native.Mathlib.Omega.{arith}
-use Rattle.page.proofs.Rows.{none-printable, one-printable}
+-- `page::masses::place_printable`: a filled place is printable by its mass. Assumes nothing.
+use Prim.Native.Nat.{◌-◌}
+use mathlib.Core.Path.{◌≡◌, refl}
+use Rattle.layout.specs.Layout.{width, status_of}
+use Rattle.page.proofs.Rows.{one_printable}
 use Rattle.page.proofs.masses.place_printable.Goals as goal
 
-pub returns-then-status-eq0 : goal.returns-then-status-eq0
-returns-then-status-eq0 c = none-printable _ _ _ c.if-status-eq0.true
-
-pub returns : goal.returns
-returns c =
-    one-printable _ _ _ c.pieces.result c.if-status-eq0.false c.pieces.ensures c.place_mass.result
-    c.place_mass.ensures c.abs.result c.abs.ensures
-
-pub place_mass-requires : goal.place_mass-requires
-place_mass-requires c = (
-  c.requires.0,
-  c.requires.1,
-  omega (arith, c.pieces.ensures, c.requires.2),
-)
+pub returns-else-status_at-eq0 : goal.returns-else-status_at-eq0
+returns-else-status_at-eq0 c =
+    let a = c.args in
+    let s = status_of width a.places.words.now a.i in
+    let filled : s ≡ 0 → ⊥ = rw c.status_at.ensures at c.if-status_at-eq0.false in
+    one_printable a.places.floats.now a.i s (s - 1) filled refl _ c.mass_with.ensures _ c.abs.ensures

@@ -1,13 +1,6 @@
-use mathlib.Core.Path.{◌≡◌}
-use Prim.Native.Nat.{◌-◌}
-use lib.ListN.{length}
 use Rattle.base.specs.LoopLaws.{Left}
 use Rattle.pieces.specs.Kernels.{lay_at, laid}
 use Rattle.pieces.proofs.kernels.lay_pieces.Given as goal
 
 abbrev pub invariant-loop-i : goal.invariant-loop-i
-invariant-loop-i l = Left (lay_at l.at l.k l.p) l.count l.i l.out (laid l.at l.k l.p l.initial.out)
-    × (length l.out ≡ length l.initial.out)
-
-abbrev pub decreases-loop-i : goal.decreases-loop-i
-decreases-loop-i l = l.count - l.i
+invariant-loop-i l = Left (lay_at l.at l.k l.p) l.p.count l.i l.out (laid l.at l.k l.p l.initial.out)

@@ -1,11 +1,22 @@
--- `fit` meets its contract: the two tables hold the curve's samples. Assumes nothing.
-use Rattle.pieces.specs.SampleLaws.{holds}
+-- `fit` meets its contract, by its callees'. Assumes nothing.
+use Rattle.pieces.specs.Pieces.{fitted}
 use Rattle.pieces.proofs.pieces.fit.Goals as goal
 
-pub fit_samples-requires : goal.fit_samples-requires
-fit_samples-requires c = (
-  c.requires.0,
-  c.requires.1,
-  c.requires.3,
-  holds _ _ _ c.requires.3 c.fill_points.ensures c.fill_targets.ensures,
-)
+pub returns : goal.returns
+unfolding fitted
+returns c =
+    let basis = c.of-basis.ensures in
+    let end = c.solve_for-fit.ensures in (
+      simp (
+        c.keep_terms.ensures,
+        c.none-pieces.ensures,
+        c.peak_error.ensures,
+        end.coefficients_after,
+        c.add_ridge.ensures,
+        c.add_samples.ensures,
+        basis.1,
+        basis.0,
+        c.of-sampled.ensures,
+      ),
+      simp (end.value, c.add_ridge.ensures, c.add_samples.ensures, basis.1, basis.0, c.of-sampled.ensures),
+    )

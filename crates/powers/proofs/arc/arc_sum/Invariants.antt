@@ -1,10 +1,6 @@
-use Rattle.std.proofs.Common.{◌≤◌}
 use Rattle.base.specs.LoopLaws.{Lower}
 use Rattle.powers.specs.Arc.{arc_term, arc_sum}
 use Rattle.powers.proofs.arc.arc_sum.Given as goal
 
 abbrev pub invariant-loop-k : goal.invariant-loop-k
-invariant-loop-k l = (l.k ≤ 11) × Lower (arc_term l.q) l.k l.a (arc_sum l.q)
-
-abbrev pub decreases-loop-k : goal.decreases-loop-k
-decreases-loop-k l = l.k
+invariant-loop-k l = Lower (arc_term l.q) l.k l.a (arc_sum l.q)

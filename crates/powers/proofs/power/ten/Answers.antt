@@ -7,6 +7,3 @@ use Rattle.powers.proofs.power.ten.Goals as goal
 pub returns : goal.returns
 unfolding ten_to
 returns c = rw (has_digits c.args.y (search rules) c.if-y.false) c.ten_steps.ensures
-
-pub returns-then-y : goal.returns-then-y
-returns-then-y c = c.ten_whole.ensures

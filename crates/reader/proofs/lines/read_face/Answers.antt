@@ -1,10 +1,8 @@
 -- The form, and its newline. Assumes nothing.
-use mathlib.Core.Path.{◌∙◌}
-use Rattle.text.specs.Text.{bytes, literal}
+use Rattle.std.proofs.Common.{◌∙◌}
+use Rattle.text.specs.Text.{bytes}
+use Rattle.text.specs.Form.{followed_by}
 use Rattle.reader.proofs.lines.read_face.Goals as goal
 
 pub returns : goal.returns
-returns c =
-    let p = c.face-p.ensures in
-    let e = c.read_bytes.ensures ∙ (λ i. literal (bytes "\n") (p i).text) in
-    (λ i. record { val = (p i).val; text = e i })
+returns c = c.then.ensures ∙ (λ i. followed_by (bytes "\n") (c.face.ensures i))

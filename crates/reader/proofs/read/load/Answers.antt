@@ -14,25 +14,25 @@ use Rattle.reader.proofs.read.load.Goals as goal
 pub load_floats-a-requires : goal.load_floats-a-requires
 load_floats-a-requires c =
     let a = c.args in
-    (loads a.floats.now a.words.now a.s.now a.radius a.verts a.faces a.n a.at
+    (loads a.floats.now a.words.now a.s.now a.head.radius a.head.verts a.head.faces a.n a.at
     c.requires).floats
 
 pub load_words-b-requires : goal.load_words-b-requires
 load_words-b-requires c =
     let a = c.args in
-    (loads a.floats.now a.words.now a.s.now a.radius a.verts a.faces a.n a.at c.requires).words
+    (loads a.floats.now a.words.now a.s.now a.head.radius a.head.verts a.head.faces a.n a.at c.requires).words
 
 pub load_puts-requires : goal.load_puts-requires
 load_puts-requires c =
     let a = c.args in
-    let l = loads a.floats.now a.words.now a.s.now a.radius a.verts a.faces a.n a.at
+    let l = loads a.floats.now a.words.now a.s.now a.head.radius a.head.verts a.head.faces a.n a.at
     c.requires in
     let x = c.load_floats-a.ensures in
     let y = c.load_words-b.ensures in
-    let u = y.result_value ∙ (λ i. (lines_from face_line a.faces (x.result_value i)).text) in
+    let u = y.result_value ∙ (λ i. (lines_from face_line a.head.faces (x.result_value i)).text) in
     let v = y.words_after
     ∙ (λ i. write a.words.now 0
-    (open_words width a.verts a.faces (corners_in (lines_from face_line a.faces (x.result_value i)).val))) in (
+    (open_words width a.head.verts a.head.faces (corners_in (lines_from face_line a.head.faces (x.result_value i)).val))) in (
       (λ i. store_check width (x.floats_after i) (v i)) ∙ l.sound,
       (λ i. places_in (lines_from put_line a.n (u i)).val) ∙ l.places,
       (λ i. layers_in (lines_from put_line a.n (u i)).val) ∙ l.layers,
@@ -41,14 +41,14 @@ load_puts-requires c =
 pub returns : goal.returns
 returns c =
     let a = c.args in
-    let l = loads a.floats.now a.words.now a.s.now a.radius a.verts a.faces a.n a.at
+    let l = loads a.floats.now a.words.now a.s.now a.head.radius a.head.verts a.head.faces a.n a.at
     c.requires in
     let x = c.load_floats-a.ensures in
     let y = c.load_words-b.ensures in
-    let u = y.result_value ∙ (λ i. (lines_from face_line a.faces (x.result_value i)).text) in
+    let u = y.result_value ∙ (λ i. (lines_from face_line a.head.faces (x.result_value i)).text) in
     let v = y.words_after
     ∙ (λ i. write a.words.now 0
-    (open_words width a.verts a.faces (corners_in (lines_from face_line a.faces (x.result_value i)).val))) in
+    (open_words width a.head.verts a.head.faces (corners_in (lines_from face_line a.head.faces (x.result_value i)).val))) in
     let z = c.load_puts.ensures in record {
       floats_after = z.floats_after
           ∙ (λ i. (puts_on width (lines_from put_line a.n (u i)).val (after done (x.floats_after i) (v i))).floats)

@@ -1,48 +1,39 @@
 -- At each turn the lines that are left, once stored, make the run that all make. Assumes nothing.
-use mathlib.Core.Path.{refl, sym, ap, ◌∙◌}
-use mathlib.Core.List.{List}
-use Prim.Native.Nat.{◌+◌, ◌*◌, ◌-◌}
-use native.Mathlib.Omega.{arith}
-use lib.Seq.{sets}
-use lib.ListN.{length-set}
-use native.Mathlib.Nat.{sub-zero}
+use Rattle.std.proofs.Common.{◌≡◌, ◌+◌, ◌*◌, ◌-◌, ◌≤◌, ◌++◌, List, length, sym, ap, ◌∙◌, arith}
+use Rattle.std.proofs.lemmas.List.Edits.{sets}
 use Rattle.text.specs.Text.{rest, Got}
-use Rattle.text.specs.Form.{Vals, ◌&◌}
+use Rattle.text.specs.Form.{Vals}
 use Rattle.script.specs.Lines.{vert_line}
 use Rattle.reader.specs.ReadOf.{lines_from, coords_in}
-use Rattle.reader.specs.ReadLaws.{from_more, from-none}
+use Rattle.reader.specs.ReadLaws.{from_next, from-none}
 use Rattle.reader.proofs.Turns.{stored}
 use Rattle.reader.proofs.read.load_verts.Goals as goal
 
 pub loop-i-preserved : goal.loop-i-preserved
 loop-i-preserved c =
-    let a = c.args in
+    let s = c.args.s.now in
     let l = c.loop-i in
-    let p = c.read_vert-p in
-    let e = from_more vert_line a.n l.i (rest a.s.now l.k) (rest a.s.now p.result.at)
-    (p.result.x & p.result.y & p.result.z & tt) c.loop-i-test.true p.ensures in (
-      omega arith,
-      simp length-set l.invariant.1,
-      sym (ap (λ (g : Got (List (Vals vert_line))). g.text) e) ∙ l.invariant.2,
-      stored l.floats (1761 + 3 * l.i) (1761 + 3 * (l.i + 1)) p.result.x p.result.y p.result.z
-          (coords_in (lines_from vert_line (a.n - (l.i + 1)) (rest a.s.now p.result.at)).val) (omega arith)
-          ∙ (λ j. sets l.floats (1761 + 3 * l.i) (coords_in (sym e j).val)) ∙ l.invariant.3,
-    )
+    let p = c.read_vert-vertex in
+    let e = from_next vert_line c.args.n l.i (rest s l.k) (rest s p.result.at) c.loop-i-test.true
+    (λ j. (p.ensures j).text) in
+    let at = 1761 + 3 * l.i in
+    let three : length p.result.value ≡ 3 = λ j. length (p.ensures j).val in
+    let more = coords_in (lines_from vert_line (c.args.n - (l.i + 1)) (rest s p.result.at)).val in
+    let room : at + 3 ≤ length l.floats = omega (arith, l.auto.floats, c.requires) in
+    record {
+      text = sym (ap (λ (g : Got (List (Vals vert_line))). g.text) e) ∙ l.invariant.text;
+      stored = rw c.copy_from_slice.ensures.after
+          (stored l.floats p.result.value more at (1761 + 3 * (l.i + 1)) three room (omega arith)
+          ∙ (λ j. sets l.floats at ((p.ensures j).val ++ more))
+          ∙ (λ j. sets l.floats at (coords_in (sym e j).val))
+          ∙ l.invariant.stored);
+    }
 
 pub returns : goal.returns
 returns c =
-    let a = c.args in
     let l = c.loop-i in
-    let e = from-none vert_line a.n l.i (rest a.s.now l.k) c.loop-i-test.false in record {
-      result_value = sym (ap (λ (g : Got (List (Vals vert_line))). g.text) e) ∙ l.invariant.2;
-      floats_after = (λ j. sets l.floats (1761 + 3 * l.i) (coords_in (sym e j).val)) ∙ l.invariant.3;
+    let e = from-none vert_line c.args.n l.i (rest c.args.s.now l.k) c.loop-i-test.false in
+    record {
+      result_value = sym (ap (λ (g : Got (List (Vals vert_line))). g.text) e) ∙ l.invariant.text;
+      floats_after = (λ j. sets l.floats (1761 + 3 * l.i) (coords_in (sym e j).val)) ∙ l.invariant.stored;
     }
-
-pub loop-i-init : goal.loop-i-init
-loop-i-init c = (omega arith, refl, rw sub-zero refl, rw sub-zero refl)
-
-pub bounds-floats-j-in-loop-i : goal.bounds-floats-j-in-loop-i
-bounds-floats-j-in-loop-i c = simp length-set (omega arith)
-
-pub bounds-floats-j-in-loop-i-2 : goal.bounds-floats-j-in-loop-i-2
-bounds-floats-j-in-loop-i-2 c = simp length-set (omega arith)

@@ -1,41 +1,20 @@
--- `readings::shared::check_read` meets its contract. Assumes nothing.
-use mathlib.Core.Path.{sym, ◌∙◌}
-use native.Mathlib.Omega.{arith}
+-- `readings::shared::check_read`: a store that passes has the words that are looked at. Assumes nothing.
+use Rattle.std.proofs.Common.{refl, sym, ◌∙◌}
 use Rattle.layout.specs.Layout.{width}
-use Rattle.readings.specs.ReadLaws.{check_fine, check_failed, check_idle, check_work}
+use Rattle.readings.specs.ReadLaws.{check_idle, check_work}
+use Rattle.readings.proofs.shared.check_read.Goals.{else-needs-via-then-needs+else-unfinished}
+use Rattle.readings.proofs.shared.check_read.Goals.{else-needs-via-else-needs}
 use Rattle.readings.proofs.shared.check_read.Goals as goal
 
--- the work is not needed
-pub returns-then-not-needs : goal.returns-then-not-needs
-returns-then-not-needs c =
-    check_idle width _ _ _ c.check_seen.ensures _ c.in-Passed.is
-    (c.if-not-needs.true)
+pub returns-then-unfinished-clause-refusal : goal.returns-then-unfinished-clause-refusal
+returns-then-unfinished-clause-refusal c =
+    check_work width _ _ _ c.check_seen.ensures.refusal _ _ _ c.in_ok-check_seen.was c.if-needs.true refl
+    (sym c.if-unfinished.true ∙ (rw c.word.ensures at c.unfinished.ensures))
 
--- 4, 5 or 16
-pub returns-in-Failed : goal.returns-in-Failed
-returns-in-Failed c = check_failed width _ _ _ c.check_seen.ensures _ _ c.in-Failed.is
-
-pub returns-then-unfinished : goal.returns-then-unfinished
-returns-then-unfinished c =
-    check_work width _ _ _ c.check_seen.ensures _ _ _ c.in-Passed.is
-    (c.if-not-needs.false) c.word.ensures
-    (sym c.if-unfinished.true ∙ c.unfinished.ensures)
-
-pub returns-else-unfinished : goal.returns-else-unfinished
-returns-else-unfinished c =
-    check_work width _ _ _ c.check_seen.ensures _ _ _ c.in-Passed.is
-    (c.if-not-needs.false) c.word.ensures
-    (sym c.if-unfinished.false ∙ c.unfinished.ensures)
-
-pub word-requires : goal.word-requires
-word-requires c =
-    omega (
-      arith,
-      (check_fine width _ _ _ c.check_seen.ensures c.in-Passed.is).places,
-    )
-
-pub unfinished-requires : goal.unfinished-requires
-unfinished-requires c =
-    rw c.word.ensures
-    (check_fine width _ _ _ c.check_seen.ensures
-    c.in-Passed.is).places
+pub returns-clause-refusal : goal.returns-clause-refusal
+returns-clause-refusal c = elim c.else-needs.branch [
+  | else-needs-via-then-needs+else-unfinished w ↦ check_work width _ _ _ c.check_seen.ensures.refusal _ _ _
+      c.in_ok-check_seen.was w.if-needs.true refl (sym w.if-unfinished.false ∙ (rw w.word.ensures at w.unfinished.ensures))
+  | else-needs-via-else-needs w ↦ check_idle width _ _ _ c.check_seen.ensures.refusal _ c.in_ok-check_seen.was
+      w.if-needs.false
+]

@@ -2,8 +2,6 @@
 use Rattle.std.proofs.Common.{ℕ, ◌+◌, ◌*◌, ◌/◌, ◌%◌, ◌^◌, ◌≤◌, T, sym, subst, lt_of_le_of_lt, arith}
 use Rattle.base.specs.FloatLaws.{no_nan-below}
 use Rattle.root.specs.Flags.{or_most}
-use Rattle.root.proofs.Confirms.{guessed}
-use Rattle.root.proofs.Assemble.{low_bit}
 use Rattle.root.proofs.Patterns.{any_root}
 use Rattle.root.proofs.lanes.any_lane.Goals as goal
 
@@ -24,20 +22,8 @@ returns c y z =
     any_root c.args.x p.result d.result a.result.digits (subst T (sym c.well_formed.0.1) tt) p.ensures.1
     (u.ensures (lt_of_le_of_lt m.1 z)) d.ensures (a.ensures.rounded y k.0 k.1)
 
-pub doubled-requires : goal.doubled-requires
-doubled-requires c = (
-  omega (arith, guessed c.pattern-b.result),
-  omega (arith, low_bit (c.pattern-b.result / 2 ^ 52 + 51)),
-)
-
-pub overflow_add-result-2 : goal.overflow_add-result-2
-overflow_add-result-2 c = omega (arith, c.check-a.ensures.bound.1)
-
 pub float_from_bits-result : goal.float_from_bits-result
 float_from_bits-result c =
     no_nan-below (((c.pattern-b.result / 2 ^ 52 + 51) / 2 + 485) * 2 ^ 52 % 2 ^ 64 + c.check-a.result.digits)
     (small c.pattern-b.result c.check-a.result.digits c.pattern-b.ensures.0
     c.check-a.ensures.bound.1)
-
-pub unusual-requires : goal.unusual-requires
-unusual-requires c = c.pattern-b.ensures.0

@@ -1,5 +1,5 @@
 -- `root::lanes::check` meets its contract, by `Checks.antt`. Assumes nothing.
-use Rattle.std.proofs.Common.{ℕ, ◌+◌, ◌*◌, ◌/◌, ◌^◌, ◌<◌, ◌≤◌, subst, lt_of_le_of_lt, mul-le-mul, arith, lit<}
+use Rattle.std.proofs.Common.{ℕ, ◌+◌, ◌*◌, ◌/◌, ◌^◌, ◌<◌, ◌≤◌, subst, lt_of_le_of_lt, mul-le-mul, arith}
 use lib.Bits.{bit_and}
 use Rattle.root.specs.Flags.{or_most}
 use Rattle.root.proofs.Confirms.{square_cut, parts_small}
@@ -50,22 +50,4 @@ returns c =
           }
           c.requires.0
           c.requires.1);
-    }
-
-pub overflow_mul-h : goal.overflow_mul-h
-overflow_mul-h c = omega (arith, squares c.args.g c.requires.1)
-
-pub overflow_mul-h-2 : goal.overflow_mul-h-2
-overflow_mul-h-2 c = omega (arith, squares c.args.g c.requires.1)
-
-pub overflow_mul-l : goal.overflow_mul-l
-overflow_mul-l c = omega (arith, squares c.args.g c.requires.1)
-
-pub overflow_add-result : goal.overflow_add-result
-overflow_add-result c =
-    record {
-      fits =
-          lt_of_le_of_lt
-          (most c.args.g c.wrapping_sub_u64-short.result
-          c.requires.1 c.wrapping_sub_u64-short.type_inv) (lit< tt);
     }

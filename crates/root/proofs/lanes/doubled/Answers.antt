@@ -1,11 +1,6 @@
 -- `root::lanes::doubled` meets its contract. Assumes nothing.
-use Rattle.std.proofs.Common.{arith}
-use lib.Bits.{and_le_l}
 use Rattle.root.proofs.Patterns.{double}
 use Rattle.root.proofs.lanes.doubled.Goals as goal
-
-pub overflow_add-result : goal.overflow_add-result
-overflow_add-result c = omega (arith, and_le_l c.args.sig c.wrapping_sub_u64.result)
 
 pub returns : goal.returns
 returns c =

@@ -26,9 +26,6 @@ float_to_bits-d c = positive_no_nan c.args.f (within_positive 1 2 c.args.f (lit<
 pub overflow_sub-d : goal.overflow_sub-d
 overflow_sub-d c = omega (arith, unit_bits c.args.f (subst T (sym c.well_formed.0.1) tt) c.requires)
 
-pub overflow_add-result : goal.overflow_add-result
-overflow_add-result c = omega (arith, c.check-a.ensures.bound.1)
-
 pub float_from_bits-result : goal.float_from_bits-result
 float_from_bits-result c =
     no_nan-below (4602678819172646912 + c.check-a.result.digits)

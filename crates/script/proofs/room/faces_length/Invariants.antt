@@ -6,8 +6,5 @@ use Rattle.script.specs.Written.{face_rows}
 use Rattle.script.proofs.room.faces_length.Given as goal
 
 abbrev pub invariant-loop-i : goal.invariant-loop-i
-invariant-loop-i l = (l.i ≤ l.n) × (l.sum ≤ 70 * l.i)
+invariant-loop-i l = (l.sum ≤ 70 * l.i)
     × (l.sum + length (face_rows width l.words (l.n - l.i) l.i) ≡ length (face_rows width l.words l.n 0))
-
-abbrev pub decreases-loop-i : goal.decreases-loop-i
-decreases-loop-i l = l.n - l.i

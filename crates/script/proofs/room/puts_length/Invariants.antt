@@ -8,9 +8,6 @@ use Rattle.layout.specs.Layout.{width}
 use Rattle.script.proofs.room.puts_length.Given as goal
 
 abbrev pub invariant-loop-i : goal.invariant-loop-i
-invariant-loop-i l = (l.i ≤ 32) × (l.sum ≤ 182 * l.i)
+invariant-loop-i l = (l.sum ≤ 182 * l.i)
     × ((fs : List Float) → l.sum + length (put_rows width fs l.words (32 - l.i) l.i)
     ≡ length (put_rows width fs l.words 32 0))
-
-abbrev pub decreases-loop-i : goal.decreases-loop-i
-decreases-loop-i l = 32 - l.i

@@ -9,7 +9,7 @@ returns c =
     let a = c.args in
     let e = c.call.ensures in
     let s = session a.o a.floats.now a.words.now a.coords.now a.corners.now in record {
-      small = (c.requires, e.upper_bound);
+      small_after = (c.requires, e.upper_bound);
       does = saying (a_call s a.c) (λ i. session a.o (e.floats_after i) (e.words_after i) a.coords.now a.corners.now)
           e.wrote;
     }

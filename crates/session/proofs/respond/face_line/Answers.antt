@@ -3,7 +3,6 @@ use mathlib.Core.Path.{sym, ◌∙◌}
 use Rattle.session.specs.Session.{session}
 use Rattle.session.proofs.Lines.{saying, small_as, small-idle}
 use Rattle.session.proofs.Taken.{face_kept, face_early}
-use borrow.Author.Rules.{rules}
 use Rattle.session.proofs.respond.face_line.Goals as goal
 
 pub returns-then-verts_due : goal.returns-then-verts_due
@@ -13,22 +12,17 @@ returns-then-verts_due c =
     let e = c.refuse.ensures in
     let u = e.opening_value.0 ∙ c.idle.ensures in
     let h = sym c.verts_due.ensures ∙ c.if-verts_due.true in record {
-      small = (small_as u small-idle, e.opening_value.1);
-      does = saying (face_early s a.a a.b a.c h)
+      small_after = (small_as u small-idle, e.opening_value.1);
+      does = saying (face_early s a.face h)
           (λ i. session (u i) a.floats.now a.words.now a.coords.now a.corners.now) e.wrote;
     }
 
 pub add_face-p-requires : goal.add_face-p-requires
 add_face-p-requires c =
-    let p = c.requires in
-    record { fact_1 = p.fact_1; fact_2 = (sym c.verts_due.ensures ∙ c.if-verts_due.false, p.fact_2) }
+    record { fact_1 = c.requires.small; fact_2 = (sym c.verts_due.ensures ∙ c.if-verts_due.false, c.requires.due) }
 
 pub settle-requires : goal.settle-requires
-settle-requires c =
-    let p = c.requires in record {
-      small = small_as c.add_face-p.ensures.value p.fact_1;
-      in_bounds = (p.fact_3, search rules);
-    }
+settle-requires c = small_as c.add_face-p.ensures.value c.requires.small
 
 pub returns : goal.returns
 returns c =
@@ -37,6 +31,6 @@ returns c =
     let v = c.add_face-p.ensures in
     let e = c.settle.ensures in
     let h = sym c.verts_due.ensures ∙ c.if-verts_due.false in record {
-      small = e.small_2;
-      does = saying (face_kept s a.a a.b a.c h v.value v.corners_after) e.does.0 e.does.1;
+      small_after = e.small_after;
+      does = saying (face_kept s a.face h v.value v.corners_after) e.does.0 e.does.1;
     }

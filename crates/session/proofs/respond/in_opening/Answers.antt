@@ -1,15 +1,10 @@
 -- A vert or a face line; any other gives up the opening. Assumes nothing.
 use mathlib.Core.Path.{◌∙◌}
-use borrow.Enum.Refused.{opened}
 use Rattle.session.specs.Session.{session}
 use Rattle.session.proofs.Lines.{saying, small_as, small-idle}
-use Rattle.session.proofs.Taken.{no_mesh_lem}
+use Rattle.session.proofs.Taken.{no_mesh}
 use borrow.Author.Rules.{rules}
 use Rattle.session.proofs.respond.in_opening.Goals as goal
-
-pub face_line-requires : goal.face_line-requires
-face_line-requires c =
-    let p = c.requires in record { fact_1 = p.fact_1; fact_2 = p.fact_2; fact_3 = search rules }
 
 pub returns-in-Vert : goal.returns-in-Vert
 returns-in-Vert c =
@@ -25,7 +20,7 @@ returns-in_default c =
     let s = session a.o a.floats.now a.words.now a.coords.now a.corners.now in
     let e = c.refuse.ensures in
     let u = e.opening_value.0 ∙ c.idle.ensures in record {
-      small = (small_as u small-idle, e.opening_value.1);
-      does = saying (no_mesh_lem s a.l (opened c.in_default.in_default-own.keys3))
+      small_after = (small_as u small-idle, e.opening_value.1);
+      does = saying (no_mesh s a.l c.in_default.in_default-own.keys3)
           (λ i. session (u i) a.floats.now a.words.now a.coords.now a.corners.now) e.wrote;
     }

@@ -10,10 +10,8 @@ use Rattle.session.proofs.respond.open_line.Goals as goal
 pub settle-requires : goal.settle-requires
 settle-requires c =
     let a = c.args in
-    let b = both (leb a.verts vert_bound) (leb a.faces face_bound) c.if-taken.true in record {
-      small = small_as c.begun-p.ensures (leb-true a.verts vert_bound b.0, leb-true a.faces face_bound b.1);
-      in_bounds = c.requires.in_bounds;
-    }
+    let b = both (leb a.head.verts vert_bound) (leb a.head.faces face_bound) c.if-taken.true in
+    small_as c.begun-p.ensures (leb-true a.head.verts vert_bound b.0, leb-true a.head.faces face_bound b.1)
 
 pub returns-then-taken : goal.returns-then-taken
 returns-then-taken c =
@@ -21,8 +19,8 @@ returns-then-taken c =
     let s = session a.o a.floats.now a.words.now a.coords.now a.corners.now in
     let e = c.settle.ensures in
     let h = c.if-taken.true in record {
-      small_2 = e.small_2;
-      does = saying (opening_begun s a.radius a.verts a.faces h c.begun-p.ensures) e.does.0 e.does.1;
+      small_after = e.small_after;
+      does = saying (opening_begun s a.head h c.begun-p.ensures) e.does.0 e.does.1;
     }
 
 pub returns : goal.returns
@@ -31,7 +29,7 @@ returns c =
     let s = session a.o a.floats.now a.words.now a.coords.now a.corners.now in
     let e = c.refuse.ensures in
     let u = c.refuse.ensures.opening_value.0 in record {
-      small_2 = (small_as u c.requires.small, e.opening_value.1);
-      does = saying (opening_over s a.radius a.verts a.faces c.if-taken.false)
+      small_after = (small_as u c.requires, e.opening_value.1);
+      does = saying (opening_over s a.head c.if-taken.false)
           (λ i. session (u i) a.floats.now a.words.now a.coords.now a.corners.now) e.wrote;
     }

@@ -1,5 +1,4 @@
 -- An open line, a call, or a line that is refused. Assumes nothing.
-use borrow.Enum.Refused.{opened}
 use Rattle.session.specs.Session.{session}
 use Rattle.session.proofs.Lines.{saying, small_as}
 use Rattle.session.proofs.Taken.{no_call}
@@ -12,7 +11,7 @@ returns-in-Open c =
 pub returns-in-OnStore : goal.returns-in-OnStore
 returns-in-OnStore c =
     let e = c.call_line.ensures in
-    record { small_2 = e.small; does = rw c.in-OnStore.is e.does }
+    record { small_after = e.small_after; does = rw c.in-OnStore.is e.does }
 
 pub returns-in_default : goal.returns-in_default
 returns-in_default c =
@@ -20,7 +19,7 @@ returns-in_default c =
     let s = session a.o a.floats.now a.words.now a.coords.now a.corners.now in
     let e = c.refuse.ensures in
     let u = c.refuse.ensures.opening_value.0 in record {
-      small_2 = (small_as u c.requires.small, e.opening_value.1);
-      does = saying (no_call s a.l (opened c.in_default.in_default-own.keys3))
+      small_after = (small_as u c.requires, e.opening_value.1);
+      does = saying (no_call s a.l c.in_default.in_default-own.keys3)
           (λ i. session (u i) a.floats.now a.words.now a.coords.now a.corners.now) e.wrote;
     }

@@ -3,19 +3,14 @@ use mathlib.Core.Path.{sym, ◌∙◌}
 use Rattle.session.specs.Session.{session}
 use Rattle.session.proofs.Lines.{saying, small_as, small-idle}
 use Rattle.session.proofs.Taken.{vert_kept, vert_late}
-use borrow.Author.Rules.{rules}
 use Rattle.session.proofs.respond.vert_line.Goals as goal
 
 pub add_vert-p-requires : goal.add_vert-p-requires
 add_vert-p-requires c =
-    record { fact_1 = c.requires.fact_1; fact_2 = sym c.verts_due.ensures ∙ c.if-verts_due.true }
+    record { fact_1 = c.requires; fact_2 = sym c.verts_due.ensures ∙ c.if-verts_due.true }
 
 pub settle-requires : goal.settle-requires
-settle-requires c =
-    let p = c.requires in record {
-      small = small_as c.add_vert-p.ensures.value p.fact_1;
-      in_bounds = (search rules, p.fact_2);
-    }
+settle-requires c = small_as c.add_vert-p.ensures.value c.requires
 
 pub returns-then-verts_due : goal.returns-then-verts_due
 returns-then-verts_due c =
@@ -24,8 +19,8 @@ returns-then-verts_due c =
     let v = c.add_vert-p.ensures in
     let e = c.settle.ensures in
     let h = sym c.verts_due.ensures ∙ c.if-verts_due.true in record {
-      small = e.small_2;
-      does = saying (vert_kept s a.x a.y a.z h v.value v.coords_after) e.does.0 e.does.1;
+      small_after = e.small_after;
+      does = saying (vert_kept s a.point h v.value v.coords_after) e.does.0 e.does.1;
     }
 
 pub returns : goal.returns
@@ -35,7 +30,7 @@ returns c =
     let e = c.refuse.ensures in
     let u = e.opening_value.0 ∙ c.idle.ensures in
     let h = sym c.verts_due.ensures ∙ c.if-verts_due.false in record {
-      small = (small_as u small-idle, e.opening_value.1);
-      does = saying (vert_late s a.x a.y a.z h)
+      small_after = (small_as u small-idle, e.opening_value.1);
+      does = saying (vert_late s a.point h)
           (λ i. session (u i) a.floats.now a.words.now a.coords.now a.corners.now) e.wrote;
     }

@@ -1,13 +1,9 @@
-use Prim.Native.Nat.{◌-◌}
-use Rattle.base.specs.LoopLaws.{Left}
-use Rattle.mesh.specs.Triangles.{triangle_at, face_count}
-use Rattle.source.specs.Volumes.{pyramid_to, signed_volume}
+use Rattle.std.proofs.Common.{◌≡◌}
+use Rattle.base.specs.Floats.{+0}
+use Rattle.base.specs.Loops.{times}
+use Rattle.mesh.specs.Meshes.{triangles_of}
+use Rattle.source.specs.Volumes.{pyramid_to}
 use Rattle.source.proofs.volume.signed_volume.Given as goal
 
 abbrev pub invariant-loop-f : goal.invariant-loop-f
-invariant-loop-f l =
-    Left (pyramid_to (triangle_at l.xyz l.faces)) l.n l.f l.total
-    (signed_volume (triangle_at l.xyz l.faces) (face_count l.faces))
-
-abbrev pub decreases-loop-f : goal.decreases-loop-f
-decreases-loop-f l = l.n - l.f
+invariant-loop-f l = l.total ≡ times (pyramid_to (triangles_of l.mesh)) l.f 0 +0

@@ -1,58 +1,23 @@
--- The literal: what is left of it at `at + i`, kept by the flag, leaves what the whole leaves at `at`. Assumes nothing.
-use mathlib.Core.Path.{◌≡◌, refl, sym, ap, ◌∙◌}
-use mathlib.Core.Bool.{Bool}
-use mathlib.Core.List.{List}
-use Prim.Native.Nat.{ℕ, ◌+◌}
-use native.Mathlib.Nat.{add-zero}
-use native.Mathlib.Omega.{arith}
-use lib.ListN.{length, drop}
-use lib.Seq.{drop-length}
-use Rattle.text.specs.Text.{rest, literal, keep_if}
-use Rattle.text.specs.TextLaws.{rest-past}
-use Rattle.text.proofs.Steps.{literal-turn, literal-few, literal_all, keep-both}
+-- The bytes that the text begins with, or none. Assumes nothing.
+use Rattle.std.proofs.Common.{refl, sym, ◌∙◌}
+use Rattle.text.specs.TextLaws.{rest-past, rest_in, rest_out}
+use Rattle.text.proofs.Steps.{literal-there, not_begun, part_is}
 use Rattle.text.proofs.read.read_bytes.Goals as goal
+use Rattle.text.proofs.read.read_bytes.Goals.{else-at-s-via-then-at-s+else-starts_with, else-at-s-via-else-at-s}
 
--- after the last byte the flag keeps the text there
-ended : (s p : List ℕ) (at i : ℕ) (all : Bool) → i ≡ length p
-    → keep_if all (literal (drop i p) (rest s (at + i))) ≡ literal p (rest s at)
-    → keep_if all (rest s (at + length p)) ≡ literal p (rest s at)
-ended s p at i all e h = ap (keep_if all) (sym (literal_all (rest s (at + length p)))) ∙ (rw (e, drop-length) at h)
+pub returns-then-starts_with : goal.returns-then-starts_with
+returns-then-starts_with c =
+    literal-there c.args.p.now c.args.s.now c.args.at c.if-at-s.true (c.if-starts_with.ensures.bound refl)
+    (sym c.if-starts_with.true ∙ c.starts_with.ensures.value)
 
-pub returns-then-at-s : goal.returns-then-at-s
-returns-then-at-s c =
-    let a = c.args in
-    rest-past a.s.now ∙ sym (literal-few a.p.now a.s.now a.at (omega arith))
-
-pub returns-then-s-at : goal.returns-then-s-at
-returns-then-s-at c =
-    let a = c.args in
-    rest-past a.s.now ∙ sym (literal-few a.p.now a.s.now a.at (omega arith))
-
-pub loop-i-preserved : goal.loop-i-preserved
-loop-i-preserved c =
-    let a = c.args in
-    let l = c.loop-i in
-    let e : a.at + (l.i + 1) ≡ a.at + l.i + 1 = omega arith in (
-      omega arith,
-      (rw e
-          (keep-both l.all _ _
-          ∙ ap (keep_if l.all)
-          (sym (literal-turn a.p.now a.s.now l.i (a.at + l.i) (omega arith) (omega arith)))
-          ∙ l.invariant.1)),
-    )
-
-pub returns-then-all : goal.returns-then-all
-returns-then-all c =
-    let a = c.args in
-    let l = c.loop-i in
-    rw c.if-all.true at (ended a.s.now a.p.now a.at l.i l.all (omega arith) l.invariant.1)
-
-pub returns : goal.returns
-returns c =
-    let a = c.args in
-    let l = c.loop-i in
-    rest-past a.s.now
-    ∙ (rw c.if-all.false at (ended a.s.now a.p.now a.at l.i l.all (omega arith) l.invariant.1))
-
-pub loop-i-init : goal.loop-i-init
-loop-i-init c = (omega arith, rw add-zero refl)
+pub returns-else-at-s : goal.returns-else-at-s
+returns-else-at-s c =
+    let s = c.args.s.now in
+    rw (rest-past s)
+    (elim c.else-at-s.branch [
+      | else-at-s-via-then-at-s+else-starts_with w ↦
+          let e = sym w.if-starts_with.false ∙ w.starts_with.ensures.value in
+          let h = w.if-at-s.true in
+          rw (rest_in s c.args.at h) (sym (not_begun c.args.p.now _ (rw part_is at e)))
+      | else-at-s-via-else-at-s w ↦ let h = w.if-at-s.false in rw (rest_out s c.args.at h)
+    ])

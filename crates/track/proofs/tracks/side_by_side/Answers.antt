@@ -2,8 +2,6 @@
 -- Assumes nothing.
 use mathlib.Core.Path.{sym, ap, ◌∙◌}
 use mathlib.Core.List.{List, map}
-use native.Mathlib.Omega.{arith}
-use lib.ListN.{length-replicate}
 use lib.Ieee.{Float}
 use Rattle.kernel.specs.Kernels.{kernel_at}
 use Rattle.density.specs.Densitize.{densitize_of}
@@ -15,25 +13,15 @@ use Rattle.readings.specs.Lists.{all_length}
 use Rattle.track.specs.TrackLaws.{rescaled_density}
 use Rattle.track.proofs.tracks.side_by_side.Goals as goal
 
-pub write_list-requires : goal.write_list-requires
-write_list-requires c =
-    let z = c.requires in
-    let e = c.count_pieces-n.ensures in
-    record {
-      fact_1 = z.fact_1;
-      fact_2 = z.fact_2;
-      fact_3 = rw length-replicate (omega (arith, e.0, e.1));
-    }
-
 pub returns : goal.returns
 returns c =
     let a = c.args in
-    let n = c.count_pieces-n in
-    let h = held_all_lem width a.floats.now a.words.now 32 in
+    let n = c.pieces-n in
+    let h = held_all_lem width a.seen.floats.now a.seen.words.now 32 in
     let l = c.write_list in
     c.densities.ensures
     ∙ ap (write a.out.now 0)
     (stretch-same _ (density_at (map (rescaled a.s) (map bare h)))
     (λ x. ap (λ (ks : List Float). densitize_of (kernel_at ks) n.result x) l.ensures
     ∙ rescaled_density _ a.s h n.result
-    (n.ensures.0 ∙ sym (all_length width a.floats.now a.words.now 32)) x) a.points.now 0 a.count)
+    (n.ensures.0 ∙ sym (all_length width a.seen.floats.now a.seen.words.now 32)) x) a.points.now 0 a.count)

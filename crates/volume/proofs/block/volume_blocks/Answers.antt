@@ -4,7 +4,7 @@ use borrow.Author.Rules.{rules}
 use Prim.Native.Nat.{◌+◌, ◌*◌}
 use mathlib.Core.Path.{◌≡◌, sym, ◌∙◌}
 use native.Mathlib.Omega.{arith}
-use Rattle.mesh.specs.Triangles.{triangle_at}
+use Rattle.mesh.specs.Meshes.{triangles_of}
 use Rattle.volume.proofs.Blocks.{four_faces, no_block, one_block}
 use Rattle.volume.proofs.block.volume_blocks.Goals as goal
 
@@ -12,23 +12,20 @@ pub loop-i-init : goal.loop-i-init
 loop-i-init c =
     let a = c.args in (
       search rules,
-      sym (no_block (triangle_at a.xyz.now a.faces.now) a.c a.sigma a.from a.sum),
+      sym (no_block (triangles_of a.mesh) a.c a.sigma a.from a.sum),
       search rules,
       search rules,
     )
 
-pub points-requires : goal.points-requires
-points-requires c =
-    record {
-      fact_1 = c.requires.fact_1;
-      fact_2 = (search rules, c.loop-i.invariant.2, c.loop-i.invariant.3);
-    }
+pub set_faces-requires : goal.set_faces-requires
+set_faces-requires c =
+    (search rules, c.loop-i.invariant.2, c.loop-i.invariant.3)
 
 pub loop-i-preserved : goal.loop-i-preserved
 loop-i-preserved c =
     let a = c.args in
-    let t = triangle_at a.xyz.now a.faces.now in
-    let e = c.points.ensures in
+    let t = triangles_of a.mesh in
+    let e = c.set_faces.ensures in
     let k = a.from + 4 * c.loop-i.i in (
       search rules,
       one_block t a.c a.sigma a.from c.loop-i.i a.sum c.loop-i.invariant.1

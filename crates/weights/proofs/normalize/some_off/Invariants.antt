@@ -1,11 +1,9 @@
-use Prim.Native.Nat.{◌-◌}
-use Rattle.base.specs.LoopLaws.{Left}
-use Rattle.weights.specs.Weights.{kernels_of, off_step, some_off}
+use Rattle.std.proofs.Common.{◌≡◌, false}
+use Rattle.base.specs.Loops.{times}
+use Rattle.weights.specs.Lists.{list_of}
+use Rattle.weights.specs.Weights.{off_step}
 use Rattle.weights.proofs.normalize.some_off.Given as goal
 
 abbrev pub invariant-loop-i : goal.invariant-loop-i
 invariant-loop-i l =
-    Left (off_step (kernels_of l.by l.kernels)) l.n l.i l.some (some_off (kernels_of l.by l.kernels) l.n)
-
-abbrev pub decreases-loop-i : goal.decreases-loop-i
-decreases-loop-i l = l.n - l.i
+    l.some ≡ times (off_step (list_of l.kernels)) l.i 0 false

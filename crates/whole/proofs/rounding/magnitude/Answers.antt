@@ -36,9 +36,6 @@ pub overflow_sub-ex : goal.overflow_sub-ex
 overflow_sub-ex c =
     omega (arith, low_exponent _ _ (size_of c.requires c.abs-b.ensures) (search rules) _ _ c.split-p.ensures)
 
-pub nearest-requires : goal.nearest-requires
-nearest-requires c = (c.split-p.ensures.most, omega arith)
-
 pub returns : goal.returns
 returns c =
     let e = c.nearest.ensures

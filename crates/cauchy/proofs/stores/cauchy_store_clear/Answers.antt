@@ -1,9 +1,0 @@
--- `cauchy::stores::cauchy_store_clear` meets its contract. Assumes nothing.
-use mathlib.Core.Path.{ap}
-use Rattle.crossing.specs.Crossing.{number_from}
-use Rattle.crossing.specs.StoreCrossing.{across}
-use Rattle.cauchy.proofs.stores.cauchy_store_clear.Goals as goal
-
-pub returns : goal.returns
-returns c =
-    rw c.edit_number.ensures (ap (across number_from) c.clear.ensures)

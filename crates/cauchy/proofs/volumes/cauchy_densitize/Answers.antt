@@ -1,7 +1,0 @@
--- `cauchy::volumes::cauchy_densitize` meets its contract. Assumes nothing.
-use mathlib.Core.Path.{ap}
-use Rattle.crossing.specs.Volumes.{value_from}
-use Rattle.cauchy.proofs.volumes.cauchy_densitize.Goals as goal
-
-pub returns : goal.returns
-returns c = rw c.value_of.ensures (ap value_from c.densitize.ensures)

@@ -1,9 +1,0 @@
--- `crossing::kernels::list_pieces_of` meets its contract, case by case. Assumes nothing.
-use mathlib.Core.Path.{refl}
-use Rattle.crossing.proofs.kernels.list_pieces_of.Goals as goal
-
-pub returns-in-Written : goal.returns-in-Written
-returns-in-Written c = rw c.in-Written.is refl
-
-pub returns-in-Refused : goal.returns-in-Refused
-returns-in-Refused c = rw (c.in-Refused.is, c.refusal_number.ensures) refl

@@ -1,9 +1,0 @@
--- `by_size` meets its contract: its test is the definition's. Assumes nothing.
-use mathlib.Core.Path.{refl}
-use Rattle.lanes.proofs.mixed.by_size.Goals as goal
-
-pub returns-then-t : goal.returns-then-t
-returns-then-t c = rw c.if-t.true refl
-
-pub returns-else-t : goal.returns-else-t
-returns-else-t c = rw c.if-t.false refl
