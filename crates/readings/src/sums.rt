@@ -2,15 +2,29 @@
 // what is added: its contract would have to say of each piece that the closure may be called with it and what it
 // answers there, which is longer than the loops.
 // Internal: a function with a `requires` is called by proved code alone.
-ghost use Rattle.std.specs.Prelude.{◌≡◌, ◌-◌, ◌≤◌, ◌<◌};
+ghost use Rattle.std.specs.Prelude.{◌≡◌, ◌-◌, ◌≤◌, ◌<◌, length};
 ghost use Rattle.base.specs.Floats.{+0};
-ghost use Rattle.layout.specs.Layout.{width, place_limit, status_of};
+ghost use Rattle.layout.specs.Layout.{width, place_limit, piece_limit, coords_from, status_of};
 ghost use Rattle.readings.specs.Readings.{held_at, held_all_lem};
 ghost use Rattle.readings.specs.Folds.{fold, scaled_step, origin_step, mass_step};
 
+use crate::held::{piece_at, volume_at};
 use crate::places::Places;
 use density::densitize::density_of;
 use layout::offsets::PLACES;
+
+// The mass with the first `count` pieces of place i added, whatever the words say of the place.
+#[tactic(auto, using(crate::specs::FoldLaws::piece_more))]
+pub fn place_mass(floats: &[f64], i: usize, count: usize, start: f64) -> f64
+    requires { (coords_from ≤ length floats.now) × (i < place_limit) × (count ≤ piece_limit) }
+    ensures { result ≡ fold mass_step (held_at floats.now i count) start }
+{
+    let mut total = start;
+    for j in 0..count {
+        total += piece_at(floats, i, j).w * volume_at(floats, i, j);
+    }
+    total
+}
 
 impl<'a> Places<'a> {
     // The density at x with the pieces of place i added, by a scale.
@@ -68,17 +82,12 @@ impl<'a> Places<'a> {
     }
 
     // The mass with the pieces of place i added.
-    #[tactic(auto, using(crate::specs::FoldLaws::piece_more))]
     pub fn mass_with(self, i: usize, start: f64) -> f64
         requires { i < place_limit }
         ensures { result ≡ fold mass_step
             (held_at self.entry.floats.now i (status_of width self.entry.words.now i - 1)) start }
     {
-        let mut total = start;
-        for j in 0..self.pieces_at(i) {
-            total += self.piece_at(i, j).w * self.volume_at(i, j);
-        }
-        total
+        place_mass(self.floats, i, self.pieces_at(i), start)
     }
 
     // The mass of all pieces, by the volumes that the store holds.

@@ -1,6 +1,6 @@
--- `Places::filled`: the count is told at the end of the loop, where i is 32. Assumes nothing.
+-- `readings::counts::count_filled`: the count is told at the end of the loop, where i is 32. Assumes nothing.
 use Rattle.std.proofs.Common.{◌≡◌, arith}
-use Rattle.readings.proofs.places.Places.filled.Goals as goal
+use Rattle.readings.proofs.counts.count_filled.Goals as goal
 
 pub returns : goal.returns
 returns c =
