@@ -29,7 +29,7 @@ fn write_page(out: &mut [u8], places: Places)
         less: 0,
     };
     for i in 0..PLACES {
-        s = place_line(out, places, i, s);
+        s = place_line(out, places.floats, i, places.status_at(i), s);
     }
     write_total(out, s.at, total(s.plus, s.less));
 }

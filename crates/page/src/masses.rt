@@ -1,15 +1,17 @@
 // The masses that a page shows, place by place, and their sum.
 // Internal: a function with a `requires` is called by proved code alone.
 ghost use Rattle.std.specs.Prelude.{◌≡◌, true, ◌+◌, ◌*◌, ◌-◌, ◌≤◌, ◌<◌, pos, ◌+ℤ◌, ◌-ℤ◌, length};
-ghost use Rattle.layout.specs.Layout.{width, place_limit, status_of};
+ghost use Rattle.layout.specs.Layout.{width, place_limit, piece_limit, coords_from, status_of};
 ghost use Rattle.text.specs.Print.{Wrote};
 ghost use Rattle.whole.specs.Whole.{signed_whole};
 ghost use Rattle.page.specs.Page.{row_at, held_rows, all_printable, lines_of, total_of};
 
 use crate::lines::write_line;
 use base::floats::abs;
+use layout::left::pieces;
 use layout::offsets::PLACES;
 use readings::places::Places;
+use readings::sums::place_mass;
 use whole::rounding::{Whole, rounded};
 
 // Whether place i is empty or its mass can be printed.
@@ -83,23 +85,23 @@ pub fn total(plus: u64, less: u64) -> Whole
     }
 }
 
-// The line of place i, if it is filled.
-pub fn place_line(out: &mut [u8], places: Places, i: usize, s: Sums) -> Sums
-    requires place { i < place_limit }
-    requires printable { all_printable (row_at places.floats.now i (status_of width places.words.now i)) ≡ true }
-    requires room { s.at + 65 * length (row_at places.floats.now i (status_of width places.words.now i))
-        ≤ length out.old }
+// The line of place i, if it is filled: if its status, whatever the words say of the place, is not 0.
+pub fn place_line(out: &mut [u8], floats: &[f64], i: usize, status: u32, s: Sums) -> Sums
+    requires place { (coords_from ≤ length floats.now) × (i < place_limit) × (status - 1 ≤ piece_limit) }
+    requires printable { all_printable (row_at floats.now i status) ≡ true }
+    requires room { s.at + 65 * length (row_at floats.now i status) ≤ length out.old }
     requires sums { (s.plus ≤ 31000000000000000) × (s.less ≤ 31000000000000000) }
-    ensures at_value { let row = row_at places.entry.floats.now i (status_of width places.entry.words.now i) in
+    ensures at_value { let row = row_at floats.now i status in
         (result.at ≡ s.at + 65 * length row) × Wrote out.old s.at (lines_of row) result.at out.new }
-    ensures less_value { let row = row_at places.entry.floats.now i (status_of width places.entry.words.now i) in
+    ensures less_value { let row = row_at floats.now i status in
         (pos result.plus -ℤ pos result.less ≡ (pos s.plus -ℤ pos s.less) +ℤ total_of row) ×
         (result.plus ≤ s.plus + 1000000000000000) × (result.less ≤ s.less + 1000000000000000) }
 {
-    if places.status_at(i) == 0 {
+    if status == 0 {
         return s;
     }
-    let v = rounded(places.mass_with(i, 0.0));
-    let at = write_line(out, s.at, i as u64, places.pieces_at(i) as u64, v);
+    let count = pieces(status);
+    let v = rounded(place_mass(floats, i, count, 0.0));
+    let at = write_line(out, s.at, i as u64, count as u64, v);
     add(s, at, v)
 }

@@ -18,8 +18,9 @@ place_line-s-requires c =
     let l = c.loop-i in
     let h : l.i < 32 = omega arith in
     let k = more_count width a.places.floats.now a.places.words.now l.i in
-    let m = rows_mono width a.places.floats.now a.places.words.now (l.i + 1) 32 (omega arith) in record {
-      place = h;
+    let m = rows_mono width a.places.floats.now a.places.words.now (l.i + 1) 32 (omega arith) in
+    rw c.status_at.ensures record {
+      place = (a.places.floats_held, h, a.places.pieces_fit l.i h);
       printable = each_printable width a.places.floats.now a.places.words.now 32 l.i h c.requires.printable;
       room = omega (arith, k, m, l.invariant.0, long l.invariant.1, c.requires.room);
       sums = (omega (arith, l.invariant.3), omega (arith, l.invariant.4));
@@ -30,10 +31,13 @@ loop-i-preserved c =
     let a = c.args in
     let l = c.loop-i in
     let r = c.place_line-s in
+    let at = rw c.status_at.ensures at r.ensures.at_value.0 in
+    let written = rw c.status_at.ensures at r.ensures.at_value.1 in
+    let total = rw c.status_at.ensures at r.ensures.less_value.0 in
     let k = more_count width a.places.floats.now a.places.words.now l.i in (
-      omega (arith, k, l.invariant.0, r.ensures.at_value.0),
-      more_written width a.places.floats.now a.places.words.now l.i l.invariant.1 r.ensures.at_value.1,
-      more_total width a.places.floats.now a.places.words.now l.i _ _ l.invariant.2 r.ensures.less_value.0,
+      omega (arith, k, l.invariant.0, at),
+      more_written width a.places.floats.now a.places.words.now l.i l.invariant.1 written,
+      more_total width a.places.floats.now a.places.words.now l.i _ _ l.invariant.2 total,
       omega (arith, l.invariant.3, r.ensures.less_value.1),
       omega (arith, l.invariant.4, r.ensures.less_value.2),
     )
