@@ -40,9 +40,10 @@ AllSmall ts = All (λ i t. Small t) ts
 abbrev pub AllSided : List Float → Type 0
 AllSided ts = All (λ i t. Sided t) ts
 
--- ts are the radii, and what was found of them
-abbrev pub Radii : Float → List Float → List Float → Found → Type 0
-Radii sigma xs ts r = Each (radius sigma) xs ts × (r.large ≡ true → AllLarge ts) × (r.low ≡ true → AllLow ts)
+-- what the answers tell of the radii
+abbrev pub Radii : Float → List Float → Found → List Float → Type 0
+Radii sigma xs r ts =
+    (r.near ≡ true → Each (radius sigma) xs ts) × (r.large ≡ true → AllLarge ts) × (r.low ≡ true → AllLow ts)
 
 -- tangents of angles up to 45 degrees, and what the roots are taken of
 abbrev pub Tangents : List Float → Type 0

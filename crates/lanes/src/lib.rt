@@ -4,7 +4,8 @@
 // Internal: what `factors` leaves in its scratch arrays is not said.
 #![tactic(auto)]
 
-ghost use Rattle.std.specs.Prelude.{◌≡◌, true};
+ghost use Rattle.std.specs.Prelude.{◌≡◌, true, replicate};
+ghost use Rattle.base.specs.Floats.{+0};
 ghost use Rattle.radial.specs.Radial.{radial_g};
 ghost use Rattle.lanes.specs.Factors.{Each, factor};
 ghost use Rattle.lanes.specs.Stages.{AllLarge, AllLow};
@@ -23,22 +24,27 @@ pub mod series;
 // A float of each of the 28 points of a block.
 pub type Block = [f64; 28];
 
-// The arrays that a block's factors are worked in. What they hold before and after does not matter: they are made
-// once, and lent for each block.
+// The arrays that a block's factors are worked in. What they hold before and after does not matter to `factors`: they
+// are made once, by `new` or of five arrays that a caller has, and lent for each block.
 #[derive(Drop)]
 pub struct Scratch {
-    // The radii.
-    radii: Block,
+    // The radii. `mixed` takes any that it finds here.
+    pub radii: Block,
     // The radii parted by their size, and the factors in the same order.
-    parted: Block,
-    factors: Block,
+    pub parted: Block,
+    pub factors: Block,
     // What the arc tangents take: tangents, and what roots are taken of.
-    tangents: Block,
-    radicands: Block,
+    pub tangents: Block,
+    pub radicands: Block,
 }
 
 impl Scratch {
-    pub fn new() -> Scratch {
+    // Arrays of zeros.
+    pub fn new() -> Scratch
+        ensures { let zeros = replicate 28 +0 in
+            (result.radii ≡ zeros) × (result.parted ≡ zeros) × (result.factors ≡ zeros)
+            × (result.tangents ≡ zeros) × (result.radicands ≡ zeros) }
+    {
         Scratch {
             radii: [0.0; 28],
             parted: [0.0; 28],
@@ -59,10 +65,11 @@ fn one_by_one(x: &Block, sigma: f64, g: &mut Block)
     }
 }
 
-// Writes to g the factors of the radii, of which `found` tells, and answers whether it could.
+// Writes to g the factors of the radii, of which `found` tells, and answers whether it could. The radii stay.
 fn of_radii(found: Found, scratch: &mut Scratch, g: &mut Block) -> bool
     requires { (found.large ≡ true → AllLarge scratch.old.radii) × (found.low ≡ true → AllLow scratch.old.radii) }
-    ensures { result ≡ true → Each radial_g scratch.old.radii g.new }
+    ensures factors { result ≡ true → Each radial_g scratch.old.radii g.new }
+    ensures kept { scratch.new.radii ≡ scratch.old.radii }
 {
     if found.large {
         return arc_factors(
@@ -85,10 +92,8 @@ fn of_radii(found: Found, scratch: &mut Scratch, g: &mut Block) -> bool
 fn staged(x: &Block, sigma: f64, scratch: &mut Scratch, g: &mut Block) -> bool
     ensures { result ≡ true → Each (factor sigma) x.now g.new }
 {
-    match radii_of(x, sigma, &mut scratch.radicands, g, &mut scratch.radii) {
-        Some(found) => of_radii(found, scratch, g),
-        None => false,
-    }
+    let found = radii_of(x, sigma, &mut scratch.radicands, g, &mut scratch.radii);
+    found.near && of_radii(found, scratch, g)
 }
 
 // Writes to g the radial factor of each point, x being the squares of the distances, for any sigma; the arcs of a

@@ -57,11 +57,12 @@ fn gather(s: &Block, places: &[usize; 28], g: &mut Block)
     }
 }
 
-// Writes to g the factors of the radii, none above 1 if `low`, and answers whether it could. The array for the places
-// is made here: no other path needs it.
+// Writes to g the factors of the radii, none above 1 if `low`, and answers whether it could. The radii stay. The array
+// for the places is made here: no other path needs it.
 pub fn mixed(low: bool, scratch: &mut Scratch, g: &mut Block) -> bool
     requires { low ≡ true → AllLow scratch.old.radii }
-    ensures { result ≡ true → Each radial_g scratch.old.radii g.new }
+    ensures factors { result ≡ true → Each radial_g scratch.old.radii g.new }
+    ensures kept { scratch.new.radii ≡ scratch.old.radii }
 {
     let mut places = [0usize; 28];
     let u = &mut scratch.parted;

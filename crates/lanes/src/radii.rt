@@ -1,6 +1,6 @@
 // The radii of 28 points, from the squares of their distances: sigma times the root.
 // Internal: a function with a `requires` is called by proved code alone.
-ghost use Rattle.std.specs.Prelude.{◌≡◌, IfSome};
+ghost use Rattle.std.specs.Prelude.{◌≡◌};
 ghost use Rattle.arcs.specs.Stages.{Large, Low};
 ghost use Rattle.lanes.specs.Stages.{Radii};
 
@@ -8,9 +8,12 @@ use crate::Block;
 use arcs::sharpen_all;
 use root::lanes::{any_lane, near};
 
-// What was found of the radii: whether all are at least 0.1, and whether none is above 1.
+// What was found of the radii: whether every guess was near enough, so that they are the radii asked for; whether all
+// are at least 0.1; and whether none is above 1. No Option, since what is said of their sizes holds of the radii as
+// they were made, also where a guess was too far off.
 #[derive(Clone, Copy)]
 pub struct Found {
+    pub near: bool,
     pub large: bool,
     pub low: bool,
 }
@@ -40,9 +43,9 @@ fn not_low(t: f64) -> u64
     if t > 1.0 { u64::MAX } else { 0 }
 }
 
-// The radii, by the guesses y; none where a guess is not near enough.
-fn radii(x: &Block, y: &Block, sigma: f64, t: &mut Block) -> Option<Found>
-    ensures { IfSome result (Radii sigma x.now t.new) }
+// The radii, by the guesses y.
+fn radii(x: &Block, y: &Block, sigma: f64, t: &mut Block) -> Found
+    ensures { Radii sigma x.now result t.new }
 {
     let mut coarse = 0u64;
     let mut far = 0u64;
@@ -57,24 +60,16 @@ fn radii(x: &Block, y: &Block, sigma: f64, t: &mut Block) -> Option<Found>
         small = small | not_large(r);
         high = high | not_low(r);
     }
-    if (coarse >> 36) | (far >> 62) != 0 {
-        return None;
-    }
-    Some(Found {
+    Found {
+        near: (coarse >> 36) | (far >> 62) == 0,
         large: small == 0,
         low: high == 0,
-    })
+    }
 }
 
 // The radii in t; `radicands` is for significands and y for guesses.
-pub fn radii_of(
-    x: &Block,
-    sigma: f64,
-    radicands: &mut Block,
-    y: &mut Block,
-    t: &mut Block,
-) -> Option<Found>
-    ensures { IfSome result (Radii sigma x.now t.new) }
+pub fn radii_of(x: &Block, sigma: f64, radicands: &mut Block, y: &mut Block, t: &mut Block) -> Found
+    ensures { Radii sigma x.now result t.new }
 {
     guess(x, radicands, y);
     sharpen_all(28, radicands, y, 1.1102230246251565e-16);

@@ -24,7 +24,7 @@ loop-i-preserved c =
 pub returns : goal.returns
 returns c =
     let l = c.loop-i in (
-      whole (all_if l.invariant.0 (search rules) (clear_zero 62 l.coarse l.far (search rules))),
+      λ e. whole (all_if l.invariant.0 (search rules) (clear_zero 62 l.coarse l.far (eqb-true _ _ e))),
       λ e. whole (all_if l.invariant.1 (search rules) (eqb-true _ _ e)),
       λ e. whole (all_if l.invariant.2 (search rules) (eqb-true _ _ e)),
     )
