@@ -1,13 +1,13 @@
 -- Laws of a run that is written from a place on. Assumes nothing.
 use Rattle.std.specs.Prelude.{◌≡◌, ℕ, ◌+◌, ◌-◌, ◌≤◌, ◌<◌, set, replicate}
 use Rattle.std.proofs.Math.Path.{refl, sym, ap}
-use Rattle.std.proofs.Common.{◌∙◌, zero-add, add-one, length-take, take-add, take-take, take_all}
+use Rattle.std.proofs.Common.{◌∙◌, zero-add, add-one, length-take, length-set, take-add, take-take, take-suc, take_all}
 use Rattle.std.proofs.Common.{get_or-drop, get_or-append-add}
 use mathlib.Core.List.{List, [], ◌∷◌, ◌++◌, append_assoc}
 use native.Mathlib.Omega.{arith}
 use Rattle.std.proofs.Math.ListN.{length, take, drop, get_or, length-append, length-drop, take-append-drop}
 use Rattle.std.proofs.Math.ListN.{get_or-append}
-use Rattle.std.proofs.lemmas.List.{replicate_more}
+use Rattle.std.proofs.lemmas.List.{replicate_more, length-replicate, get_or-replicate}
 use Rattle.std.proofs.lemmas.List.Edits.{sets}
 use Rattle.std.proofs.Math.Seq.{sets-eq, drop-drop, drop_at, length-take-le, take-append_seam, drop-append_seam, take-suc-set}
 use Rattle.std.proofs.Math.Seq.{drop-append-add, take-append-add, get_or-take}
@@ -156,6 +156,40 @@ module _ {A : Type 0} where
       (write-more l 0 xs ys (omega arith)) in
       rw (w, ← m) ((rw zero-add at (write-more l 0 (xs ++ ys) zs (omega arith)))
       ∙ ap (write l 0) (append_assoc xs ys zs))
+
+  -- ---- a run copied word by word: i of the words xs stand from `at` on
+  pub record Copied (l : List A) (at : ℕ) (xs : List A) (i : ℕ) (f : List A) : Type 0 where
+    pub within : i ≤ length xs
+    pub long : length f ≡ length l
+    pub same : f ≡ write l at (take i xs)
+
+  pub none_copied : (l : List A) (at : ℕ) (xs : List A) → Copied l at xs 0 l
+  none_copied l at xs = record { within = omega arith; long = refl; same = sym (write-none l at) }
+
+  module _ {l : List A} {at : ℕ} {xs : List A} {i : ℕ} {f : List A} where
+    pub one_copied : {v : A} (d : A) → Copied l at xs i f → i < length xs → at + length xs ≤ length l
+        → v ≡ get_or xs i d
+        → Copied l at xs (i + 1) (set f (at + i) v)
+    one_copied d c h b e =
+        record {
+          within = omega arith;
+          long = simp length-set c.long;
+          same = rw (c.same, e, add-one, take-suc xs i d h)
+              (write_snoc l at i (take i xs) (get_or xs i d) (length-take-le i xs (omega arith)) (omega arith));
+        }
+
+    pub all_copied : Copied l at xs i f → length xs ≤ i → f ≡ write l at xs
+    all_copied c h = c.same ∙ ap (write l at) (take_all i xs h)
+
+  -- the same of one word written n times
+  module _ (n : ℕ) (v : A) {l : List A} {at i : ℕ} {f : List A} where
+    pub one_filled : Copied l at (replicate n v) i f → i < n → at + n ≤ length l
+        → Copied l at (replicate n v) (i + 1) (set f (at + i) v)
+    one_filled c h b =
+        let e = length-replicate n v in one_copied v c (omega arith) (omega arith) (sym (get_or-replicate n i v v h))
+
+    pub all_filled : Copied l at (replicate n v) i f → n ≤ i → f ≡ write l at (replicate n v)
+    all_filled c h = all_copied c (rw length-replicate h)
 
 -- ---- what a fill needs
 pub ruleset fills = (write_part, one_more, all_same)
