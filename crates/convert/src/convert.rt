@@ -45,7 +45,10 @@ pub fn convert(s: &[u8], default: f64, loader: Loader, out: &mut [f64]) -> Resul
     ensures { outcome (converted_as result) out.new
         ≡ conversion s.now default loader out.old }
 {
-    let scan = scan_lines(s, default)?;
+    let scan = scan_lines(s, default);
+    if !scan.ended {
+        return Err(Refusal::BadKernelLine);
+    }
     if out.len() / 6 < scan.lines {
         return Err(Refusal::ShortList);
     }

@@ -1,6 +1,5 @@
 // The lines of a kernel file, each a token at a position. No function here has a `requires`.
-ghost use Rattle.std.specs.Prelude.{◌≡◌, true, false, length, IfOk, MatchResult};
-ghost use Rattle.base.specs.declared.refusal.Refusal.TheVariants.{BadKernelLine};
+ghost use Rattle.std.specs.Prelude.{◌≡◌, length};
 ghost use Rattle.text.specs.Text.{rest, got};
 ghost use Rattle.text.specs.Form.{map};
 ghost use Rattle.text.specs.Form.{read as form};
@@ -8,14 +7,15 @@ ghost use Rattle.convert.specs.Loaders.{all_alike_lem};
 ghost use Rattle.convert.specs.Lines.{given_form, missing_form, exponent_form, to_given, to_missing, to_exponent, file_line, filed, all_lines};
 
 use crate::file::{FileKernel, is_alike};
-use base::refusal::Refusal;
 use text::read::{Read, read_bytes, read_float};
 
-// The lines of a file: how many, and whether both loaders make the same kernels of them.
+// What the lines of a file are: how many, whether both loaders make the same kernels of them, and whether all bytes are
+// lines. A line that is not of the form is counted still, and is the last.
 #[derive(Clone, Copy)]
 pub struct Scan {
     pub lines: usize,
     pub same: bool,
+    pub ended: bool,
 }
 
 // h
@@ -73,13 +73,13 @@ pub fn read_kernel(s: &[u8], at: usize) -> Read<FileKernel>
     }
 }
 
-// Reads all lines once, or finds a byte that is of no line, 20. No more lines are asked for than there are bytes.
+// Reads all lines once; no more are asked for than there are bytes. A file with a bad line is no error here, since it is
+// answered of too: `convert` refuses it.
 // (A `while`, since its two tests are one end: a `for` over the count would leave at two places.)
-pub fn scan_lines(s: &[u8], default: f64) -> Result<Scan, Refusal>
-    ensures lines { IfOk result (λ scan. scan.lines ≡ length (filed s.now)) }
-    ensures same { IfOk result (λ scan. scan.same ≡ all_alike_lem default (filed s.now)) }
-    ensures whole { MatchResult result (λ _. all_lines s.now ≡ true)
-        (λ e. (e ≡ BadKernelLine) × (all_lines s.now ≡ false)) }
+pub fn scan_lines(s: &[u8], default: f64) -> Scan
+    ensures lines_value { result.lines ≡ length (filed s.now) }
+    ensures same_value { result.same ≡ all_alike_lem default (filed s.now) }
+    ensures ended_value { result.ended ≡ all_lines s.now }
 {
     let mut lines = 0;
     let mut same = true;
@@ -90,9 +90,6 @@ pub fn scan_lines(s: &[u8], default: f64) -> Result<Scan, Refusal>
         at = line.at;
         lines += 1;
     }
-    if at == s.len() {
-        Ok(Scan { lines, same })
-    } else {
-        Err(Refusal::BadKernelLine)
-    }
+    let ended = at == s.len();
+    Scan { lines, same, ended }
 }

@@ -1,5 +1,5 @@
 -- `scan_lines` meets its contract: the lines read and those left are all. Assumes nothing.
-use Rattle.std.proofs.Common.{◌≡◌, length, Bool, ◌&&◌, refl, ap, sym, ◌∙◌, arith, eq-eqb, ne_eqb}
+use Rattle.std.proofs.Common.{Bool, ◌&&◌, ap, sym, ◌∙◌}
 use Rattle.convert.specs.Lines.{ended}
 use Rattle.convert.proofs.Scans.{Found, none_scanned, line_scanned, found_end, found_many, ended_is}
 use Rattle.convert.proofs.lines.scan_lines.Goals as goal
@@ -14,25 +14,15 @@ loop-at-preserved c =
     line_scanned _ _ l.invariant c.if-lines-s.true c.loop-at-test.true c.read_kernel-line.ensures
     (ap (λ (b : Bool). l.same && b) c.is_alike-same.ensures)
 
-pub returns-then-at-s : goal.returns-then-at-s
-returns-then-at-s c =
-    let l = c.loop-at in
-    let e : l.at ≡ length c.args.s.now = c.if-at-s.true in
-    let f = found_end _ _ l.invariant (omega (arith, e)) in
-    record {
-      lines = f.lines;
-      same = f.agree;
-      whole = ap ended f.text ∙ (sym (ended_is c.args.s.now l.at) ∙ eq-eqb l.at (length c.args.s.now) e);
-    }
-
-pub returns-else-at-s-clause-whole : goal.returns-else-at-s-clause-whole
-returns-else-at-s-clause-whole c =
+pub returns : goal.returns
+returns c =
     let l = c.loop-at in
     let f : Found c.args.s.now c.args.default l.lines l.at l.same
     = elim c.loop-at-test.branch [
       | then-loop-at-test+else-lines-s w ↦ found_many _ _ l.invariant w.if-lines-s.false
       | else-loop-at-test w ↦ found_end _ _ l.invariant w.loop-at-test.false
-    ] in (
-      refl,
-      ap ended f.text ∙ (sym (ended_is c.args.s.now l.at) ∙ ne_eqb l.at (length c.args.s.now) c.if-at-s.false),
-    )
+    ] in record {
+      lines_value = f.lines;
+      same_value = f.agree;
+      ended_value = ended_is c.args.s.now l.at ∙ sym (ap ended f.text);
+    }
