@@ -2,12 +2,11 @@
 // Loops go by index, as the definitions do, since each runs over two arrays in step.
 // Internal: a function with a `requires` is called by proved code alone.
 ghost use Rattle.std.specs.Prelude.{◌≡◌, ◌<◌, ◌≤◌};
-ghost use Rattle.pieces.specs.Fit.{zeros, term_scale, scales_of, term_of, basis_of, approx, peak_error};
+ghost use Rattle.pieces.specs.Fit.{zeros, scales_of, term_of, basis_of, approx, peak_error};
 
-use crate::points::{SampledCurve, whole};
+use crate::points::{SampledCurve, fill_scales};
 use crate::tables::fill_table;
 use base::floats::{abs, greater_of};
-use powers::power::ten;
 
 // How many terms, and their scales, the first of the array.
 #[derive(Clone, Copy)]
@@ -15,16 +14,6 @@ pub struct Basis {
     pub terms: usize,
     pub scales: [f64; 16],
     ghost few: { terms ≤ 16 },
-}
-
-// The scale of term i: two decades around 1.
-#[tactic(auto, unfolding(crate::specs::Fit::term_scale))]
-fn scale_of(terms: usize, i: usize) -> f64
-    requires { (1 < terms) × (terms ≤ 16) × (i < terms) }
-    ensures { result ≡ term_scale terms i }
-{
-    let t = whole(i) / whole(terms - 1);
-    ten(-1.0 + 2.0 * t)
 }
 
 // The value at u of the term of a scale.
@@ -36,13 +25,12 @@ fn term_of(scale: f64, u: f64) -> f64
 
 impl Basis {
     // So many terms, with their scales.
-    #[tactic(auto, unfolding(crate::specs::Fit::scales_of, crate::specs::Tables::Tabled))]
     pub fn of(terms: usize) -> Basis
         requires { (terms ≤ 16) × (terms ≡ 1 → ⊥) }
         ensures { (result.terms ≡ terms) × (result.scales ≡ scales_of terms zeros) }
     {
         let mut scales = [0.0; 16];
-        fill_table(&mut scales, terms, |i| scale_of(terms, i));
+        fill_scales(&mut scales, terms);
         Basis { terms, scales }
     }
 
