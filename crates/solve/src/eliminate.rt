@@ -1,7 +1,7 @@
 // The choice of pivot and the elimination. The matrix and n stay apart, for the reason that stands in `matrix`.
 // Internal: a function with a `requires` is called by proved code alone.
-ghost use Rattle.std.specs.Prelude.{◌≡◌, ◌≤◌, ◌<◌};
-ghost use Rattle.solve.specs.Elimination.{better, smaller, pivot_of, reduced, column_at, ended_as, eliminated};
+ghost use Rattle.std.specs.Prelude.{◌≡◌, ◌≤◌};
+ghost use Rattle.solve.specs.Elimination.{better, smaller, ended_as, eliminated};
 
 use crate::matrix::{scale, sweep};
 use base::floats::abs;
@@ -44,55 +44,38 @@ fn smaller_of(smallest: f64, value: f64) -> f64
     smallest
 }
 
-// The pivot of a column, from the diagonal down.
-#[tactic(auto, using(crate::proofs::Columns::pivots), unfolding(crate::specs::Elimination::pivot_of))]
-fn find_pivot(m: &[[f64; 17]; 16], n: usize, col: usize) -> Pivot
-    requires { (n ≤ 16) × (col < n) }
-    ensures pivot { result ≡ pivot_of n col m.now }
-    ensures row { result.row < n }
-{
-    let mut best = Pivot {
-        row: col,
-        value: abs(m[col][col]),
-    };
-    for row in col + 1..n {
-        best = better(best, row, abs(m[row][col]));
-    }
-    best
-}
-
-// Brings a column's pivot to the diagonal, divides by it and clears the column in all other rows. Answers the
-// smallest pivot so far, this one with the others; a flat one leaves the matrix as it is.
-#[tactic(auto, unfolding(crate::specs::Elimination::column_at))]
-fn reduce_column(
-    m: &mut [[f64; 17]; 16],
-    n: usize,
-    col: usize,
-    smallest: f64,
-) -> Result<f64, FlatPivot>
-    requires { (n ≤ 16) × (col < n) }
-    ensures { ended_as result m.new ≡ column_at n col (reduced smallest m.old) }
-{
-    let best = find_pivot(m, n, col);
-    if best.value <= 1e-18 {
-        let column = col as u32;
-        return Err(FlatPivot { column });
-    }
-    m.swap(col, best.row);
-    scale(m, n, col);
-    sweep(m, n, col);
-    Ok(smaller_of(smallest, best.value))
-}
-
-// Reduces the matrix of n rows, column by column, and answers the smallest accepted pivot, in absolute value.
-#[tactic(auto, using(crate::proofs::Turns::turns), unfolding(crate::specs::Elimination::eliminated))]
+// Reduces the matrix of n rows, column by column, and answers the smallest accepted pivot, in absolute value. The
+// candidates of a column are the rows from the diagonal down; one turn past the last of them judges the best. A flat
+// one leaves both loops by one labelled break, as 01 asks. Any other is brought to the diagonal and divided by, and
+// its column is cleared in all other rows.
+#[tactic(auto, using(crate::proofs::Columns::pivots), unfolding(crate::specs::Elimination::pivot_of, crate::specs::Elimination::column_at))]
 pub fn eliminate(m: &mut [[f64; 17]; 16], n: usize) -> Result<f64, FlatPivot>
     requires { n ≤ 16 }
     ensures { ended_as result m.new ≡ eliminated n m.old }
 {
+    let mut flat = None;
     let mut smallest = f64::INFINITY;
-    for col in 0..n {
-        smallest = reduce_column(m, n, col, smallest)?;
+    'columns: for col in 0..n {
+        let mut best = Pivot {
+            row: col,
+            value: abs(m[col][col]),
+        };
+        for row in col + 1..n + 1 {
+            if row < n {
+                best = better(best, row, abs(m[row][col]));
+            } else if best.value <= 1e-18 {
+                let column = col as u32;
+                flat = Some(FlatPivot { column });
+                break 'columns;
+            }
+        }
+        m.swap(col, best.row);
+        scale(m, n, col);
+        sweep(m, n, col);
+        smallest = smaller_of(smallest, best.value);
     }
-    Ok(smallest)
+    match flat {
+        Some(pivot) => Err(pivot),
+        None => Ok(smallest),
+    }
 }
