@@ -60,12 +60,12 @@ pub mass_digits : (n : ℕ) → n < 100000000000000000 → decimal_length n ≤ 
 mass_digits n h = digits-under 16 n h
 
 -- the text of a whole number by its sign and magnitude
-text_below : (b : Bool) (n : ℕ) → b && ltb 0 n ≡ true → 45 ∷ decimal_text n ≡ whole_text (signed_whole b n)
+pub text_below : (b : Bool) (n : ℕ) → b && ltb 0 n ≡ true → 45 ∷ decimal_text n ≡ whole_text (signed_whole b n)
 text_below true zero h = absurd (true≢false (sym h))
 text_below true (suc n) h = refl
 text_below false n h = absurd (true≢false (sym h))
 
-text_plain : (b : Bool) (n : ℕ) → b && ltb 0 n ≡ false → decimal_text n ≡ whole_text (signed_whole b n)
+pub text_plain : (b : Bool) (n : ℕ) → b && ltb 0 n ≡ false → decimal_text n ≡ whole_text (signed_whole b n)
 text_plain true zero h = refl
 text_plain true (suc n) h = absurd (true≢false (sym (lt-ltb 0 (suc n) (omega arith)) ∙ h))
 text_plain false n h = refl

@@ -8,13 +8,26 @@ use native.Mathlib.Numerals.{add-one}
 use native.Mathlib.Omega.{arith}
 use borrow.Author.Tests.{le-leb, lt-leb, leb-true}
 use lib.Dec.{leb}
+use lib.ListN.{length}
 use lib.Ieee.{Float}
+use Rattle.base.specs.Loops.{times}
 use Rattle.kernel.specs.declared.kernel.Kernel.{Kernel}
 use Rattle.kernel.specs.Kernels.{kernel_at}
+use Rattle.kernel.specs.KernelLaws.{kernel_set-length}
 use Rattle.pieces.specs.declared.pieces.Pieces.{Pieces}
 use Rattle.pieces.specs.Pieces.{decomposed}
 use Rattle.pieces.specs.PieceLaws.{at_most_16}
+use Rattle.pieces.specs.Kernels.{lay_at, laid}
 use Rattle.pieces.specs.Lists.{piece_count}
+
+-- pieces that are written leave the run as long as it was
+pub laid-length : (n : ℕ) (k : Kernel) (p : Pieces) (xs : List Float) → length (laid n k p xs) ≡ length xs
+unfolding laid times
+laid-length n k p xs = go p.count 0 xs
+  where
+    go : (m i : ℕ) (ys : List Float) → length (times (lay_at n k p) m i ys) ≡ length ys
+    go zero i ys = refl
+    go (suc m) i ys = go m (suc i) _ ∙ kernel_set-length ys (n + i) _
 
 module _ (ks : List Float) (radius : Float) where
   -- ---- how many

@@ -1,8 +1,8 @@
 -- One step of a token at a position: what `rest` is there, and what the token's definition makes of it.
 -- Assumes nothing.
 use mathlib.Core.Path.{◌≡◌, refl, sym, ap}
-use mathlib.Core.List.{List, ◌∷◌}
-use mathlib.Core.Bool.{true, false, ◌&&◌, and-false, and-eq-true_iff}
+use mathlib.Core.List.{List, [], ◌∷◌}
+use mathlib.Core.Bool.{Bool, true, false, ◌&&◌, and-false, and-eq-true_iff}
 use Prim.Native.Nat.{ℕ, zero, suc, ◌+◌, ◌-◌, ◌*◌, ◌^◌, ◌<◌, ◌≤◌}
 use native.Mathlib.Nat.{add-zero, pow-suc, pow-le-pow_right, lt_of_lt_of_le}
 use native.Mathlib.Numerals.{add-one}
@@ -20,7 +20,7 @@ use Rattle.text.specs.Tokens.{literal-back, literal_inv}
 use Rattle.std.proofs.lemmas.List.{get_or-take, get_or-drop}
 use lib.Dec.{lit<, ltb, eqb}
 use borrow.Author.Tests.{le-leb, lt-leb, ne_eqb, lt-ltb, le-ltb, ltb-true}
-use Rattle.text.specs.Text.{Text, lost, left, rest, literal, digit, pattern_from, decimal_from, decimal, missing, Got}
+use Rattle.text.specs.Text.{Text, lost, left, rest, literal, keep_if, digit, pattern_from, decimal_from, decimal, missing, Got}
 use Rattle.text.specs.TextLaws.{rest_in, rest-past, rest_end, rest_cons, rest-next, rest-none, hexes}
 
 -- the literal stands at the head of a text where the text begins with its bytes
@@ -46,6 +46,15 @@ literal-there p s at h b e =
     let k : at + length p ≤ length s = omega (arith, ap length (part_is s at), length-drop at s) in
     rw (rest_in s at h, rest_in s (at + length p) k, begun p (drop at s) (rw part_is at e))
     (ap left (sym (drop-drop (length p) at s)))
+
+-- two tests are one after the other, and no bytes stand before every text
+pub keep-both : (a b : Bool) (t : Text) → keep_if (a && b) t ≡ keep_if a (keep_if b t)
+keep-both true b t = refl
+keep-both false b t = refl
+
+pub literal_all : (t : Text) → literal [] t ≡ t
+literal_all lost = refl
+literal_all (left l) = refl
 
 -- where a token is not there, what comes back is one past the end, with 0
 pub missed : (s : List ℕ) {g : Got ℕ} → missing ≡ g → record { val = 0; text = rest s (length s + 1) } ≡ g
