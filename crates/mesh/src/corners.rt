@@ -1,5 +1,7 @@
-// The corners of a mesh's faces, as the functions that go over its edges take them. No part of `Mesh`, which has the
-// coordinates too: the promises on edges hold of any list of such corners.
+// The corners of a mesh's faces, for the functions on its edges that rest on each being the number of a vertex: they
+// count edges in lots of vertices, or have two halves of a word for the least and the greatest corner of a stretch. A
+// function that works with any words takes the slice. No part of `Mesh`, which has the coordinates too: the promises on
+// edges hold of any list of such corners.
 ghost use Rattle.std.specs.Prelude.{◌≤◌, length};
 ghost use Rattle.mesh.specs.Corners.{Below};
 

@@ -1,7 +1,7 @@
 // A mesh that is lent as two runs, and its triangles.
 // Internal: a function with a `requires` is called by proved code alone.
-ghost use Rattle.std.specs.Prelude.{◌≡◌, length};
-ghost use Rattle.mesh.specs.Triangles.{normal_of, Sound};
+ghost use Rattle.std.specs.Prelude.{◌≡◌, ◌+◌, ◌*◌, ◌≤◌, length};
+ghost use Rattle.mesh.specs.Triangles.{normal_of, vertex, Sound};
 
 use crate::check::check_mesh;
 use crate::vectors::V3;
@@ -26,6 +26,19 @@ impl Triangle {
     }
 }
 
+// Vertex i of a run of coordinates. It asks for those three alone: the run need not be that of a mesh.
+#[tactic(auto, unfolding(crate::specs::Triangles::vertex))]
+pub fn vertex(xyz: &[f64], i: usize) -> V3
+    requires { 3 * i + 3 ≤ length xyz.now }
+    ensures { result ≡ vertex xyz.now i }
+{
+    V3 {
+        x: xyz[3 * i],
+        y: xyz[3 * i + 1],
+        z: xyz[3 * i + 2],
+    }
+}
+
 // A mesh that passed the check: three coordinates a vertex, three corners a face, and each corner names a vertex. Loops
 // go over its faces by number, since the definitions of volumes, masses and centroids add up by face number, as
 // `triangles_of` gives each: an iterator of triangles would need the same number in its contract.
@@ -37,8 +50,7 @@ pub struct Mesh<'a> {
 }
 
 impl<'a> Mesh<'a> {
-    ghost use Rattle.std.specs.Prelude.{◌+◌, ◌*◌, ◌≤◌, ◌<◌, get_or};
-    ghost use Rattle.mesh.specs.Triangles.{vertex};
+    ghost use Rattle.std.specs.Prelude.{◌<◌, get_or};
     ghost use Rattle.mesh.specs.Checks.{mesh_check};
     ghost use Rattle.mesh.specs.Meshes.{face_count_of, triangles_of, MeshIf};
 
@@ -58,25 +70,12 @@ impl<'a> Mesh<'a> {
         self.faces.len() / 3
     }
 
-    // Vertex i.
-    #[tactic(auto, unfolding(crate::specs::Triangles::vertex))]
-    fn vertex(self, i: usize) -> V3
-        requires { 3 * i + 3 ≤ length self.xyz.now }
-        ensures { result ≡ vertex self.entry.xyz.now i }
-    {
-        V3 {
-            x: self.xyz[3 * i],
-            y: self.xyz[3 * i + 1],
-            z: self.xyz[3 * i + 2],
-        }
-    }
-
     // The vertex that corner k names.
     fn corner(self, k: usize) -> V3
         requires { k < length self.faces.now }
         ensures { result ≡ vertex self.entry.xyz.now (get_or self.entry.faces.now k 0) }
     {
-        self.vertex(self.faces[k] as usize)
+        vertex(self.xyz, self.faces[k] as usize)
     }
 
     // The triangle of face f.
