@@ -5,6 +5,7 @@ ghost use Rattle.closed.specs.Held.{Cut, Sound, Gathered, Halved};
 
 use edges::numbers::put_at;
 use edges::ranges::Ends;
+use mesh::corners::Corners;
 use near::list::list_near;
 use near::spans::{CornerRange, Faces};
 use sort::arrange::order;
@@ -86,11 +87,11 @@ fn take_faces(
     if range.misses(faces.spans[from / 1024]) {
         return batch;
     }
-    let near = list_near(faces.corners, from, count, range, list);
+    let near = list_near(faces.corners.list, from, count, range, list);
     let room = make_room(near, low, batch, words, ends);
     let mut n = room.count;
     for k in 0..near {
-        n = put_at(faces.corners, list[k], words, n, low, room.end);
+        n = put_at(faces.corners.list, list[k], words, n, low, room.end);
     }
     Batch {
         count: n,
@@ -100,7 +101,13 @@ fn take_faces(
 
 // Every number 2k or 2k + 1 of the faces, with k one of low .. end - 1, added to an empty batch; where these are too
 // many, the end is lowered.
-pub fn gather(faces: &Faces, low: u64, empty: Batch, words: &mut [u64], ends: &mut Ends) -> Batch
+pub fn gather_by_spans(
+    faces: &Faces,
+    low: u64,
+    empty: Batch,
+    words: &mut [u64],
+    ends: &mut Ends,
+) -> Batch
     requires { Gathered faces.now.corners.list.now low empty words.old 0 }
     ensures { (result.end ≤ empty.end)
         × Gathered faces.now.corners.list.now low result words.new (length faces.now.corners.list.now) }
@@ -121,4 +128,14 @@ pub fn gather(faces: &Faces, low: u64, empty: Batch, words: &mut [u64], ends: &m
         ends,
         &mut list,
     )
+}
+
+// The same, where the spans are not made yet. A sweep makes them once for all of its ranges and does not call this: to
+// make them takes a pass over the faces, and they take 8,196 bytes of local memory.
+pub fn gather(corners: Corners, low: u64, empty: Batch, words: &mut [u64], ends: &mut Ends) -> Batch
+    requires { Gathered corners.list.now low empty words.old 0 }
+    ensures { (result.end ≤ empty.end)
+        × Gathered corners.entry.list.now low result words.new (length corners.entry.list.now) }
+{
+    gather_by_spans(&Faces::new(corners), low, empty, words, ends)
 }

@@ -6,15 +6,15 @@
 // and there are about 208 of them at most, whatever the mesh. With at most 121 ends of lots, or 117 of the sample, that
 // makes some 330 passes over the faces at most. A pass reads the stretches whose span meets its range.
 //
-// Local memory, in bytes: 491,520 of words, 3,080 of ends and 8,196 of spans here, a list of 2,048 in `gather` and one
-// of 256 in `list_near` are 505,100. A level of the sort takes some 80, and there are at most 42: 3,360. With the
-// frames of the functions between, that is well within the 524,288 that the header promises for a call.
+// Local memory, in bytes: 491,520 of words, 3,080 of ends and 8,196 of spans here, a list of 2,048 in `gather_by_spans`
+// and one of 256 in `list_near` are 505,100. A level of the sort takes some 80, and there are at most 42: 3,360. With
+// the frames of the functions between, that is well within the 524,288 that the header promises for a call.
 // Internal: a function with a `requires` is called by proved code alone.
 ghost use Rattle.std.specs.Prelude.{◌≡◌, true, false, ◌+◌, ◌*◌, ◌≤◌, ◌<◌, length, get_or};
 ghost use Rattle.sort.specs.Order.{Rising};
 ghost use Rattle.closed.specs.Held.{Paired, Unpaired, Matched, Unmatched};
 
-use crate::gather::{Batch, gather};
+use crate::gather::{Batch, gather_by_spans};
 use edges::divide::divide_by_lots;
 use mesh::corners::Corners;
 use near::spans::Faces;
@@ -59,7 +59,7 @@ pub fn sweep(corners: Corners, top: u64) -> bool
             count: 0,
             end: ends.next(low, top),
         };
-        let batch = gather(&faces, low, empty, &mut words, &mut ends);
+        let batch = gather_by_spans(&faces, low, empty, &mut words, &mut ends);
         let n = batch.count;
         let end = batch.end;
         order(&mut words, n, 2 * low, 2 * end);

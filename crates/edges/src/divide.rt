@@ -3,7 +3,7 @@
 // have room. Where few corners have many of the numbers, lots are too coarse: then a sample of the numbers is put in
 // order and divided into equal shares.
 // Internal: a function with a `requires` is called by proved code alone.
-ghost use Rattle.std.specs.Prelude.{◌<◌, ◌≤◌};
+ghost use Rattle.std.specs.Prelude.{◌<◌, ◌≤◌, length};
 ghost use Rattle.sort.specs.Order.{Within};
 
 use crate::numbers::put_at;
@@ -72,11 +72,12 @@ fn mark_lots(counts: &[u64; WORDS]) -> Ends {
 
 // The numbers of every 103rd face, put into words; answers how many there are. By the faces' numbers, as `put_at`'s
 // promise `Faced` has them.
-fn sample(corners: Corners, words: &mut [u64; WORDS]) -> usize
+fn sample(corners: &[u32], words: &mut [u64; WORDS]) -> usize
+    requires { length corners.now ≤ 6291456 }
     ensures { (result ≤ 61440) × Within 0 2199023255552 words.new result }
 {
     let mut n: usize = 0;
-    for face in (0..corners.face_count()).step_by(103) {
+    for face in (0..corners.len() / 3).step_by(103) {
         n = put_at(corners, face, words, n, 0, 1_099_511_627_776);
     }
     n
@@ -92,9 +93,12 @@ fn mark(words: &[u64]) -> Ends {
     ends
 }
 
-// The ends of ranges, where there are more numbers than a batch has room for, by the sample alone.
-pub fn divide(corners: Corners, words: &mut [u64; WORDS]) -> Ends {
-    if corners.list.len() <= WORDS {
+// The ends of ranges, where there are more numbers than a batch has room for, by the sample alone. A slice and no
+// `Corners`: where nothing is counted in lots, a corner may be any word.
+pub fn divide(corners: &[u32], words: &mut [u64; WORDS]) -> Ends
+    requires { length corners.now ≤ 6291456 }
+{
+    if corners.len() <= WORDS {
         return Ends::new();
     }
     let n = sample(corners, words);
@@ -111,5 +115,5 @@ pub fn divide_by_lots(corners: Corners, words: &mut [u64; WORDS]) -> Ends {
     if !uneven(words) {
         return mark_lots(words);
     }
-    divide(corners, words)
+    divide(corners.list, words)
 }

@@ -5,8 +5,6 @@
 ghost use Rattle.std.specs.Prelude.{◌≡◌, ◌+◌, ◌*◌, ◌<◌, ◌≤◌, length, slice_index};
 ghost use Rattle.edges.specs.Numbers.{code, Put, Faced};
 
-use mesh::corners::Corners;
-
 // The number of the edge from a to b.
 #[tactic(auto, using(crate::specs::NumberLaws::code_of))]
 fn code(a: u32, b: u32) -> u64
@@ -37,23 +35,24 @@ fn put_face(words: &mut [u64], n: usize, x: u32, y: u32, z: u32, low: u64, end: 
 }
 
 // The numbers 2k or 2k + 1 of a face, with k one of low .. end - 1, put after n words; answers how many words count.
+// A slice and no `Corners`: an edge has its number whatever its corners are.
 pub fn put_at(
-    corners: Corners,
+    corners: &[u32],
     face: usize,
     words: &mut [u64],
     n: usize,
     low: u64,
     end: u64,
 ) -> usize
-    requires { (3 * face + 3 ≤ length corners.list.now) × (n + 3 ≤ length words.old)
-        × (low ≤ 1099511627776) × (end ≤ 1099511627776) }
-    ensures { Faced (2 * low) (2 * end) (slice_index corners.entry.list.now (3 * face))
-        (slice_index corners.entry.list.now (3 * face + 1)) (slice_index corners.entry.list.now (3 * face + 2))
+    requires { (3 * face + 3 ≤ length corners.now) × (length corners.now ≤ 6291456)
+        × (n + 3 ≤ length words.old) × (low ≤ 1099511627776) × (end ≤ 1099511627776) }
+    ensures { Faced (2 * low) (2 * end) (slice_index corners.now (3 * face))
+        (slice_index corners.now (3 * face + 1)) (slice_index corners.now (3 * face + 2))
         words.old n words.new result }
 {
     let i = 3 * face;
-    let x = corners.list[i];
-    let y = corners.list[i + 1];
-    let z = corners.list[i + 2];
+    let x = corners[i];
+    let y = corners[i + 1];
+    let z = corners[i + 2];
     put_face(words, n, x, y, z, 2 * low, 2 * end)
 }

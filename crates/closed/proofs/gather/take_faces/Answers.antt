@@ -25,7 +25,7 @@ returns-then-misses c =
 pub list_near-near-requires : goal.list_near-near-requires
 list_near-near-requires c =
     let p = c.requires.fact_1 in
-    (p.0, omega (arith, p.0), p.1)
+    (p.0, omega (arith, p.0), p.1, c.args.faces.now.corners.few)
 
 pub make_room-room-requires : goal.make_room-room-requires
 make_room-room-requires c =
@@ -46,7 +46,7 @@ put_at-n-requires c =
     let s = c.loop-k.invariant.2.sound in
     let e = l.invariant.1.short l.k (omega arith) in
     let p = c.requires.fact_1 in
-    (omega (arith, e, p.2), omega (arith, s.long), s.first, s.last)
+    (omega (arith, e, p.2), c.args.faces.now.corners.few, omega (arith, s.long), s.first, s.last)
 
 pub loop-k-preserved : goal.loop-k-preserved
 loop-k-preserved c =

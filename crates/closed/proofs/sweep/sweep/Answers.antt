@@ -7,14 +7,14 @@ use Rattle.closed.specs.HeldLaws.{gathered_none, matched_none, matched_more, mat
 use Rattle.closed.specs.HeldLaws.{unmatched_stuck}
 use Rattle.closed.proofs.sweep.sweep.Goals as goal
 
-pub gather-batch-requires : goal.gather-batch-requires
-gather-batch-requires c =
+pub gather_by_spans-batch-requires : goal.gather_by_spans-batch-requires
+gather_by_spans-batch-requires c =
     let n = c.next.ensures in
     rw c.new-faces.ensures (gathered_none refl c.loop-low.invariant.1 (omega (arith, n.1)) n.0)
 
 pub order-requires : goal.order-requires
 order-requires c =
-    let g = c.gather-batch.ensures.1.sound in
+    let g = c.gather_by_spans-batch.ensures.1.sound in
     record {
       fact_1 = omega (arith, g.long, g.room);
       fact_2 = g.within;
@@ -22,12 +22,12 @@ order-requires c =
 
 pub paired-requires : goal.paired-requires
 paired-requires c =
-    let g = c.gather-batch.ensures.1.sound in
+    let g = c.gather_by_spans-batch.ensures.1.sound in
     let o = c.order.ensures in record { fact_1 = omega (arith, g.long, g.room, o.moved.long); fact_2 = o.rising }
 
 pub returns-then-paired-n : goal.returns-then-paired-n
 returns-then-paired-n c =
-    let g = rw c.new-faces.ensures at c.gather-batch.ensures.1 in
+    let g = rw c.new-faces.ensures at c.gather_by_spans-batch.ensures.1 in
     let p = c.paired.ensures in (
       λ e. absurd (true≢false (sym e)),
       λ e. unmatched_odd g c.order.ensures c.paired.result (omega arith)
@@ -38,13 +38,13 @@ pub returns-then-end-low : goal.returns-then-end-low
 returns-then-end-low c = (
   λ e. absurd (true≢false (sym e)),
   λ e.
-      unmatched_stuck (rw c.new-faces.ensures at c.gather-batch.ensures.1)
+      unmatched_stuck (rw c.new-faces.ensures at c.gather_by_spans-batch.ensures.1)
       (omega arith),
 )
 
 pub loop-low-preserved : goal.loop-low-preserved
 loop-low-preserved c =
-    let g = c.gather-batch.ensures in
+    let g = c.gather_by_spans-batch.ensures in
     let o = c.order.ensures in
     let p = c.paired.ensures in (
       omega (arith, g.0),

@@ -4,5 +4,5 @@ use Rattle.near.proofs.list.list_blocks.Given as goal
 
 abbrev pub invariant-loop-k : goal.invariant-loop-k
 invariant-loop-k g l = (l.n ≤ l.m + l.k) × ((b : ℕ)
-    → Listed l.corners.list.now l.range.first l.range.last g.row.SIZE b l.from l.initial.list l.m
-    → Listed l.corners.list.now l.range.first l.range.last g.row.SIZE b (l.from + g.row.SIZE * l.k) l.list l.n)
+    → Listed l.corners l.range.first l.range.last g.row.SIZE b l.from l.initial.list l.m
+    → Listed l.corners l.range.first l.range.last g.row.SIZE b (l.from + g.row.SIZE * l.k) l.list l.n)

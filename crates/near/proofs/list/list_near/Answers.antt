@@ -11,7 +11,7 @@ list_blocks-n-requires c =
     let l = c.loop-i in
     let b = c.list_blocks-count.ensures in
     let e = b.1 c.args.from listed-none in
-    (omega arith, omega (arith, b.0), omega arith, omega (arith, e.short l.i (omega arith)))
+    (omega arith, omega (arith, b.0), omega arith, omega (arith, e.short l.i (omega arith)), omega arith)
 
 pub loop-i-preserved : goal.loop-i-preserved
 loop-i-preserved c =

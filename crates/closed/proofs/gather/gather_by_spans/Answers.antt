@@ -1,7 +1,7 @@
--- `closed::gather::gather` meets its contract: what is left after the last face is none. Assumes nothing.
+-- `closed::gather::gather_by_spans` meets its contract: what is left after the last face is none. Assumes nothing.
 use Rattle.std.proofs.Common.{arith}
 use Rattle.closed.specs.HeldLaws.{gathered_all}
-use Rattle.closed.proofs.gather.gather.Goals as goal
+use Rattle.closed.proofs.gather.gather_by_spans.Goals as goal
 
 pub returns : goal.returns
 returns c =

@@ -1,6 +1,6 @@
 use Rattle.std.proofs.Common.{◌*◌, ◌≤◌}
 use Rattle.closed.specs.Held.{Gathered}
-use Rattle.closed.proofs.gather.gather.Given as goal
+use Rattle.closed.proofs.gather.gather_by_spans.Given as goal
 
 abbrev pub invariant-loop-k : goal.invariant-loop-k
 invariant-loop-k l = (l.batch.end ≤ l.initial.batch.end)
