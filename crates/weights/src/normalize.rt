@@ -1,6 +1,6 @@
 // The kernels' weights brought to a target mass. The exported `normalize_kernels` has no `requires`.
 // Internal: a function with a `requires` is called by proved code alone.
-ghost use Rattle.std.specs.Prelude.{◌≡◌, ◌/◌, ◌<◌, ◌≤◌, length};
+ghost use Rattle.std.specs.Prelude.{◌≡◌, ◌*◌, ◌/◌, ◌<◌, ◌≤◌, length};
 ghost use Rattle.mesh.specs.Meshes.{face_count_of, triangles_of, MeshIf};
 ghost use Rattle.base.specs.Answers.{done_as, outcome};
 ghost use Rattle.weights.specs.Weights.{stretched, off_unit, some_off, kernel_mass, raw_mass_lem, scale_of, scaled, scaled_by, written_of, call_check, normalized_run, normalized};
@@ -116,16 +116,24 @@ fn weigh(k: Kernel, scale: Option<f64>) -> Kernel
     }
 }
 
-// Writes the kernels as they are, or with their weights scaled.
+// Writes the first n kernels as they are, or with their weights scaled.
 #[tactic(auto, unfolding(crate::specs::Weights::written_of), using(base::specs::TimesLaws::turns))]
+pub fn write_all(kernels: Kernels, n: usize, scale: Option<f64>, run: &mut [f64])
+    requires { (6 * n ≤ length kernels.floats.now) × (6 * n ≤ length run.old) }
+    ensures { run.new ≡ written_of (scaled_by scale (list_of kernels.entry)) n run.old }
+{
+    for i in 0..n {
+        write_kernel(run, i, weigh(kernels.kernel(i), scale));
+    }
+}
+
+// Writes every kernel of the list. The run has room for them: floats past the last whole kernel need none.
 pub fn write_kernels(kernels: Kernels, scale: Option<f64>, run: &mut [f64])
-    requires { length kernels.floats.now ≤ length run.old }
+    requires { 6 * kernel_count_of kernels ≤ length run.old }
     ensures { run.new ≡ written_of (scaled_by scale (list_of kernels.entry))
         (kernel_count_of kernels.entry) run.old }
 {
-    for i in 0..kernels.count() {
-        write_kernel(run, i, weigh(kernels.kernel(i), scale));
-    }
+    write_all(kernels, kernels.count(), scale, run);
 }
 
 // The mesh of a call, or refusal 1, 2, 3 or 9 of its mesh, its list of kernels and the room of the run to be written.

@@ -2,7 +2,7 @@ use Rattle.std.proofs.Common.{◌≡◌, length}
 use Rattle.base.specs.Loops.{times}
 use Rattle.weights.specs.Lists.{list_of}
 use Rattle.weights.specs.Weights.{scaled_by, write_step}
-use Rattle.weights.proofs.normalize.write_kernels.Given as goal
+use Rattle.weights.proofs.normalize.write_all.Given as goal
 
 abbrev pub invariant-loop-i : goal.invariant-loop-i
 invariant-loop-i l =
