@@ -137,5 +137,7 @@ pub fn gather(corners: Corners, low: u64, empty: Batch, words: &mut [u64], ends:
     ensures { (result.end ≤ empty.end)
         × Gathered corners.entry.list.now low result words.new (length corners.entry.list.now) }
 {
-    gather_by_spans(&Faces::new(corners), low, empty, words, ends)
+    let mut spans = [0u32; 2049];
+    let faces = Faces::new(corners, &mut spans);
+    gather_by_spans(&faces, low, empty, words, ends)
 }

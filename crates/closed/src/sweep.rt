@@ -51,7 +51,8 @@ pub fn sweep(corners: Corners, top: u64) -> bool
         × (result ≡ false → Unmatched corners.entry.list.now) }
 {
     let mut words = [0u64; 61440];
-    let faces = Faces::new(corners);
+    let mut spans = [0u32; 2049];
+    let faces = Faces::new(corners, &mut spans);
     let mut ends = divide_by_lots(corners, &mut words);
     let mut low: u64 = 0;
     while low < top {

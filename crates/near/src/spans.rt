@@ -40,26 +40,33 @@ fn span(corners: Corners, from: usize, to: usize) -> u32
     greatest / 16 * 65536 + least / 16
 }
 
-// The faces of a mesh, with the spans of their stretches of 1,024.
-#[derive(Drop)]
+// Writes the spans of all stretches. By the stretches' numbers, since `Spanned` finds a corner's span by the corner's
+// place in the whole list.
+pub fn summarize(corners: Corners, spans: &mut [u32; 2049])
+    ensures { Spanned corners.entry.list.now spans.new (length corners.entry.list.now) }
+{
+    let n = corners.list.len();
+    for k in 0..n.div_ceil(3072) {
+        let i = 3072 * k;
+        spans[k] = span(corners, i, n.min(i + 3072));
+    }
+}
+
+// The faces of a mesh, with the spans of their stretches of 1,024. The words of the spans are lent: a value that held
+// them would be made in one place and moved to another, and the stack of a call has no room for 8,196 bytes twice.
+#[derive(Clone, Copy)]
 pub struct Faces<'a> {
     pub corners: Corners<'a>,
-    pub spans: [u32; 2049],
-    pub ghost spanned: { Spanned corners.list.now spans (length corners.list.now) },
+    pub spans: &'a [u32; 2049],
+    pub ghost spanned: { Spanned corners.list.now spans.now (length corners.list.now) },
 }
 
 impl<'a> Faces<'a> {
-    // The faces that have these corners. By the stretches' numbers, since `Spanned` finds a corner's span by the
-    // corner's place in the whole list.
-    pub fn new(corners: Corners<'a>) -> Self
+    // The faces that have these corners, with their spans in the words that are lent.
+    pub fn new(corners: Corners<'a>, spans: &'a mut [u32; 2049]) -> Self
         ensures { result.corners.list.now ≡ corners.entry.list.now }
     {
-        let mut spans = [0u32; 2049];
-        let n = corners.list.len();
-        for k in 0..n.div_ceil(3072) {
-            let i = 3072 * k;
-            spans[k] = span(corners, i, n.min(i + 3072));
-        }
+        summarize(corners, spans);
         Faces { corners, spans }
     }
 }
