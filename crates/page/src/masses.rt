@@ -85,7 +85,7 @@ pub fn total(plus: u64, less: u64) -> Whole
     }
 }
 
-// The line of place i, if it is filled: if its status, whatever the words say of the place, is not 0.
+// The line of place i, if it is filled. The status says how many pieces it has, so that no words are needed.
 pub fn place_line(out: &mut [u8], floats: &[f64], i: usize, status: u32, s: Sums) -> Sums
     requires place { (coords_from ≤ length floats.now) × (i < place_limit) × (status - 1 ≤ piece_limit) }
     requires printable { all_printable (row_at floats.now i status) ≡ true }
