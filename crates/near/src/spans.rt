@@ -53,7 +53,8 @@ pub fn summarize(corners: Corners, spans: &mut [u32; 2049])
 }
 
 // The faces of a mesh, with the spans of their stretches of 1,024. The words of the spans are lent: a value that held
-// them would be made in one place and moved to another, and the stack of a call has no room for 8,196 bytes twice.
+// them would be made in one place and moved to another, and a check of a closed mesh, which has few bytes of its stack
+// left over, would have the 8,196 bytes twice.
 #[derive(Clone, Copy)]
 pub struct Faces<'a> {
     pub corners: Corners<'a>,

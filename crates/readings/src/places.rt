@@ -1,4 +1,5 @@
 // The places of a sound store, as the sums and counts of a reading go over them.
+// Internal: a function with a `requires` is called by proved code alone.
 ghost use Rattle.std.specs.Prelude.{ℕ, ◌-◌, ◌≤◌, ◌<◌, length};
 ghost use Rattle.layout.specs.Layout.{width, place_limit, piece_limit, coords_from, corners_from, status_of};
 
